@@ -1,0 +1,94 @@
+-- At most forty steps are taken in range: after forty the size is 4,096 at least, the largest P.
+-- Assumes nothing.
+use mathlib.Core.Path.{_≡_, refl, sym, ap, _∙_}
+use mathlib.Core.Bool.{Bool, true, false, cond}
+use mathlib.Core.Logic.{⊎-elim}
+use Prim.Native.Nat.{ℕ, zero, suc, _+_, _-_, _*_, _%_, _≤_, _<_}
+use native.Mathlib.Nat.{suc-add, add-mul, mul-assoc, mul-le-mul-right, add-sub-of-le}
+use native.Mathlib.Omega.{arith}
+use lib.Dec.{ltb, eqb, lit≤}
+use Rattle.homes.specs.Homes.{nextGroups, steps, mover, newPage, home, InRange}
+use Rattle.homes.proofs.New.{split}
+use Rattle.homes.proofs.Steps.{stopped, enough}
+
+-- The size after n steps, from step x on.
+unfoldable pub sizeAfter : (n0 n x F G : ℕ) → ℕ
+sizeAfter n0 zero x F G = F
+sizeAfter n0 (suc n) x F G = sizeAfter n0 n (suc x) (F + G) (nextGroups n0 x G)
+
+-- Once the size has reached P, more steps change nothing.
+pub cut : (moves : ℕ → ℕ → Bool) (goes : ℕ → ℕ → ℕ → ℕ) (n0 P n m x F G a : ℕ) → P ≤ sizeAfter n0 n x F G → steps moves goes n0 P (n + m) x F G a ≡ steps moves goes n0 P n x F G a
+unfolding steps sizeAfter
+cut moves goes n0 P zero m x F G a h = stopped moves goes n0 P (zero + m) x F G a h
+cut moves goes n0 P (suc n) m x F G a h =
+    rw (suc-add n m) (ap (λ (on : ℕ). cond (ltb F P) on a) (cut moves goes n0 P n m (suc x) (F + G) (nextGroups n0 x G) _ h))
+
+-- With N times the groups there are N times the groups after a step,
+groups-scaled : (n0 N x G : ℕ) → nextGroups n0 x (G * N) ≡ nextGroups n0 x G * N
+unfolding nextGroups
+groups-scaled n0 N x G = go (eqb ((x - 1) % n0) (n0 - 1))
+  where
+    go : (t : Bool) → cond t (2 * (G * N)) (G * N) ≡ cond t (2 * G) G * N
+    go true = sym (mul-assoc 2 G N)
+    go false = refl
+
+-- and N times the size after n steps, if there was at the start.
+size-scaled : (n0 N n x F G : ℕ) → sizeAfter n0 n x (F * N) (G * N) ≡ sizeAfter n0 n x F G * N
+unfolding sizeAfter
+size-scaled n0 N zero x F G = refl
+size-scaled n0 N (suc n) x F G =
+    rw (groups-scaled n0 N x G, ← add-mul F G N) (size-scaled n0 N n (suc x) (F + G) (nextGroups n0 x G))
+
+-- with one group at the start
+from-one : (n0 : ℕ) → 1 ≤ n0 → n0 ≤ 4 → 4096 ≤ sizeAfter n0 40 1 n0 1
+unfolding sizeAfter nextGroups
+from-one zero h k = absurd (omega arith)
+from-one (suc zero) h k = lit≤ tt
+from-one (suc (suc zero)) h k = lit≤ tt
+from-one (suc (suc (suc zero))) h k = lit≤ tt
+from-one (suc (suc (suc (suc zero)))) h k = lit≤ tt
+from-one (suc (suc (suc (suc (suc n))))) h k = absurd (omega arith)
+
+-- After forty steps the size is 4,096 at least.
+pub size-forty : (n0 N : ℕ) → 1 ≤ n0 → n0 ≤ 4 → 1 ≤ N → 4096 ≤ sizeAfter n0 40 1 (n0 * N) N
+size-forty n0 N h k l =
+    let one : 1 * N ≡ N = omega arith in
+    let scaled : sizeAfter n0 40 1 (n0 * N) N ≡ sizeAfter n0 40 1 n0 1 * N = ap (sizeAfter n0 40 1 (n0 * N)) (sym one) ∙ size-scaled n0 N 40 1 n0 1 in
+    omega (arith, from-one n0 h k, mul-le-mul-right (sizeAfter n0 40 1 n0 1) l)
+
+-- The size never falls below where it started.
+pub size-low : (n0 n x F G : ℕ) → F ≤ sizeAfter n0 n x F G
+unfolding sizeAfter
+size-low n0 zero x F G = omega arith
+size-low n0 (suc n) x F G = omega (arith, size-low n0 n (suc x) (F + G) (nextGroups n0 x G))
+
+-- More steps make no smaller size.
+pub size-up : (n0 i j x F G : ℕ) → sizeAfter n0 i x F G ≤ sizeAfter n0 (i + j) x F G
+unfolding sizeAfter
+size-up n0 zero j x F G = size-low n0 (zero + j) x F G
+size-up n0 (suc i) j x F G = rw (suc-add i j) (size-up n0 i j (suc x) (F + G) (nextGroups n0 x G))
+
+-- A size below 4,096 comes before step 40, counted from 0: the step taken there is one of the forty.
+pub steps-few : (n0 N i : ℕ) → 1 ≤ n0 → n0 ≤ 4 → 1 ≤ N → sizeAfter n0 i 1 (n0 * N) N < 4096 → i < 40
+steps-few n0 N i h k l e =
+    ⊎-elim (λ lt. lt)
+    (λ ge. absurd (omega (arith, size-forty n0 N h k l, size-up n0 40 (i - 40) 1 (n0 * N) N, ap (λ (n : ℕ). sizeAfter n0 n 1 (n0 * N) N) (add-sub-of-le ge))))
+    (split i 40)
+
+-- The same for a loop that knows what is left: where the 40 - i steps after step i reach 4,096 and the size has not, step i + 1 is one of the forty, and the steps after it reach 4,096 too. It starts by `size-forty`.
+pub one-of-forty : (n0 i F G : ℕ) → F < 4096 → 4096 ≤ sizeAfter n0 (40 - i) (suc i) F G → (i < 40) × (4096 ≤ sizeAfter n0 (40 - suc i) (suc (suc i)) (F + G) (nextGroups n0 (suc i) G))
+unfolding sizeAfter
+one-of-forty n0 i F G lt h =
+    ⊎-elim
+    (λ few. let e : 40 - i ≡ suc (40 - suc i) = omega arith in (few, rw e at h))
+    (λ many. let e : 40 - i ≡ zero = omega arith in let end : 4096 ≤ F = rw e at h in absurd (omega arith))
+    (split i 40)
+
+-- A home is found in forty steps.
+pub forty : (n0 N s P K : ℕ) → InRange n0 N s P → home n0 N s P K ≡ steps (λ x F. mover n0 K x) (newPage s) n0 P 40 1 (n0 * N) N (K % (n0 * N))
+unfolding home
+forty n0 N s P K r =
+    let F = n0 * N in
+    let left = P - F in
+    enough (λ x F. mover n0 K x) (newPage s) n0 P left (40 + left) 1 F N (K % F) (r .N-low) (omega arith) (omega arith)
+    ∙ cut (λ x F. mover n0 K x) (newPage s) n0 P 40 left 1 F N (K % F) (omega (arith, r .P-high, size-forty n0 N (r .n0-low) (r .n0-high) (r .N-low)))

@@ -1,0 +1,41 @@
+-- The laws of the homes of a file: a home is a page of it, and one page more leaves a key where it is or takes it there.
+-- Assumes nothing.
+use mathlib.Core.Path.{_≡_}
+use mathlib.Core.Logic.{_⊎_}
+use Prim.Native.Nat.{ℕ, zero, suc, _+_, _-_, _*_, _%_, _<_}
+use native.Mathlib.Nat.{mod-lt, mul-pos}
+use native.Mathlib.Omega.{arith}
+use Rattle.homes.specs.Homes.{seedOf, draw, mover, newPage, home, InRange}
+use Rattle.homes.proofs.New.{new-low, new-high}
+use Rattle.homes.proofs.Steps.{Into, steps-below, grown}
+
+-- The sweeps lead to a page that the step adds.
+pub new-into : (s : ℕ) → 0 < s → Into (newPage s)
+new-into s h = record { low = new-low s; high = λ F G a hG. new-high s F G a h hG }
+
+-- The page that a key starts from is below P.
+pub first-below : (n0 N s P K : ℕ) → InRange n0 N s P → K % (n0 * N) < P
+first-below n0 N s P K r = omega (arith, mod-lt K (mul-pos (r .n0-low) (r .N-low)), r .P-low)
+
+-- A home is a page of the file.
+pub home-below : (n0 N s P K : ℕ) → InRange n0 N s P → home n0 N s P K < P
+unfolding home
+home-below n0 N s P K r =
+    steps-below (λ x F. mover n0 K x) (newPage s) n0 P (P - n0 * N) 1 (n0 * N) N (K % (n0 * N)) (first-below n0 N s P K r)
+
+-- With one page more each key stays at home, or its home becomes that page.
+pub home-grown : (n0 N s P K : ℕ) → InRange n0 N s P → (home n0 N s (P + 1) K ≡ home n0 N s P K) ⊎ (home n0 N s (P + 1) K ≡ P)
+unfolding home
+home-grown n0 N s P K r =
+    grown (λ x F. mover n0 K x) (newPage s) (new-into s (r .s-low)) n0 P 1 (n0 * N) N (K % (n0 * N)) (r .N-low)
+
+-- One page more, below 4,096, is in range too.
+pub range-grown : (n0 N s P : ℕ) → InRange n0 N s P → P < 4096 → InRange n0 N s (P + 1)
+range-grown n0 N s P r h =
+    record { n0-low = r .n0-low; n0-high = r .n0-high; N-low = r .N-low; N-high = r .N-high; s-low = r .s-low; s-high = r .s-high; P-low = omega (arith, r .P-low); P-high = omega arith }
+
+-- Every draw is below its modulus, the seed too.
+pub draw-below : (K x : ℕ) → draw (seedOf K) x < 2147483647
+unfolding draw
+draw-below K zero = omega arith
+draw-below K (suc x) = omega arith

@@ -1,0 +1,5 @@
+pub mod New
+pub mod Steps
+pub mod Forty
+pub mod Homes
+pub mod Turn

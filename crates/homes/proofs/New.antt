@@ -1,0 +1,43 @@
+-- The page that a group grows into lies among the pages of that step: from F on, and below F + G.
+-- Assumes nothing.
+use mathlib.Core.Bool.{Bool, true, false}
+use mathlib.Core.Logic.{_⊎_, inl, inr, ⊎-elim}
+use mathlib.Core.Path.{_≡_, refl}
+use Prim.Native.Nat.{ℕ, _+_, _-_, _*_, _/_, _%_, _≤_, _<_, min}
+use native.Mathlib.Nat.{mod-lt, div-add-mod', mul-le-mul-right, lt-of-mul-lt-mul-right}
+use native.Mathlib.Omega.{arith}
+use lib.Dec.{ltb}
+use borrow.Author.Tests.{ltb-true, ltb-false}
+use Rattle.homes.specs.Homes.{swept, newPage}
+
+-- one number is below another, or not
+pub split : (a b : ℕ) → (a < b) ⊎ (b ≤ a)
+split a b = go (ltb a b) refl
+  where
+    go : (t : Bool) → ltb a b ≡ t → (a < b) ⊎ (b ≤ a)
+    go true e = inl (ltb-true a b e)
+    go false e = inr (ltb-false a b e)
+
+-- The sweeps' sum at k = m * s + w stays below G = q * s + r where k does.
+sweep-core : (q r s m w : ℕ) → w < s → r < s → m * s + w < q * s + r → w * q + min w r + m < q * s + r
+sweep-core q r s m w ws rs h =
+    ⊎-elim
+    (λ wr. let e : m < q + 1 = lt-of-mul-lt-mul-right s (omega arith) in omega (arith, mul-le-mul-right q ws))
+    (λ rw. let e : m < q = lt-of-mul-lt-mul-right s (omega arith) in omega (arith, mul-le-mul-right q ws))
+    (split w r)
+
+-- The page of the k-th group in order of growth is below F + G.
+pub swept-high : (s F G k : ℕ) → 0 < s → k < G → swept s F G k < F + G
+unfolding swept
+swept-high s F G k hs hk =
+    let core = sweep-core (G / s) (G % s) s (k / s) (k % s) (mod-lt k hs) (mod-lt G hs) (omega (arith, div-add-mod' G s, div-add-mod' k s)) in
+    omega (arith, core, div-add-mod' G s)
+
+-- A new page is not one of the F pages before it.
+pub new-low : (s F G a : ℕ) → F ≤ newPage s F G a
+unfolding swept
+new-low s F G a = omega arith
+
+-- A new page is below the size after the step.
+pub new-high : (s F G a : ℕ) → 0 < s → 0 < G → newPage s F G a < F + G
+new-high s F G a hs hG = swept-high s F G (G - 1 - a % G) hs (omega arith)

@@ -1,0 +1,179 @@
+-- The laws of the steps, for any test of a mover and any way to a new page that leads into [F, F + G).
+-- Assumes nothing.
+use mathlib.Core.Path.{_≡_, refl, sym, ap, _∙_}
+use mathlib.Core.Bool.{Bool, true, false, cond, _&&_}
+use mathlib.Core.Logic.{_⊎_, inl, inr, ⊎-elim}
+use Prim.Native.Nat.{ℕ, zero, suc, _+_, _-_, _*_, _%_, _≤_, _<_}
+use native.Mathlib.Omega.{arith}
+use lib.Dec.{ltb, eqb}
+use borrow.Author.Tests.{ltb-true, ltb-false, lt-ltb, le-ltb}
+use Rattle.homes.specs.Homes.{moved, nextGroups, steps}
+use Rattle.homes.proofs.New.{split}
+
+-- A way to a new page leads into the pages that a step adds.
+pub record Into (goes : ℕ → ℕ → ℕ → ℕ) : Type 0 where
+  pub low : (F G a : ℕ) → F ≤ goes F G a
+  pub high : (F G a : ℕ) → 0 < G → goes F G a < F + G
+
+-- Who is no mover stays.
+pub moved-off : (P : ℕ) (mv : Bool) (new a : ℕ) → mv ≡ false → moved P mv new a ≡ a
+unfolding moved
+moved-off P mv new a e = rw e
+
+-- A mover goes to a new page that is below P.
+pub moved-on : (P : ℕ) (mv : Bool) (new a : ℕ) → mv ≡ true → new < P → moved P mv new a ≡ new
+unfolding moved
+moved-on P mv new a e h = rw (e, lt-ltb new P h)
+
+-- Nobody goes to page P or a page past it.
+pub moved-past : (P : ℕ) (mv : Bool) (new a : ℕ) → P ≤ new → moved P mv new a ≡ a
+unfolding moved
+moved-past P mv new a h = rw (le-ltb new P h) (none mv)
+  where
+    none : (m : Bool) → cond (m && false) new a ≡ a
+    none true = refl
+    none false = refl
+
+-- A step from a page below P leads to a page below P.
+pub moved-below : (P : ℕ) (mv : Bool) (new a : ℕ) → a < P → moved P mv new a < P
+unfolding moved
+moved-below P mv new a h = go mv (ltb new P) refl
+  where
+    go : (m u : Bool) → ltb new P ≡ u → cond (m && u) new a < P
+    go false u e = h
+    go true false e = h
+    go true true e = ltb-true new P e
+
+-- With one page more a step does the same, or leads to that page.
+pub moved-grown : (P : ℕ) (mv : Bool) (new a : ℕ) → (moved (P + 1) mv new a ≡ moved P mv new a) ⊎ ((moved (P + 1) mv new a ≡ P) × (new ≡ P))
+unfolding moved
+moved-grown P mv new a = go mv (ltb new P) (ltb new (P + 1)) refl refl
+  where
+    go : (m u v : Bool) → ltb new P ≡ u → ltb new (P + 1) ≡ v → (cond (m && v) new a ≡ cond (m && u) new a) ⊎ ((cond (m && v) new a ≡ P) × (new ≡ P))
+    go false u v e e′ = inl refl
+    go true true true e e′ = inl refl
+    go true true false e e′ = absurd (omega (arith, ltb-true, ltb-false))
+    go true false false e e′ = inl refl
+    go true false true e e′ = inr (omega (arith, ltb-true, ltb-false), omega (arith, ltb-true, ltb-false))
+
+-- There is always a group.
+pub groups-pos : (n0 x G : ℕ) → 0 < G → 0 < nextGroups n0 x G
+unfolding nextGroups
+groups-pos n0 x G h = go (eqb ((x - 1) % n0) (n0 - 1))
+  where
+    go : (t : Bool) → 0 < cond t (2 * G) G
+    go true = omega arith
+    go false = h
+
+module _ (moves : ℕ → ℕ → Bool) (goes : ℕ → ℕ → ℕ → ℕ) (n0 P : ℕ) where
+  -- At size P or past it no step is taken.
+  pub stopped : (left x F G a : ℕ) → P ≤ F → steps moves goes n0 P left x F G a ≡ a
+  unfolding steps
+  stopped zero x F G a h = refl
+  stopped (suc left) x F G a h = rw (le-ltb F P h)
+
+  -- Below size P a step is taken.
+  pub goes-on : (left x F G a : ℕ) → F < P → steps moves goes n0 P (suc left) x F G a ≡ steps moves goes n0 P left (suc x) (F + G) (nextGroups n0 x G) (moved P (moves x F) (goes F G a) a)
+  unfolding steps
+  goes-on left x F G a h = rw (lt-ltb F P h)
+
+  -- P - F steps are enough: the bound never cuts the steps short.
+  pub enough : (m n x F G a : ℕ) → 0 < G → P - F ≤ m → P - F ≤ n → steps moves goes n0 P m x F G a ≡ steps moves goes n0 P n x F G a
+  enough zero n x F G a hG hm hn = stopped zero x F G a (omega arith) ∙ sym (stopped n x F G a (omega arith))
+  enough (suc m) zero x F G a hG hm hn = stopped (suc m) x F G a (omega arith) ∙ sym (stopped zero x F G a (omega arith))
+  enough (suc m) (suc n) x F G a hG hm hn =
+      let a′ = moved P (moves x F) (goes F G a) a in
+      let rest = enough m n (suc x) (F + G) (nextGroups n0 x G) a′ (groups-pos n0 x G hG) (omega arith) (omega arith) in
+      ⊎-elim
+      (λ lt. goes-on m x F G a lt ∙ rest ∙ sym (goes-on n x F G a lt))
+      (λ ge. stopped (suc m) x F G a ge ∙ sym (stopped (suc n) x F G a ge))
+      (split F P)
+
+  -- One turn, with just enough steps left before it and after it.
+  pub turn : (x F G a : ℕ) → F < P → 0 < G → steps moves goes n0 P (P - F) x F G a ≡ steps moves goes n0 P (P - (F + G)) (suc x) (F + G) (nextGroups n0 x G) (moved P (moves x F) (goes F G a) a)
+  turn x F G a h hG =
+      let a′ = moved P (moves x F) (goes F G a) a in
+      enough (P - F) (suc (P - F)) x F G a hG (omega arith) (omega arith)
+      ∙ goes-on (P - F) x F G a h
+      ∙ enough (P - F) (P - (F + G)) (suc x) (F + G) (nextGroups n0 x G) a′ (groups-pos n0 x G hG) (omega arith) (omega arith)
+
+  -- From a page below P the steps lead to a page below P.
+  pub steps-below : (left x F G a : ℕ) → a < P → steps moves goes n0 P left x F G a < P
+  unfolding steps
+  steps-below zero x F G a h = h
+  steps-below (suc left) x F G a h =
+      go (ltb F P) (steps-below left (suc x) (F + G) (nextGroups n0 x G) _ (moved-below P (moves x F) (goes F G a) a h))
+    where
+      go : {on : ℕ} (t : Bool) → on < P → cond t on a < P
+      go true l = l
+      go false l = h
+
+module _ (moves : ℕ → ℕ → Bool) (goes : ℕ → ℕ → ℕ → ℕ) (into : Into goes) (n0 P : ℕ) where
+  -- what is shown of the steps with one page more
+  abbrev Grown : (left x F G a : ℕ) → Type 0
+  Grown left x F G a = (steps moves goes n0 (P + 1) left x F G a ≡ steps moves goes n0 P left x F G a) ⊎ (steps moves goes n0 (P + 1) left x F G a ≡ P)
+
+  -- one step, where `rest` shows it of the steps after
+  grown-step : (left x F G a : ℕ) → 0 < G → Grown left (suc x) (F + G) (nextGroups n0 x G) (moved P (moves x F) (goes F G a) a) → Grown (suc left) x F G a
+  grown-step left x F G a hG rest =
+      ⊎-elim
+      (λ lt. ⊎-elim (same lt) (to (omega arith)) step)
+      (λ ge. ⊎-elim (λ lt. ⊎-elim (stays ge lt) (to lt) step) past (split F (P + 1)))
+      (split F P)
+    where
+      new : ℕ
+      new = goes F G a
+
+      a′ : ℕ
+      a′ = moved P (moves x F) new a
+
+      b′ : ℕ
+      b′ = moved (P + 1) (moves x F) new a
+
+      step : (b′ ≡ a′) ⊎ ((b′ ≡ P) × (new ≡ P))
+      step = moved-grown P (moves x F) new a
+
+      then : ℕ → ℕ
+      then b = steps moves goes n0 (P + 1) left (suc x) (F + G) (nextGroups n0 x G) b
+
+      on : F < P + 1 → steps moves goes n0 (P + 1) (suc left) x F G a ≡ then b′
+      on lt = goes-on moves goes n0 (P + 1) left x F G a lt
+
+      ends : P + 1 ≤ F + G → then b′ ≡ b′
+      ends h = stopped moves goes n0 (P + 1) left (suc x) (F + G) (nextGroups n0 x G) b′ h
+
+      -- both move alike, and go on
+      same : F < P → b′ ≡ a′ → Grown (suc left) x F G a
+      same lt e =
+          ⊎-elim
+          (λ r. inl (on (omega arith) ∙ ap then e ∙ r ∙ sym (goes-on moves goes n0 P left x F G a lt)))
+          (λ r. inr (on (omega arith) ∙ ap then e ∙ r))
+          rest
+
+      -- one moves to page P, and ends there
+      to : F < P + 1 → (b′ ≡ P) × (new ≡ P) → Grown (suc left) x F G a
+      to lt w = inr (on lt ∙ ends (omega (arith, w .1, into .high F G a hG)) ∙ w .0)
+
+      -- the size is P, and one takes a step more, by which it stays
+      stays : P ≤ F → F < P + 1 → b′ ≡ a′ → Grown (suc left) x F G a
+      stays ge lt e =
+          inl (on lt ∙ ends (omega arith) ∙ e ∙ moved-past P (moves x F) new a (omega (arith, into .low F G a)) ∙ sym (stopped moves goes n0 P (suc left) x F G a ge))
+
+      -- the size is past P, and both have ended
+      past : P + 1 ≤ F → Grown (suc left) x F G a
+      past gt =
+          inl (stopped moves goes n0 (P + 1) (suc left) x F G a gt ∙ sym (stopped moves goes n0 P (suc left) x F G a (omega arith)))
+
+  -- With one page more and as many steps left, the steps lead to the same page or to that one.
+  pub steps-grown : (left x F G a : ℕ) → 0 < G → (steps moves goes n0 (P + 1) left x F G a ≡ steps moves goes n0 P left x F G a) ⊎ (steps moves goes n0 (P + 1) left x F G a ≡ P)
+  unfolding steps
+  steps-grown zero x F G a hG = inl refl
+  steps-grown (suc left) x F G a hG =
+      grown-step left x F G a hG
+      (steps-grown left (suc x) (F + G) (nextGroups n0 x G) (moved P (moves x F) (goes F G a) a) (groups-pos n0 x G hG))
+
+  -- The same with just enough steps left in both.
+  pub grown : (x F G a : ℕ) → 0 < G → (steps moves goes n0 (P + 1) (P + 1 - F) x F G a ≡ steps moves goes n0 P (P - F) x F G a) ⊎ (steps moves goes n0 (P + 1) (P + 1 - F) x F G a ≡ P)
+  grown x F G a hG =
+      let more = enough moves goes n0 P (P + 1 - F) (P - F) x F G a hG (omega arith) (omega arith) in
+      ⊎-elim (λ e. inl (e ∙ more)) (λ e. inr e) (steps-grown (P + 1 - F) x F G a hG)

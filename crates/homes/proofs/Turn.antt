@@ -1,0 +1,102 @@
+-- What the loop of `Shape::home` holds before a step, and that a turn keeps it. On plain numbers.
+-- Assumes nothing.
+use mathlib.Core.Path.{_≡_, refl, sym, ap, _∙_}
+use mathlib.Core.Bool.{Bool}
+use Prim.Native.Nat.{ℕ, zero, suc, _+_, _-_, _*_, _%_, _≤_, _<_}
+use native.Mathlib.Nat.{mod-lt, zero-mod, mod-add-mod, mod-self, mod-eq-of-lt, mul-comm, mul-le-mul-right}
+use native.Mathlib.Numerals.{add-one}
+use native.Mathlib.Omega.{arith}
+use lib.Dec.{leb}
+use borrow.Author.Tests.{eq-eqb, ne-eqb}
+use Rattle.homes.specs.Homes.{seedOf, draw, mover, newPage, moved, nextGroups, steps, home}
+use Rattle.homes.proofs.Steps.{turn}
+
+-- Before step i + 1: the last draw, the pages of a group, that there is a group and no more groups than pages, and that what is left to do leads home.
+pub record Before (n0 N s P K G F a d np : ℕ) : Type 0 where
+  pub i : ℕ
+  pub draw-is : d ≡ draw (seedOf K) i
+  pub np-is : np ≡ n0 + i % n0
+  pub G-low : 1 ≤ G
+  pub G-high : G ≤ F
+  pub rest : steps (λ x F. mover n0 K x) (newPage s) n0 P (P - F) (suc i) F G a ≡ home n0 N s P K
+
+-- It holds at the start.
+pub starts : (n0 N s P K : ℕ) → 1 ≤ n0 → 1 ≤ N → Before n0 N s P K N (n0 * N) (K % (n0 * N)) (seedOf K) n0
+unfolding home draw
+starts n0 N s P K hn hN =
+    record { i = zero; draw-is = refl; np-is = omega (arith, zero-mod n0); G-low = hN; G-high = omega (arith, mul-le-mul-right N hn); rest = refl }
+
+-- The code's next draw is the next of 01's.
+pub draw-next : (K i d : ℕ) → d ≡ draw (seedOf K) i → d * 16807 % 2147483647 ≡ draw (seedOf K) (suc i)
+unfolding draw
+draw-next K i d e = ap (λ (m : ℕ). m % 2147483647) (ap (λ (m : ℕ). m * 16807) e ∙ mul-comm (draw (seedOf K) i) 16807)
+
+-- The code's test for a mover is 01's, at that draw.
+pub mover-is : (n0 K i d np : ℕ) → d ≡ draw (seedOf K) (suc i) → np ≡ n0 + i % n0 → leb (d * (np + 1)) 2147483647 ≡ mover n0 K (suc i)
+unfolding mover
+mover-is n0 K i d np e f = let q : suc i - 1 ≡ i = omega arith in rw (q, e, f)
+
+-- After the last step of a round of n0 steps the next round begins at 0.
+pub round-over : (n0 i : ℕ) → i % n0 + 1 ≡ n0 → suc i % n0 ≡ 0
+round-over n0 i e =
+    ap (λ (m : ℕ). m % n0) (sym (add-one i)) ∙ sym (mod-add-mod i n0 1) ∙ ap (λ (m : ℕ). m % n0) e ∙ mod-self n0
+
+-- Within a round each remainder is one more.
+pub round-on : (n0 i : ℕ) → i % n0 + 1 < n0 → suc i % n0 ≡ i % n0 + 1
+round-on n0 i h = ap (λ (m : ℕ). m % n0) (sym (add-one i)) ∙ sym (mod-add-mod i n0 1) ∙ mod-eq-of-lt h
+
+-- The groups double at the end of a round.
+pub doubles : (n0 i G : ℕ) → i % n0 + 1 ≡ n0 → nextGroups n0 (suc i) G ≡ 2 * G
+unfolding nextGroups
+doubles n0 i G e =
+    let q : suc i - 1 ≡ i = omega arith in
+    let last : i % n0 ≡ n0 - 1 = omega arith in
+    rw (q, eq-eqb (i % n0) (n0 - 1) last)
+
+-- Within a round they stay as many.
+pub stay : (n0 i G : ℕ) → i % n0 + 1 < n0 → nextGroups n0 (suc i) G ≡ G
+unfolding nextGroups
+stay n0 i G h =
+    let q : suc i - 1 ≡ i = omega arith in
+    rw (q, ne-eqb (i % n0) (n0 - 1) (λ e. omega arith))
+
+module _ (n0 N s P K G F a d np r : ℕ) (b : Before n0 N s P K G F a d np) (below : F < P) (low : 1 ≤ n0) (stepped : r ≡ moved P (leb (d * 16807 % 2147483647 * (np + 1)) 2147483647) (newPage s F G a) a) where
+  abbrev d′ : ℕ
+  d′ = d * 16807 % 2147483647
+
+  -- what is left to do after the step
+  onward : steps (λ x F. mover n0 K x) (newPage s) n0 P (P - (F + G)) (suc (suc (b .i))) (F + G) (nextGroups n0 (suc (b .i)) G) r ≡ home n0 N s P K
+  onward =
+      let x = suc (b .i) in
+      let test : leb (d′ * (np + 1)) 2147483647 ≡ mover n0 K x = mover-is n0 K (b .i) d′ np (draw-next K (b .i) d (b .draw-is)) (b .np-is) in
+      let goes : r ≡ moved P (mover n0 K x) (newPage s F G a) a = stepped ∙ ap (λ (m : Bool). moved P m (newPage s F G a) a) test in
+      ap (steps (λ x F. mover n0 K x) (newPage s) n0 P (P - (F + G)) (suc x) (F + G) (nextGroups n0 x G)) goes
+      ∙ sym (turn (λ x F. mover n0 K x) (newPage s) n0 P x F G a below (b .G-low))
+      ∙ b .rest
+
+  -- A turn at the end of a round, where np starts again and the groups double.
+  pub turn-over : np + 1 ≡ 2 * n0 → Before n0 N s P K (2 * G) (F + G) r (d * 16807 % 2147483647) n0
+  turn-over h =
+      let last : b .i % n0 + 1 ≡ n0 = omega (arith, b .np-is) in
+      record {
+        i = suc (b .i);
+        draw-is = draw-next K (b .i) d (b .draw-is);
+        np-is = omega (arith, round-over n0 (b .i) last);
+        G-low = omega (arith, b .G-low);
+        G-high = omega (arith, b .G-high);
+        rest = rw (← doubles n0 (b .i) G last) onward;
+      }
+
+  -- Any other turn.
+  pub turn-on : (np + 1 ≡ 2 * n0 → ⊥) → Before n0 N s P K G (F + G) r (d * 16807 % 2147483647) (np + 1)
+  turn-on h =
+      let not : b .i % n0 + 1 ≡ n0 → ⊥ = λ e. h (omega (arith, b .np-is)) in
+      let more : b .i % n0 + 1 < n0 = omega (arith, mod-lt (b .i) low, not) in
+      record {
+        i = suc (b .i);
+        draw-is = draw-next K (b .i) d (b .draw-is);
+        np-is = omega (arith, b .np-is, round-on n0 (b .i) more);
+        G-low = b .G-low;
+        G-high = omega (arith, b .G-high);
+        rest = ap (λ (g : ℕ). steps (λ x F. mover n0 K x) (newPage s) n0 P (P - (F + G)) (suc (suc (b .i))) (F + G) g r) (sym (stay n0 (b .i) G more)) ∙ onward;
+      }

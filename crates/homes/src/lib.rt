@@ -1,0 +1,69 @@
+// Where a key lives: its home page, from the numbers of the file and the key.
+ghost use mathlib.Core.Path.{_≡_};
+ghost use Prim.Native.Nat.{_+_, _-_, _*_, _≤_, _<_, min};
+ghost use Rattle.homes.specs.Homes.{Ready, homeIn, newPage, moved};
+
+// The numbers of a file that its homes depend on: pages a group and groups at the start, sweeps, pages grown to.
+pub struct Shape {
+    pub n0: u64,
+    pub n: u64,
+    pub s: u64,
+    pub p: u64,
+}
+
+fn least(a: u64, b: u64) -> u64
+    ensures { λ r. ⌜ r ≡ min a b ⌝ }
+{
+    if a < b { a } else { b }
+}
+
+// The page that the group of an address grows into, at size f, with g groups and s sweeps.
+fn new_page(s: u64, f: u64, g: u64, address: u64) -> u64
+    requires { ⌜ (1 ≤ s) × (1 ≤ g) × (g ≤ f) × (f < 4096) ⌝ }
+    ensures { λ r. ⌜ r ≡ newPage s f g address ⌝ }
+{
+    let k = g - 1 - address % g;
+    let w = k % s;
+    f + w * (g / s) + least(w, g % s) + k / s
+}
+
+// The address after a step. Where a mover goes is worked out only for a mover.
+fn step(s: u64, f: u64, g: u64, p: u64, moves: bool, address: u64) -> u64
+    requires { ⌜ (1 ≤ s) × (1 ≤ g) × (g ≤ f) × (f < 4096) ⌝ }
+    ensures { λ r. ⌜ r ≡ moved p moves (newPage s f g address) address ⌝ }
+{
+    if !moves {
+        return address;
+    }
+    let new = new_page(s, f, g, address);
+    if new < p { new } else { address }
+}
+
+impl Shape {
+    // The home of a key.
+    pub fn home(self, key: u64) -> u64
+        requires { ⌜ Ready self ⌝ }
+        ensures { λ r. ⌜ r ≡ homeIn self key ⌝ }
+    {
+        let n0 = self.n0;
+        let s = self.s;
+        let p = self.p;
+        let seed = key % 2147483646 + 1;
+        let mut g = self.n;
+        let mut f = n0 * g;
+        let mut address = key % f;
+        let mut draw = seed;
+        let mut np = n0;
+        while f < p {
+            draw = draw * 16807 % 2147483647;
+            address = step(s, f, g, p, draw * (np + 1) <= 2147483647, address);
+            f += g;
+            np += 1;
+            if np == 2 * n0 {
+                np = n0;
+                g = 2 * g;
+            }
+        }
+        address
+    }
+}

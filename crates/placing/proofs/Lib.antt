@@ -1,0 +1,16 @@
+pub mod Lists
+pub mod Order
+pub mod Packed
+pub mod Forms
+pub mod Laid
+pub mod Taken
+pub mod Seek
+pub mod Perms
+pub mod Find
+pub mod Put
+pub mod Remove
+pub mod Rank
+pub mod Tidy
+pub mod Images
+pub mod Changes
+pub mod Rehome

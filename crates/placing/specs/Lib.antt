@@ -1,0 +1,3 @@
+pub mod Image
+pub mod Lay
+pub mod Walks

@@ -61,6 +61,10 @@ pub record InRange (n0 N s P : ℕ) : Type 0 where
   pub P-low : n0 * N ≤ P
   pub P-high : P ≤ 4096
 
+-- the shape of these numbers
+abbrev pub shapeOf : (n0 N s P : ℕ) → Shape
+shapeOf n0 N s P = record { n0 = n0; n = N; s = s; p = P }
+
 -- a shape whose numbers are in range
 abbrev pub Ready : Shape → Type 0
 Ready shape = InRange (shape .n0) (shape .n) (shape .s) (shape .p)

@@ -1,7 +1,7 @@
 // Where a key lives: its home page, from the numbers of the file and the key.
 ghost use mathlib.Core.Path.{_≡_};
 ghost use Prim.Native.Nat.{_+_, _-_, _*_, _≤_, _<_, min};
-ghost use Rattle.homes.specs.Homes.{Ready, homeIn, newPage, moved};
+ghost use Rattle.homes.specs.Homes.{InRange, Ready, shapeOf, homeIn, newPage, moved};
 
 // The numbers of a file that its homes depend on: pages a group and groups at the start, sweeps, pages grown to.
 pub struct Shape {
@@ -40,6 +40,15 @@ fn step(s: u64, f: u64, g: u64, p: u64, moves: bool, address: u64) -> u64
 }
 
 impl Shape {
+    // The shape of a file of these numbers. What homes need of the numbers alone is worked out here, once for many keys.
+    pub fn new(n0: u64, n: u64, s: u64, p: u64) -> Self
+        requires { ⌜ InRange n0 n s p ⌝ }
+        ensures { λ r. ⌜ r ≡ shapeOf n0 n s p ⌝ }
+        ensures ready { λ r. ⌜ Ready r ⌝ }
+    {
+        Self { n0, n, s, p }
+    }
+
     // The home of a key.
     pub fn home(self, key: u64) -> u64
         requires { ⌜ Ready self ⌝ }

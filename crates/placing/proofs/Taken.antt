@@ -11,15 +11,6 @@ use Rattle.placing.proofs.Lists.{all-map, all-append, cat-length, upTo-
 use Rattle.placing.proofs.Packed.{Packed, takes}
 
 module _ {R : Type 0} (home : R → ℕ) (b : ℕ) where
-  -- only how many homes lie at each address or lower counts
-  pub taken-cong : (s t : List R) → ((j : ℕ) → upTo home j s ≡ upTo home j t) → (a : ℕ) → taken home b s a ≡ taken home b t a
-  taken-cong s t c zero = refl
-  taken-cong s t c (suc a) = omega (arith, c a, taken-cong s t c a)
-
-  pub taken-le : (s : List R) (a : ℕ) → taken home b s a ≤ length s
-  taken-le s zero = omega arith
-  taken-le s (suc a) = omega (arith, upTo-le home a s)
-
   -- records of the pages below a, then those of page a: all may lie at a + 1
   lift-low : (a : ℕ) (pre p : List R) → All (λ x. home x ≤ a) pre → All (λ x. home x ≤ a) p → All (λ x. home x ≤ suc a) (pre ++ p)
   lift-low a pre p h k = all-map (λ x. home x ≤ a) (λ x. home x ≤ suc a) (λ x l. omega arith) (pre ++ p) (all-append (λ x. home x ≤ a) pre p h k)
@@ -72,9 +63,18 @@ module _ {R : Type 0} (home : R → ℕ) (b : ℕ) where
             (arranged-step a pre p (cat ps []) s (i .0) (i .1) low e k),
       ))
 
+  taken-le : (s : List R) (a : ℕ) → taken home b s a ≤ length s
+  taken-le s zero = omega arith
+  taken-le s (suc a) = omega (arith, upTo-le home a s)
+
   -- so where records are arranged, all are taken
   pub arranged-taken : (ps : List (List R)) → Arranged 0 ps → taken home b (cat ps []) (length ps) ≡ length (cat ps [])
   arranged-taken ps i =
       let z : 0 + length ps ≡ length ps = omega arith in
       let m = rw z at (arranged-from 0 [] ps (cat ps []) i tt refl (omega arith)) in
       omega (arith, m, taken-le (cat ps []) (length ps))
+
+  -- only how many homes lie at each address or lower counts
+  pub taken-cong : (s t : List R) → ((j : ℕ) → upTo home j s ≡ upTo home j t) → (a : ℕ) → taken home b s a ≡ taken home b t a
+  taken-cong s t c zero = refl
+  taken-cong s t c (suc a) = omega (arith, c a, taken-cong s t c a)

@@ -4,12 +4,12 @@ use mathlib.Core.List.{List, [], List·Permᴰ, Permᴰ·symm}
 use Prim.Native.Nat.{ℕ, _+_, _^_, _≤_, _<_}
 use native.Mathlib.Omega.{arith}
 use lib.ListN.{length}
-use Rattle.placing.specs.Image.{cat, page, RecordSet, home, Image}
+use Rattle.placing.specs.Image.{cat, page, RecordSet, home, FullTo, Image}
 use Rattle.placing.specs.Lay.{rank}
 use Rattle.placing.proofs.Lists.{all-map}
 use Rattle.placing.proofs.Order.{Sorted}
 use Rattle.placing.proofs.Packed.{Packed}
-use Rattle.placing.proofs.Forms.{Placed, placed-packed, packed-placed}
+use Rattle.placing.proofs.Forms.{FullFrom, Placed, placed-packed, packed-placed}
 use Rattle.placing.proofs.Perms.{perm-all, perm-distinct}
 use Rattle.placing.proofs.Rank.{Small, rising-sorted, sorted-rising}
 
@@ -24,8 +24,7 @@ module _ {R : Type 0} (key : R → ℕ) (h : ℕ → ℕ) (b : ℕ) where
       record {
         slots = i .arranged .slots;
         lies = λ q. all-map (λ x. home key h x ≤ q) (λ x. home key h x ≤ 0 + q) (λ x k. omega arith) (page ps q) (i .arranged .lies q);
-        full = λ q. all-map (λ x. (j : ℕ) → home key h x ≤ j → j < q → length (page ps j) ≡ b) (λ x. (j : ℕ) → home key h x ≤ 0 + j → j < q → length (page ps j) ≡ b)
-            (λ x f j k l. f j (omega arith) l) (page ps q) (i .full q);
+        full = λ q. all-map (FullTo key h b ps q) (FullFrom (home key h) b 0 ps q) (λ x f j k l. f j (omega arith) l) (page ps q) (i .full q);
       }
 
   -- n pages, packed and sorted, that hold s
@@ -54,7 +53,6 @@ module _ {R : Type 0} (key : R → ℕ) (h : ℕ → ℕ) (b : ℕ) where
           lies = λ q. all-map (λ x. home key h x ≤ 0 + q) (λ x. home key h x ≤ q) (λ x k. omega arith) (page ps q) (p .lies q);
           holds = g .holds;
         };
-        full = λ q. all-map (λ x. (j : ℕ) → home key h x ≤ 0 + j → j < q → length (page ps j) ≡ b) (λ x. (j : ℕ) → home key h x ≤ j → j < q → length (page ps j) ≡ b)
-            (λ x k j l m. k j (omega arith) m) (page ps q) (p .full q);
+        full = λ q. all-map (FullFrom (home key h) b 0 ps q) (FullTo key h b ps q) (λ x k j l m. k j (omega arith) m) (page ps q) (p .full q);
         rising = sorted-rising key h (cat ps []) (perm-all (Small key h) (Permᴰ·symm (g .holds)) (f .keys)) (g .sorted);
       }

@@ -1,5 +1,5 @@
 -- At most forty steps are taken in range: after forty the size is 4,096 at least, the largest P.
--- Assumes nothing.
+--
 use mathlib.Core.Path.{_≡_, refl, sym, ap, _∙_}
 use mathlib.Core.Bool.{Bool, true, false, cond}
 use mathlib.Core.Logic.{⊎-elim}

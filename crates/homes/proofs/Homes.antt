@@ -1,5 +1,5 @@
 -- The laws of the homes of a file: a home is a page of it, and one page more leaves a key where it is or takes it there.
--- Assumes nothing.
+--
 use mathlib.Core.Path.{_≡_}
 use mathlib.Core.Logic.{_⊎_}
 use Prim.Native.Nat.{ℕ, zero, suc, _+_, _-_, _*_, _%_, _<_}

@@ -1,5 +1,5 @@
 -- The page that a group grows into lies among the pages of that step: from F on, and below F + G.
--- Assumes nothing.
+--
 use mathlib.Core.Bool.{Bool, true, false}
 use mathlib.Core.Logic.{_⊎_, inl, inr, ⊎-elim}
 use mathlib.Core.Path.{_≡_, refl}

@@ -1,5 +1,5 @@
 -- The laws of the steps, for any test of a mover and any way to a new page that leads into [F, F + G).
--- Assumes nothing.
+--
 use mathlib.Core.Path.{_≡_, refl, sym, ap, _∙_}
 use mathlib.Core.Bool.{Bool, true, false, cond, _&&_}
 use mathlib.Core.Logic.{_⊎_, inl, inr, ⊎-elim}

@@ -1,5 +1,5 @@
 -- What the loop of `Shape::home` holds before a step, and that a turn keeps it. On plain numbers.
--- Assumes nothing.
+--
 use mathlib.Core.Path.{_≡_, refl, sym, ap, _∙_}
 use mathlib.Core.Bool.{Bool}
 use Prim.Native.Nat.{ℕ, zero, suc, _+_, _-_, _*_, _%_, _≤_, _<_}

@@ -1,4 +1,4 @@
--- The laws of little-endian numbers and of writes at an offset, once over the width. Assumes nothing.
+-- The laws of little-endian numbers and of writes at an offset, once over the width.
 use mathlib.Core.Path.{_≡_, refl, ap, _∙_}
 use mathlib.Core.List.{List, [], _∷_, _++_, append-assoc, append-nil}
 use Prim.Native.Nat.{ℕ, zero, suc, _+_, _*_, _-_, _/_, _%_, _^_, _≤_, _<_}

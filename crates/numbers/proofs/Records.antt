@@ -1,4 +1,4 @@
--- The laws of lists of fields, for any widths. Assumes nothing.
+-- The laws of lists of fields, for any widths.
 use mathlib.Core.Path.{_≡_, refl, sym, _∙_}
 use mathlib.Core.Bool.{Bool, true, false, _&&_, and-assoc}
 use mathlib.Core.List.{List, [], _∷_, _++_, append-assoc}

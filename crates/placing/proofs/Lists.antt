@@ -6,7 +6,7 @@ use Prim.Native.Nat.{ℕ, zero, suc, _+_, _≤_, _<_}
 use native.Mathlib.Omega.{arith}
 use lib.Dec.{leb}
 use lib.ListN.{length, take, getD, length-append}
-use borrow.Author.Tests.{leb-true, leb-false, le-leb, lt-leb}
+use borrow.Author.Tests.{le-leb, lt-leb}
 use Rattle.placing.specs.Image.{All, cat, page}
 use Rattle.placing.specs.Lay.{one, upTo}
 
@@ -81,13 +81,3 @@ module _ {R : Type 0} (home : R → ℕ) where
   pub upTo-none : (a : ℕ) (s : List R) → All (λ x. a < home x) s → upTo home a s ≡ 0
   upTo-none a [] h = refl
   upTo-none a (x ∷ s) h = rw (lt-leb (home x) a (h .0)) (omega (arith, upTo-none a s (h .1)))
-
-  pub upTo-suc : (a : ℕ) (s : List R) → upTo home a s ≤ upTo home (suc a) s
-  upTo-suc a [] = omega arith
-  upTo-suc a (x ∷ s) = go (leb (home x) a) (leb (home x) (suc a)) refl refl (upTo-suc a s)
-    where
-      go : (u v : Bool) → leb (home x) a ≡ u → leb (home x) (suc a) ≡ v → upTo home a s ≤ upTo home (suc a) s → one u + upTo home a s ≤ one v + upTo home (suc a) s
-      go true true d e ih = omega arith
-      go true false d e ih = omega (arith, leb-true (home x) a d, leb-false (home x) (suc a) e)
-      go false true d e ih = omega arith
-      go false false d e ih = omega arith

@@ -13,7 +13,7 @@ use Rattle.placing.specs.Lay.{one, upTo, ins, sort}
 use Rattle.placing.specs.Walks.{seek, del}
 use Rattle.placing.proofs.Lists.{all-map}
 use Rattle.placing.proofs.Order.{Sorted}
-use Rattle.placing.proofs.Seek.{clash, ne-seek, ins-sorted, same}
+use Rattle.placing.proofs.Seek.{ne-seek, ins-sorted, same}
 
 module _ {R : Type 0} where
   pub perm-length : {s t : List R} → List·Permᴰ s t → length s ≡ length t
@@ -92,15 +92,6 @@ module _ {R : Type 0} (rank : R → ℕ) where
   sort-sorted (x ∷ s) h =
       ins-sorted rank x (sort rank s) (sort-sorted s (h .1))
       (ne-seek rank (rank x) (sort rank s) (perm-all (λ y. rank y ≡ rank x → ⊥) (Permᴰ·symm (sort-perm s)) (h .0)))
-
-  pub del-perm : (r : ℕ) (w : R) (s : List R) → seek rank r s ≡ some w → List·Permᴰ (w ∷ del rank r s) s
-  del-perm r w [] h = absurd (clash h)
-  del-perm r w (y ∷ s) h = go (eqb (rank y) r) h (del-perm r w s)
-    where
-      go : (u : Bool) → cond u (some y) (seek rank r s) ≡ some w → (seek rank r s ≡ some w → List·Permᴰ (w ∷ del rank r s) s)
-          → List·Permᴰ (w ∷ cond u s (y ∷ del rank r s)) (y ∷ s)
-      go true e ih = let q : w ≡ y = cc in List·Permᴰ·cons q (Permᴰ·refl s)
-      go false e ih = List·Permᴰ·trans (List·Permᴰ·swap refl refl) (List·Permᴰ·cons refl (ih e))
 
   swap-del : (r : ℕ) (x y x′ y′ : R) (l d : List R) → x ≡ x′ → y ≡ y′ → (rank y ≡ rank x → ⊥)
       → List·Permᴰ (cond (eqb (rank x) r) (y ∷ l) (x ∷ cond (eqb (rank y) r) l (y ∷ d))) (cond (eqb (rank y′) r) (x′ ∷ l) (y′ ∷ cond (eqb (rank x′) r) l (x′ ∷ d)))

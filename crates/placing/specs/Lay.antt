@@ -9,8 +9,9 @@ use lib.Dec.{leb}
 abbrev pub rankOf : (ℕ → ℕ) → ℕ → ℕ
 rankOf h k = h k * 2 ^ 64 + k % 2 ^ 64
 
-abbrev pub rank : {R : Type 0} → (R → ℕ) → (ℕ → ℕ) → R → ℕ
-rank key h x = rankOf h (key x)
+-- the same of a record
+abbrev pub rankIn : {R : Type 0} → (R → ℕ) → (ℕ → ℕ) → R → ℕ
+rankIn key h x = rankOf h (key x)
 
 -- 1 where a test passes
 abbrev pub one : Bool → ℕ

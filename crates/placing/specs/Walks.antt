@@ -6,16 +6,16 @@ use mathlib.Core.List.{List, [], _∷_, _++_}
 use lib.ListN.{length, take, drop, getD}
 use lib.Dec.{leb, ltb, eqb}
 use Rattle.placing.specs.Image.{home}
-use Rattle.placing.specs.Lay.{rankOf, rank, ins}
+use Rattle.placing.specs.Lay.{rankOf, rankIn, ins}
 
 abbrev pub orElse : {A : Type 0} → Option A → Option A → Option A
 orElse (some x) o = some x
 orElse none o = o
 
 -- one way where a record was found, another where none was
-abbrev pub held : {R A : Type 0} → Option R → A → A → A
-held (some y) found missed = found
-held none found missed = missed
+abbrev pub ifFound : {R A : Type 0} → Option R → A → A → A
+ifFound (some y) found missed = found
+ifFound none found missed = missed
 
 module _ {R : Type 0} (rank : R → ℕ) where
   -- the record that is sought, slot by slot
@@ -48,7 +48,7 @@ module _ {R : Type 0} (rank : R → ℕ) (b : ℕ) where
       let on = carry (getD q b x) ps in
       cond (ltb (length p) b) (q ∷ ps, []) (take b q ∷ on .0, on .1)
 
-  -- Put "walks likewise", as find does, to the ending page.
+  -- Put of a record that is not held "walks likewise", as find does, to the ending page.
   abbrev pub put : R → List (List R) → List (List R) × List R
   put x [] = ([], x ∷ [])
   put x (p ∷ ps) =
@@ -57,7 +57,7 @@ module _ {R : Type 0} (rank : R → ℕ) (b : ℕ) where
       cond (ltb (length p) b) here (cond (lastAfter rank (rank x) p) here (p ∷ on .0, on .1))
 
 module _ {R : Type 0} (rank home : R → ℕ) (b : ℕ) where
-  -- Remove, after page a lost a record p is left of: "If the page was full and the next page exists and its first record has a home no higher than this page, that record comes back to its place here, and the next page is treated the same way."
+  -- Remove, where page a was full and p is what it still holds: "If the page was full and the next page exists and its first record has a home no higher than this page, that record comes back to its place here, and the next page is treated the same way."
   abbrev pub pullBack : ℕ → List R → List (List R) → List (List R)
   pullBack a p [] = p ∷ []
   pullBack a p ([] ∷ ps) = p ∷ ([] ∷ ps)
@@ -71,7 +71,7 @@ module _ {R : Type 0} (rank home : R → ℕ) (b : ℕ) where
   remove a r (p ∷ ps) =
       let on = remove (suc a) r ps in
       let d = del rank r p in
-      held (seek rank r p)
+      ifFound (seek rank r p)
       (cond (ltb (length p) b) (d ∷ ps) (pullBack a d ps))
       (cond (ltb (length p) b) (p ∷ ps) (cond (lastAfter rank r p) (p ∷ ps) (p ∷ on)))
 
@@ -79,10 +79,10 @@ module _ {R : Type 0} (rank home : R → ℕ) (b : ℕ) where
 module _ {R : Type 0} (key : R → ℕ) (h : ℕ → ℕ) (b : ℕ) where
   -- "Find starts at the home."
   abbrev pub findIn : ℕ → List (List R) → Option R
-  findIn k ps = find (rank key h) b (rankOf h k) (drop (h k) ps)
+  findIn k ps = find (rankIn key h) b (rankOf h k) (drop (h k) ps)
 
   abbrev pub putIn : R → List (List R) → List (List R) × List R
-  putIn x ps = let on = put (rank key h) b x (drop (h (key x)) ps) in (take (h (key x)) ps ++ on .0, on .1)
+  putIn x ps = let on = put (rankIn key h) b x (drop (h (key x)) ps) in (take (h (key x)) ps ++ on .0, on .1)
 
   abbrev pub removeIn : ℕ → List (List R) → List (List R)
-  removeIn k ps = take (h k) ps ++ remove (rank key h) (home key h) b (h k) (rankOf h k) (drop (h k) ps)
+  removeIn k ps = take (h k) ps ++ remove (rankIn key h) (home key h) b (h k) (rankOf h k) (drop (h k) ps)

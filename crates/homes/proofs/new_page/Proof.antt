@@ -1,5 +1,5 @@
 -- `homes::new_page` meets its contract. Each part of the sum is at most g, so the sum fits.
--- Assumes nothing.
+--
 use mathlib.Core.Path.{_≡_}
 use Prim.Native.Nat.{ℕ, _+_, _*_, _/_, _%_, _^_, _≤_, _<_, min}
 use native.Mathlib.Nat.{mod-lt, mod-le, div-add-mod', div-le-self, mul-le-mul-right}

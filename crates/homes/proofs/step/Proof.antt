@@ -1,5 +1,5 @@
 -- `homes::step` meets its contract: one law for each way out.
--- Assumes nothing.
+--
 use mathlib.Core.Path.{sym, _∙_}
 use native.Mathlib.Omega.{arith}
 use borrow.Author.Needs.{needs}

@@ -1,5 +1,5 @@
 -- `homes::Shape::home` meets its contract. The loop's invariant is `Before`: what is left to do leads home.
--- The measure is what is left to the size p. Assumes nothing.
+-- The measure is what is left to the size p.
 use mathlib.Core.Path.{sym, _∙_}
 use Prim.Native.Nat.{ℕ, suc, _-_, _*_, _%_, _^_, _≤_, _<_}
 use native.Mathlib.Nat.{mod-lt, mul-pos, mul-le-mul-left}

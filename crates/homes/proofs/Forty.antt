@@ -75,15 +75,6 @@ steps-few n0 N i h k l e =
     (λ ge. absurd (omega (arith, size-forty n0 N h k l, size-up n0 40 (i - 40) 1 (n0 * N) N, ap (λ (n : ℕ). sizeAfter n0 n 1 (n0 * N) N) (add-sub-of-le ge))))
     (split i 40)
 
--- The same for a loop that knows what is left: where the 40 - i steps after step i reach 4,096 and the size has not, step i + 1 is one of the forty, and the steps after it reach 4,096 too. It starts by `size-forty`.
-pub one-of-forty : (n0 i F G : ℕ) → F < 4096 → 4096 ≤ sizeAfter n0 (40 - i) (suc i) F G → (i < 40) × (4096 ≤ sizeAfter n0 (40 - suc i) (suc (suc i)) (F + G) (nextGroups n0 (suc i) G))
-unfolding sizeAfter
-one-of-forty n0 i F G lt h =
-    ⊎-elim
-    (λ few. let e : 40 - i ≡ suc (40 - suc i) = omega arith in (few, rw e at h))
-    (λ many. let e : 40 - i ≡ zero = omega arith in let end : 4096 ≤ F = rw e at h in absurd (omega arith))
-    (split i 40)
-
 -- A home is found in forty steps.
 pub forty : (n0 N s P K : ℕ) → InRange n0 N s P → home n0 N s P K ≡ steps (λ x F. mover n0 K x) (newPage s) n0 P 40 1 (n0 * N) N (K % (n0 * N))
 unfolding home

@@ -29,11 +29,6 @@ unfolding home
 home-grown n0 N s P K r =
     grown (λ x F. mover n0 K x) (newPage s) (new-into s (r .s-low)) n0 P 1 (n0 * N) N (K % (n0 * N)) (r .N-low)
 
--- One page more, below 4,096, is in range too.
-pub range-grown : (n0 N s P : ℕ) → InRange n0 N s P → P < 4096 → InRange n0 N s (P + 1)
-range-grown n0 N s P r h =
-    record { n0-low = r .n0-low; n0-high = r .n0-high; N-low = r .N-low; N-high = r .N-high; s-low = r .s-low; s-high = r .s-high; P-low = omega (arith, r .P-low); P-high = omega arith }
-
 -- Every draw is below its modulus, the seed too.
 pub draw-below : (K x : ℕ) → draw (seedOf K) x < 2147483647
 unfolding draw

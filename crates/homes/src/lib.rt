@@ -40,7 +40,7 @@ fn step(s: u64, f: u64, g: u64, p: u64, moves: bool, address: u64) -> u64
 }
 
 impl Shape {
-    // The shape of a file of these numbers. What homes need of the numbers alone is worked out here, once for many keys.
+    // The shape of a file of these numbers, made once for many keys.
     pub fn new(n0: u64, n: u64, s: u64, p: u64) -> Self
         requires { ⌜ InRange n0 n s p ⌝ }
         ensures { λ r. ⌜ r ≡ shapeOf n0 n s p ⌝ }

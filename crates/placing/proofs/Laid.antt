@@ -9,7 +9,7 @@ use lib.ListN.{length, take, drop, length-take, take-append-drop}
 use lib.Seq.{take-take}
 use borrow.Author.Tests.{leb-true, leb-false}
 use Rattle.placing.specs.Image.{All, cat}
-use Rattle.placing.specs.Lay.{one, upTo, lay, over}
+use Rattle.placing.specs.Lay.{one, upTo, lay}
 use Rattle.placing.proofs.Lists.{all-map, all-take, upTo-le, upTo-none}
 use Rattle.placing.proofs.Order.{Sorted, sorted-drop}
 use Rattle.placing.proofs.Packed.{Packed}
@@ -19,6 +19,12 @@ pub record Holding {R : Type 0} (home : R → ℕ) (b a n : ℕ) (s : List R) (z
   pub packed : Packed home b a (z .0) (z .1)
   pub whole : cat (z .0) (z .1) ≡ s
   pub many : length (z .0) ≡ n
+
+module _ {R : Type 0} (home : R → ℕ) (b : ℕ) where
+  -- what is left over after n pages
+  abbrev pub over : ℕ → ℕ → List R → List R
+  over zero a s = s
+  over (suc n) a s = let k = min b (upTo home a s) in over n (suc a) (drop k s)
 
 module _ {R : Type 0} (rank home : R → ℕ) (b : ℕ) (mono : (x y : R) → rank x ≤ rank y → home x ≤ home y) where
   -- homes rise, so those at a or lower stand first

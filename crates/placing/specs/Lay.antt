@@ -40,11 +40,6 @@ module _ {R : Type 0} (home : R → ℕ) (b : ℕ) where
   lay zero a s = []
   lay (suc n) a s = let k = min b (upTo home a s) in take k s ∷ lay n (suc a) (drop k s)
 
-  -- what is left over after n pages
-  abbrev pub over : ℕ → ℕ → List R → List R
-  over zero a s = s
-  over (suc n) a s = let k = min b (upTo home a s) in over n (suc a) (drop k s)
-
   -- how many of s the pages below a can take
   abbrev pub taken : List R → ℕ → ℕ
   taken s zero = 0

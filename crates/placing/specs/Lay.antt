@@ -6,8 +6,12 @@ use lib.ListN.{take, drop}
 use lib.Dec.{leb}
 
 -- (home, key) of a 64-bit key as one number: the home counts most
+abbrev pub ranked : (home k : ℕ) → ℕ
+ranked home k = home * 2 ^ 64 + k % 2 ^ 64
+
+-- the rank of a key
 abbrev pub rankOf : (ℕ → ℕ) → ℕ → ℕ
-rankOf h k = h k * 2 ^ 64 + k % 2 ^ 64
+rankOf h k = ranked (h k) k
 
 -- the same of a record
 abbrev pub rankIn : {R : Type 0} → (R → ℕ) → (ℕ → ℕ) → R → ℕ

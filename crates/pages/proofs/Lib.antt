@@ -1,0 +1,11 @@
+pub mod Memory
+pub mod Rows
+pub mod Held
+pub mod Read
+pub mod Write
+pub mod Seeking
+pub mod Judging
+pub mod RoundTrip
+pub mod Rules
+pub mod Places
+pub mod Areas

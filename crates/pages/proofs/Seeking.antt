@@ -1,0 +1,161 @@
+-- Places among records in order: how many stand before a rank, from the front or from the back.
+use mathlib.Core.Path.{_≡_, refl, sym, ap, _∙_}
+use mathlib.Core.Bool.{Bool, true, false, cond, _&&_, _||_}
+use mathlib.Core.List.{List, [], _∷_, _++_, map}
+use Prim.Native.Nat.{ℕ, zero, suc, _+_, _-_, _^_, _≤_, _<_}
+use native.Mathlib.Nat.{add-zero, zero-add}
+use native.Mathlib.Numerals.{add-one}
+use native.Mathlib.Omega.{arith}
+use borrow.Author.Tests.{ltb-true, ltb-false, eqb-true, eqb-false, lt-ltb, le-ltb, le-leb, lt-leb}
+use lib.Dec.{eqb, ltb, leb}
+use lib.ListN.{length, drop, getD}
+use Rattle.pages.specs.declared.Page.{Page}
+use Rattle.pages.specs.Page.{Record, key, rank, padded}
+use Rattle.placing.specs.Lay.{ranked}
+use Rattle.pages.specs.Slots.{ahead, upToBack, aheadIn, paired, recordsOf}
+
+-- the order of (home, key) is that of the ranks
+pub before-ranked : (h k h2 k2 : ℕ) → k < 2 ^ 64 → k2 < 2 ^ 64 → (ltb h h2 || (eqb h h2 && ltb k k2)) ≡ ltb (ranked h k) (ranked h2 k2)
+before-ranked h k h2 k2 f g = go (ltb h h2) (eqb h h2) (ltb k k2) refl refl refl
+  where
+    go : (a b d : Bool) → ltb h h2 ≡ a → eqb h h2 ≡ b → ltb k k2 ≡ d → (a || (b && d)) ≡ ltb (ranked h k) (ranked h2 k2)
+    go true b d p q r = sym (lt-ltb (ranked h k) (ranked h2 k2) (omega (arith, ltb-true h h2 p)))
+    go false true true p q r = sym (lt-ltb (ranked h k) (ranked h2 k2) (omega (arith, eqb-true h h2 q, ltb-true k k2 r)))
+    go false true false p q r = sym (le-ltb (ranked h k) (ranked h2 k2) (omega (arith, eqb-true h h2 q, ltb-false k k2 r)))
+    go false false d p q r = sym (le-ltb (ranked h k) (ranked h2 k2) (omega (arith, ltb-false h h2 p, eqb-false h h2 q)))
+
+-- how many of n places from i on stand before r, where f is the rank at a place
+abbrev pub passed : (ℕ → ℕ) → (n i r : ℕ) → ℕ
+passed f zero i r = i
+passed f (suc n) i r =
+    let on = passed f n (suc i) r in
+    cond (ltb (f i) r) on i
+
+module _ (f : ℕ → ℕ) (n i r : ℕ) where
+  -- a place that stands before r is passed
+  pub passed-turn : i < n → ltb (f i) r ≡ true → passed f (n - (i + 1)) (i + 1) r ≡ passed f (n - i) i r
+  passed-turn h t =
+      let e : n - i ≡ suc (n - (i + 1)) = omega arith in
+      rw (e, t, add-one)
+
+  -- the first that does not is the place
+  pub passed-here : i < n → ltb (f i) r ≡ false → passed f (n - i) i r ≡ i
+  passed-here h t =
+      let e : n - i ≡ suc (n - (i + 1)) = omega arith in
+      rw (e, t)
+
+  -- where all do, the end is the place
+  pub passed-all : n ≤ i → passed f (n - i) i r ≡ i
+  passed-all h =
+      let e : n - i ≡ 0 = omega arith in
+      rw e
+
+-- the rank at a place, by a row of homes and a row of keys
+abbrev pub rowRank : List ℕ → List ℕ → ℕ → ℕ
+rowRank hs ks j = ranked (getD hs j 0) (getD ks j 0)
+
+-- the rank at a place of a row of keys, whose homes are worked out
+abbrev pub keyRank : (ℕ → ℕ) → List ℕ → ℕ → ℕ
+keyRank h ks j = ranked (h (getD ks j 0)) (getD ks j 0)
+
+-- the places passed by both rows are those of the spec
+pub rows-passed : (n i : ℕ) (hs ks : List ℕ) (r : ℕ) → passed (rowRank hs ks) n i r ≡ aheadIn n i hs ks r
+rows-passed zero i hs ks r = refl
+rows-passed (suc n) i hs ks r = ap (λ (on : ℕ). cond (ltb (rowRank hs ks i) r) on i) (rows-passed n (suc i) hs ks r)
+
+module _ {R : Type 0} (rk : R → ℕ) (f : ℕ → ℕ) (r : ℕ) (d : R) where
+  -- the places passed are the records ahead in a list that has those ranks
+  pub passed-ahead : (i : ℕ) (s : List R) → ((j : ℕ) → j < length s → f (i + j) ≡ rk (getD s j d)) → passed f (length s) i r ≡ i + ahead rk r s
+  passed-ahead i [] h = sym (add-zero i)
+  passed-ahead i (y ∷ s) h = go (ltb (rk y) r) refl (passed-ahead (suc i) s after)
+    where
+      here : f i ≡ rk y
+      here = rw add-zero at (h 0 (omega arith))
+
+      after : (j : ℕ) → j < length s → f (suc i + j) ≡ rk (getD s j d)
+      after j l =
+          let e : suc i + j ≡ i + suc j = omega arith in
+          rw e (h (suc j) (omega arith))
+
+      go : (u : Bool) → ltb (rk y) r ≡ u → passed f (length s) (suc i) r ≡ suc i + ahead rk r s
+          → passed f (suc (length s)) i r ≡ i + cond (leb r (rk y)) 0 (suc (ahead rk r s))
+      go true t ih = rw (here, t, lt-leb r (rk y) (ltb-true (rk y) r t)) (omega arith)
+      go false t ih = rw (here, t, le-leb r (rk y) (ltb-false (rk y) r t)) (omega arith)
+
+-- the first n of two rows are n records
+pub paired-length : (n : ℕ) (ks vs : List ℕ) → length (paired n ks vs) ≡ n
+paired-length zero ks vs = refl
+paired-length (suc n) ks vs = ap suc (paired-length n (drop 1 ks) (drop 1 vs))
+
+-- a place of the tail is the next of the whole
+getD-tail : (l : List ℕ) (j : ℕ) → getD (drop 1 l) j 0 ≡ getD l (suc j) 0
+getD-tail [] j = refl
+getD-tail (x ∷ l) j = refl
+
+-- and each has its key from the row
+pub paired-key : (n : ℕ) (ks vs : List ℕ) (j : ℕ) → j < n → key (getD (paired n ks vs) j (0, 0)) ≡ getD ks j 0
+paired-key zero ks vs j h = absurd (omega arith)
+paired-key (suc n) ks vs zero h = refl
+paired-key (suc n) ks vs (suc j) h = paired-key n (drop 1 ks) (drop 1 vs) j (omega arith) ∙ getD-tail ks j
+
+-- a record's number stands in its row at the record's place
+getD-row : (g : Record → ℕ) (rs : List Record) (zs : List ℕ) (j : ℕ) → j < length rs → getD (map g rs ++ zs) j 0 ≡ g (getD rs j (0, 0))
+getD-row g [] zs j h = absurd (omega arith)
+getD-row g (x ∷ rs) zs zero h = refl
+getD-row g (x ∷ rs) zs (suc j) h = getD-row g rs zs j (omega arith)
+
+module _ (h : ℕ → ℕ) (r : ℕ) where
+  -- on a judged page its rows give the records ahead of r
+  pub place-ahead : (rs : List Record) → aheadIn (length rs) 0 (padded (map (λ x. h (key x)) rs)) (padded (map key rs)) r ≡ ahead (rank h) r rs
+  place-ahead rs =
+      let hs : List ℕ = padded (map (λ x. h (key x)) rs) in
+      let ks : List ℕ = padded (map key rs) in
+      sym (rows-passed (length rs) 0 hs ks r)
+      ∙ passed-ahead (rank h) (rowRank hs ks) r (0, 0) 0 rs
+      (λ j l. rw (zero-add, getD-row (λ x. h (key x)) rs _ j l, getD-row key rs _ j l))
+      ∙ zero-add (ahead (rank h) r rs)
+
+  -- the test of a key whose home was worked out
+  pub key-test : (ks : List ℕ) (i home : ℕ) (t u : Bool) → home ≡ h (getD ks i 0) → t ≡ ltb (ranked home (getD ks i 0)) r → t ≡ u
+      → ltb (keyRank h ks i) r ≡ u
+  key-test ks i home t u e q v = rw (← e, ← q, v)
+
+  -- on a page whose homes are worked out its keys do
+  pub records-ahead : (p : Page) → passed (keyRank h (p .keys)) (p .count) 0 r ≡ ahead (rank h) r (recordsOf p)
+  unfolding recordsOf
+  records-ahead p =
+      let e : length (recordsOf p) ≡ p .count = paired-length (p .count) (p .keys) (p .values) in
+      let all = passed-ahead (rank h) (keyRank h (p .keys)) r (0, 0) 0 (recordsOf p)
+      (λ j l. rw (zero-add, paired-key (p .count) (p .keys) (p .values) j (omega arith))) in
+      rw e at all ∙ zero-add (ahead (rank h) r (recordsOf p))
+
+  -- how many of the first i places are left from the back, by a row of keys
+  abbrev pub back : List ℕ → ℕ → ℕ
+  back ks i = upToBack (λ k. ranked (h k) k) r 0 ks i
+
+  -- where the last place stands before r, all are left
+  pub back-here : (ks : List ℕ) (i : ℕ) → 0 < i → ltb (keyRank h ks (i - 1)) r ≡ true → back ks i ≡ i
+  back-here ks zero l t = absurd (omega arith)
+  back-here ks (suc i) l t =
+      let e : suc i - 1 ≡ i = omega arith in
+      let g : ltb (keyRank h ks i) r ≡ true = rw e at t in
+      rw g
+
+  -- where it does not, it is passed over
+  pub back-turn : (ks : List ℕ) (i : ℕ) → 0 < i → ltb (keyRank h ks (i - 1)) r ≡ false → back ks (i - 1) ≡ back ks i
+  back-turn ks zero l t = absurd (omega arith)
+  back-turn ks (suc i) l t =
+      let e : suc i - 1 ≡ i = omega arith in
+      let g : ltb (keyRank h ks i) r ≡ false = rw e at t in
+      rw (g, e)
+
+  -- records with the same keys leave as many
+  back-same : (ks : List ℕ) (s : List Record) (n : ℕ) → ((j : ℕ) → j < n → key (getD s j (0, 0)) ≡ getD ks j 0)
+      → back ks n ≡ upToBack (rank h) r (0, 0) s n
+  back-same ks s zero e = refl
+  back-same ks s (suc n) e = rw (e n (omega arith), back-same ks s n (λ j l. e j (omega arith)))
+
+  -- so do the records of a page
+  pub records-back : (p : Page) → back (p .keys) (p .count) ≡ upToBack (rank h) r (0, 0) (recordsOf p) (p .count)
+  unfolding recordsOf
+  records-back p = back-same (p .keys) (recordsOf p) (p .count) (paired-key (p .count) (p .keys) (p .values))

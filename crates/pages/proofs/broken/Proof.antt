@@ -1,0 +1,15 @@
+-- `pages::broken` meets its contract: it writes out what is told of a broken page.
+use borrow.Author.Needs.{needs}
+use Rattle.pages.specs.Page.{judged}
+use Rattle.pages.proofs.broken.Statement.{statement}
+use Rattle.pages.proofs.broken.Tie as tie
+
+blank-requires : tie.Need-blank-requires
+blank-requires c κs = search needs
+
+returns : tie.Need-returns
+unfolding judged
+returns c = rw (c .blank .ensures)
+
+pub broken-spec : {M : Type 1} → statement M
+broken-spec = tie.close (tie.spec blank-requires returns)

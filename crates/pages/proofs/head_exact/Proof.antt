@@ -1,0 +1,45 @@
+-- `pages::head_exact` meets its contract: its tests are those of the head's fields.
+use denote.Ref.{now}
+use borrow.Author.Needs.{needs}
+use Rattle.pages.proofs.Read.{head-tests}
+use Rattle.pages.proofs.head_exact.Statement.{statement}
+use Rattle.pages.proofs.head_exact.Tie as tie
+
+get-u16-requires : tie.Need-get-u16-requires
+get-u16-requires c κs = search needs
+
+get-u16-requires-2 : tie.Need-get-u16-requires-2
+get-u16-requires-2 c κs = search needs
+
+get-u32-requires : tie.Need-get-u32-requires
+get-u32-requires c κs = search needs
+
+get-u16-requires-3 : tie.Need-get-u16-requires-3
+get-u16-requires-3 c κs = search needs
+
+cast-used : tie.Need-cast-used
+cast-used c = search needs
+
+get-u16-requires-4 : tie.Need-get-u16-requires-4
+get-u16-requires-4 c κs = search needs
+
+get-u32-requires-2 : tie.Need-get-u32-requires-2
+get-u32-requires-2 c κs = search needs
+
+returns : tie.Need-returns
+returns c =
+    let a = c .before .before .before .before .before .before .before .args in
+    cc (head-tests (now (a .part)) (a .address) (a .count))
+
+pub head-exact-spec : {M : Type 1} → statement M
+head-exact-spec =
+    tie.close
+    (tie.spec
+    get-u16-requires
+    get-u16-requires-2
+    get-u32-requires
+    get-u16-requires-3
+    cast-used
+    get-u16-requires-4
+    get-u32-requires-2
+    returns)

@@ -1,0 +1,47 @@
+-- `pages::judge` meets its contract: one law for each way out.
+use denote.Ref.{now}
+use mathlib.Core.Path.{sym, _∙_}
+use borrow.Author.Tests.{not-true, not-false}
+use borrow.Author.Needs.{needs}
+use Rattle.homes.specs.Homes.{homeIn}
+use Rattle.pages.proofs.Read.{held-few, ready}
+use Rattle.pages.proofs.Judging.{judged-unformed, judged-formed}
+use Rattle.pages.proofs.judge.Statement.{statement}
+use Rattle.pages.proofs.judge.Tie as tie
+
+well-formed-requires : tie.Need-well-formed-requires
+well-formed-requires c κs = search needs
+
+broken-requires : tie.Need-broken-requires
+broken-requires c κs = search needs
+
+returns : tie.Need-returns
+returns c =
+    let a = c .before .before .before .before .args in
+    judged-unformed (homeIn (a .shape)) (a .address) (now (a .part)) _ (sym (c .before .before .well-formed .ensures) ∙ not-true _ (c .before .if1 .taken)) (c .broken .ensures)
+
+parse-requires : tie.Need-parse-requires
+parse-requires c κs = search needs
+
+judge-records-requires : tie.Need-judge-records-requires
+judge-records-requires c κs =
+    let s = c .before .before .before .before in
+    let is = ready (c .parse .result) _ (c .parse .ensures) (held-few (now (s .args .part))) in
+    (is .0, is .1, s .pre .1)
+
+returns-2 : tie.Need-returns-2
+returns-2 c =
+    let a = c .before .before .before .before .before .args in
+    judged-formed (homeIn (a .shape)) (a .address) (now (a .part)) _ (c .before .parse .result)
+    (sym (c .before .before .before .well-formed .ensures) ∙ not-false _ (c .before .before .if1 .left)) (c .before .parse .ensures) (c .judge-records .ensures)
+
+pub judge-spec : {M : Type 1} → statement M
+judge-spec =
+    tie.close
+    (tie.spec
+    well-formed-requires
+    broken-requires
+    returns
+    parse-requires
+    judge-records-requires
+    returns-2)

@@ -1,0 +1,110 @@
+-- A page: its records, its bytes and its rules (01, 'Bytes of a page'). What is quoted is 01's.
+use Prim.Native.Nat.{ℕ, zero, suc, _+_, _-_, _*_, min}
+use mathlib.Core.Bool.{Bool, true, false, cond, _&&_}
+use mathlib.Core.Option.{Option, none, some}
+use mathlib.Core.List.{List, [], _∷_, _++_, map}
+use lib.ListN.{length, replicate}
+use lib.Dec.{leb, ltb}
+use Rattle.numbers.specs.Little.{numberAt}
+use Rattle.numbers.specs.Fields.{Field, encode, matches}
+use Rattle.placing.specs.Lay.{ranked}
+use Rattle.pages.specs.declared.Page.{Page}
+use Rattle.pages.specs.declared.Judged.{Judged}
+
+-- "A record is a key .. and a value"
+abbrev pub Record : Type 0
+Record = ℕ × ℕ
+
+abbrev pub key : Record → ℕ
+key x = x .0
+
+abbrev pub value : Record → ℕ
+value x = x .1
+
+-- the home of a record is that of its key
+abbrev pub homeFor : (ℕ → ℕ) → Record → ℕ
+homeFor h x = h (key x)
+
+-- (home, key) of a record as one number
+abbrev pub rank : (ℕ → ℕ) → Record → ℕ
+rank h x = ranked (homeFor h x) (key x)
+
+-- "Head, 16 bytes: length 256 (2), kind 0x0011 (2), page address (4), records used (2), six zero bytes."
+abbrev pub head : (address used : ℕ) → List Field
+head address used = (2, 256) ∷ (2, 17) ∷ (4, address) ∷ (2, used) ∷ (2, 0) ∷ (4, 0) ∷ []
+
+-- A slot: "length 20 (2), kind (2), key (8), value (8)"
+abbrev pub slot : (kind k v : ℕ) → List Field
+slot kind k v = (2, 20) ∷ (2, kind) ∷ (8, k) ∷ (8, v) ∷ []
+
+-- "Kind 1 is a record."
+abbrev pub full : Record → List Field
+full x = slot 1 (key x) (value x)
+
+-- "Kind 0 is empty, with key and value zero."
+abbrev pub empty : List Field
+empty = slot 0 0 0
+
+-- n slots: "Records stand first, empty slots after."
+abbrev pub slots : ℕ → List Record → List Field
+slots zero rs = []
+slots (suc n) [] = empty ++ slots n []
+slots (suc n) (x ∷ rs) = full x ++ slots n rs
+
+-- the head, "Then 12 slots of 20 bytes"
+abbrev pub fields : ℕ → List Record → List Field
+fields address rs = head address (length rs) ++ slots 12 rs
+
+-- the 256 bytes of a page
+unfoldable pub pageBytes : (address : ℕ) → List Record → List ℕ
+pageBytes address rs = encode (fields address rs)
+
+-- what stands at the places of key and value in slot i
+abbrev pub recordAt : List ℕ → ℕ → Record
+recordAt l i = (numberAt 8 l (20 + 20 * i), numberAt 8 l (28 + 20 * i))
+
+-- the records of n slots from slot i on
+abbrev pub recordsFrom : (n i : ℕ) → List ℕ → List Record
+recordsFrom zero i l = []
+recordsFrom (suc n) i l = recordAt l i ∷ recordsFrom n (suc i) l
+
+-- how many records a page says that it holds, of twelve at most
+abbrev pub countIn : List ℕ → ℕ
+countIn l = min 12 (numberAt 2 l 8)
+
+-- what any bytes hold at the places of a page's records
+unfoldable pub recordsIn : List ℕ → List Record
+recordsIn l = recordsFrom (countIn l) 0 l
+
+-- "the head is exact; slots are well formed; the count is right": the bytes are those of the records that they hold
+unfoldable pub wellFormed : (address : ℕ) → List ℕ → Bool
+wellFormed address l = matches l 0 (fields address (recordsIn l))
+
+module _ (h : ℕ → ℕ) where
+  -- "every home is at most this page's address"
+  abbrev pub homesTo : (address : ℕ) → List Record → Bool
+  homesTo address [] = true
+  homesTo address (x ∷ rs) = leb (h (key x)) address && homesTo address rs
+
+  -- "(home, key) rises strictly from slot to slot"
+  abbrev pub rises : List Record → Bool
+  rises [] = true
+  rises (x ∷ []) = true
+  rises (x ∷ (y ∷ rs)) = ltb (rank h x) (rank h y) && rises (y ∷ rs)
+
+  -- the records of a page that passes the page rules. "A page that breaks one is broken": none.
+  unfoldable pub readPage : (address : ℕ) → List ℕ → Option (List Record)
+  readPage address l = cond (wellFormed address l && (homesTo address (recordsIn l) && rises (recordsIn l))) (some (recordsIn l)) none
+
+-- twelve numbers: those given, then zeros
+abbrev pub padded : List ℕ → List ℕ
+padded xs = xs ++ replicate (12 - length xs) 0
+
+-- "In memory a page is one value: a count with twelve keys and twelve values."
+unfoldable pub inMemory : List Record → Page
+inMemory rs = record { count = length rs; keys = padded (map key rs); values = padded (map value rs) }
+
+-- a page as it was judged: of a good one its records with their homes, of a broken one nothing
+unfoldable pub judged : (ℕ → ℕ) → Option (List Record) → Judged
+judged h none = record { good = false; page = inMemory []; homes = padded [] }
+judged h (some rs) = record { good = true; page = inMemory rs; homes = padded (map (λ x. h (key x)) rs) }

@@ -1,0 +1,50 @@
+-- Places among the records of a page, over any rows and any rank.
+use Prim.Native.Nat.{ℕ, zero, suc}
+use mathlib.Core.Bool.{cond}
+use mathlib.Core.List.{List, [], _∷_, _++_}
+use lib.ListN.{length, take, drop, getD}
+use lib.Dec.{leb, ltb}
+use Rattle.pages.specs.Page.{Record, key, value, inMemory}
+use Rattle.placing.specs.Lay.{ranked}
+use Rattle.pages.specs.declared.Page.{Page}
+use Rattle.pages.specs.declared.Pushed.{Pushed}
+
+module _ {R : Type 0} where
+  -- x at a place, and what stood there and after it one place on
+  unfoldable pub opened : ℕ → R → List R → List R
+  opened at x s = take at s ++ (x ∷ drop at s)
+
+  -- the slots closed up over a place
+  unfoldable pub closed : ℕ → List R → List R
+  closed at s = take at s ++ drop (suc at) s
+
+module _ {R : Type 0} (rank : R → ℕ) where
+  -- how many at the front stand before r
+  abbrev pub ahead : ℕ → List R → ℕ
+  ahead r [] = 0
+  ahead r (y ∷ s) = let on = suc (ahead r s) in cond (leb r (rank y)) 0 on
+
+  -- how many of the first n are left when those that stand at r or after are passed over from the back
+  abbrev pub upToBack : ℕ → R → List R → ℕ → ℕ
+  upToBack r d s zero = 0
+  upToBack r d s (suc n) = let on = upToBack r d s n in cond (ltb (rank (getD s n d)) r) (suc n) on
+
+-- how many of n places from i on stand before r, by a row of homes and a row of keys
+abbrev pub aheadIn : (n i : ℕ) → List ℕ → List ℕ → ℕ → ℕ
+aheadIn zero i hs ks r = i
+aheadIn (suc n) i hs ks r =
+    let on = aheadIn n (suc i) hs ks r in
+    cond (ltb (ranked (getD hs i 0) (getD ks i 0)) r) on i
+
+-- the first n records of a page's two rows
+abbrev pub paired : ℕ → List ℕ → List ℕ → List Record
+paired zero ks vs = []
+paired (suc n) ks vs = (getD ks 0 0, getD vs 0 0) ∷ paired n (drop 1 ks) (drop 1 vs)
+
+-- the records of a page in memory
+unfoldable pub recordsOf : Page → List Record
+recordsOf p = paired (p .count) (p .keys) (p .values)
+
+-- twelve of the records with x among them, and the last where that makes thirteen: else x
+abbrev pub pushed : ℕ → Record → List Record → Pushed
+pushed at x rs = record { page = inMemory (take 12 (opened at x rs)); key = key (getD (opened at x rs) 12 x); value = value (getD (opened at x rs) 12 x) }

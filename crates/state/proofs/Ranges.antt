@@ -1,0 +1,102 @@
+-- The laws of a state: its ranges as inequalities, and which steps keep them.
+--
+use Prim.Native.Nat.{ℕ, zero, suc, _*_, _≤_, _<_}
+use mathlib.Core.Path.{_≡_, refl}
+use mathlib.Core.Bool.{Bool, true, false, _&&_, and-assoc, and-true}
+use mathlib.Core.List.{List, [], _∷_}
+use native.Mathlib.Nat.{mul-le-mul}
+use native.Mathlib.Omega.{arith}
+use lib.ListN.{getD}
+use borrow.Author.Tests.{leb-true, le-leb}
+use Rattle.homes.specs.Homes.{InRange}
+use Rattle.state.specs.declared.State.{State}
+use Rattle.state.specs.State.{all, ranges, inRange, oneMore, oneLess, grown}
+
+-- Eleven tests joined from left to right are all of their list.
+pub tests-all : (a b c d e f g h i j k : Bool) → (a && b && c && d && e && f && g && h && i && j && k) ≡ all (a ∷ b ∷ c ∷ d ∷ e ∷ f ∷ g ∷ h ∷ i ∷ j ∷ k ∷ [])
+unfolding all
+tests-all a b c d e f g h i j k = simp (and-assoc, and-true)
+
+-- The product of two numbers of 16 bits fits 32.
+pub product-fits : (a b : ℕ) → a < 65536 → b < 65536 → a * b < 4294967296
+product-fits a b h k =
+    let a-high : a ≤ 65535 = omega arith in
+    let b-high : b ≤ 65535 = omega arith in
+    let high : a * b ≤ 65535 * 65535 = mul-le-mul a-high b-high in
+    omega arith
+
+-- Where all tests hold, the one at k does.
+every : (l : List Bool) → all l ≡ true → (k : ℕ) → getD l k true ≡ true
+unfolding all
+every [] h k = refl
+every (true ∷ l) h zero = refl
+every (true ∷ l) h (suc k) = every l h k
+every (false ∷ l) h zero = h
+every (false ∷ l) h (suc k) = absurd (let z : _≡_ {A = ℕ} 0 1 = cc in omega arith)
+
+-- The ranges of a state.
+pub record Ranged (s : State) : Type 0 where
+  pub n0-low : 1 ≤ s .n0
+  pub n0-high : s .n0 ≤ 4
+  pub n-low : 1 ≤ s .n
+  pub n-high : s .n ≤ 64
+  pub s-low : 1 ≤ s .s
+  pub s-high : s .s ≤ 8
+  pub cap-low : 1 ≤ s .cap
+  pub cap-high : s .cap ≤ 4096
+  pub p-low : s .n0 * s .n ≤ s .p
+  pub p-high : s .p ≤ s .cap
+  pub r-high : s .r ≤ 12 * s .cap
+
+-- A state whose tests hold is in its ranges.
+pub ranged : (s : State) → inRange s ≡ true → Ranged s
+unfolding inRange
+ranged s h =
+    let holds : (k : ℕ) → getD (ranges s) k true ≡ true = every (ranges s) h in
+    record {
+      n0-low = leb-true _ _ (holds 0);
+      n0-high = leb-true _ _ (holds 1);
+      n-low = leb-true _ _ (holds 2);
+      n-high = leb-true _ _ (holds 3);
+      s-low = leb-true _ _ (holds 4);
+      s-high = leb-true _ _ (holds 5);
+      cap-low = leb-true _ _ (holds 6);
+      cap-high = leb-true _ _ (holds 7);
+      p-low = leb-true _ _ (holds 8);
+      p-high = leb-true _ _ (holds 9);
+      r-high = leb-true _ _ (holds 10);
+    }
+
+-- The tests hold of a state in its ranges.
+pub in-range : (s : State) → Ranged s → inRange s ≡ true
+unfolding inRange all
+in-range s r =
+    simp (
+      le-leb _ _ (r .n0-low),
+      le-leb _ _ (r .n0-high),
+      le-leb _ _ (r .n-low),
+      le-leb _ _ (r .n-high),
+      le-leb _ _ (r .s-low),
+      le-leb _ _ (r .s-high),
+      le-leb _ _ (r .cap-low),
+      le-leb _ _ (r .cap-high),
+      le-leb _ _ (r .p-low),
+      le-leb _ _ (r .p-high),
+      le-leb _ _ (r .r-high),
+    )
+
+-- The homes of a state's keys are those of a shape in range.
+pub in-shape : (s : State) → inRange s ≡ true → InRange (s .n0) (s .n) (s .s) (s .p)
+in-shape s h = let r : Ranged s = ranged s h in search arith
+
+-- One page more, where the lent pages have one more.
+pub grown-range : (s : State) → inRange s ≡ true → s .p < s .cap → inRange (grown s) ≡ true
+grown-range s h room = let r : Ranged s = ranged s h in in-range (grown s) (search arith)
+
+-- One record more, where the capacity has one more.
+pub more-range : (s : State) → inRange s ≡ true → s .r < 12 * s .cap → inRange (oneMore s) ≡ true
+more-range s h room = let r : Ranged s = ranged s h in in-range (oneMore s) (search arith)
+
+-- One record less.
+pub less-range : (s : State) → inRange s ≡ true → inRange (oneLess s) ≡ true
+less-range s h = let r : Ranged s = ranged s h in in-range (oneLess s) (search arith)

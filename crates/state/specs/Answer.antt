@@ -1,0 +1,21 @@
+-- What an answer says in 01's numbers ('Refusal numbers'): one definition for all calls.
+use Prim.Native.Nat.{ℕ}
+use Rattle.state.specs.declared.Answer.{Answer}
+use Rattle.state.specs.declared.Answer.the-variants.{Accepted, OutOfRange, WrongArea, WrongRow, Broken, Absent, Held, NoRoom, AtCap, NotImage}
+use Rattle.state.specs.declared.Numbers.{Numbers}
+
+abbrev told : (refusal page value read moved : ℕ) → Numbers
+told refusal page value read moved = record { refusal = refusal; page = page; value = value; read = read; moved = moved }
+
+-- "page is 0 except for 4, value 0 except for 6, moved 0. For accepted calls page is 0"; "refusals 1, 2, 3, 8 .. read 0"
+abbrev pub numbers : Answer → Numbers
+numbers (Accepted value read moved) = told 0 0 value read moved
+numbers OutOfRange = told 1 0 0 0 0
+numbers WrongArea = told 2 0 0 0 0
+numbers WrongRow = told 3 0 0 0 0
+numbers (Broken page read) = told 4 page 0 read 0
+numbers (Absent read) = told 5 0 0 read 0
+numbers (Held value read) = told 6 0 value read 0
+numbers (NoRoom read) = told 7 0 0 read 0
+numbers AtCap = told 8 0 0 0 0
+numbers (NotImage read) = told 9 0 0 read 0

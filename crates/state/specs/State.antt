@@ -1,0 +1,50 @@
+-- The state of a file (01, 'The register'). What is quoted is 01's.
+use Prim.Native.Nat.{ℕ, suc, _+_, _-_, _*_}
+use mathlib.Core.Bool.{Bool, true, _&&_}
+use mathlib.Core.List.{List, [], _∷_}
+use lib.Dec.{leb, ltb}
+use Rattle.homes.specs.Homes.{home}
+use Rattle.state.specs.declared.State.{State}
+
+-- all of a list of tests
+unfoldable pub all : List Bool → Bool
+all [] = true
+all (t ∷ ts) = t && all ts
+
+-- "Ranges: n0 1 to 4, N 1 to 64, s 1 to 8, cap 1 to 4,096, n0 x N <= P <= cap, r <= 12 x cap."
+abbrev pub ranges : State → List Bool
+ranges s =
+    leb 1 (s .n0) ∷ leb (s .n0) 4
+    ∷ leb 1 (s .n) ∷ leb (s .n) 64
+    ∷ leb 1 (s .s) ∷ leb (s .s) 8
+    ∷ leb 1 (s .cap) ∷ leb (s .cap) 4096
+    ∷ leb (s .n0 * s .n) (s .p) ∷ leb (s .p) (s .cap)
+    ∷ leb (s .r) (12 * s .cap)
+    ∷ []
+
+unfoldable pub inRange : State → Bool
+inRange s = all (ranges s)
+
+-- "Growth is due exactly when 5r > 48P"; of a state out of range "due answers no"
+abbrev pub isDue : State → Bool
+isDue s = inRange s && ltb (48 * s .p) (5 * s .r)
+
+-- the home of a key in a file of that state
+abbrev pub homes : State → ℕ → ℕ
+homes s K = home (s .n0) (s .n) (s .s) (s .p) K
+
+-- "empty file, P = n0 x N, r = 0"
+abbrev pub fresh : (n0 N s cap : ℕ) → State
+fresh n0 N s cap = record { n0 = n0; n = N; s = s; p = n0 * N; cap = cap; r = 0 }
+
+-- one record more
+abbrev pub oneMore : State → State
+oneMore s = record { n0 = s .n0; n = s .n; s = s .s; p = s .p; cap = s .cap; r = s .r + 1 }
+
+-- one record less
+abbrev pub oneLess : State → State
+oneLess s = record { n0 = s .n0; n = s .n; s = s .s; p = s .p; cap = s .cap; r = s .r - 1 }
+
+-- "one page more"
+abbrev pub grown : State → State
+grown s = record { n0 = s .n0; n = s .n; s = s .s; p = s .p + 1; cap = s .cap; r = s .r }

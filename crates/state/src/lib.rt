@@ -1,0 +1,159 @@
+// The state of a file, which goes into each call as a value and comes back as a value, and the answers of the calls.
+use homes::Shape;
+ghost use mathlib.Core.Path.{_≡_};
+ghost use mathlib.Core.Bool.{true};
+ghost use Prim.Native.Nat.{_*_, _≤_, _<_};
+ghost use Rattle.homes.specs.Homes.{Ready, shapeOf};
+ghost use Rattle.state.specs.State.{inRange, isDue, fresh, oneMore, oneLess, grown};
+ghost use Rattle.state.specs.Answer.{numbers};
+
+// Pages a group and groups at the start, sweeps, pages grown to, pages lent, records held.
+pub struct State {
+    pub n0: u16,
+    pub n: u16,
+    pub s: u16,
+    pub p: u16,
+    pub cap: u16,
+    pub r: u32,
+}
+
+// What a call answers: accepted, or why not. `read` counts the pages judged, `moved` the records that went to another page.
+pub enum Answer {
+    Accepted { value: u64, read: u32, moved: u32 },
+    OutOfRange,
+    WrongArea,
+    WrongRow,
+    Broken { page: u16, read: u32 },
+    Absent { read: u32 },
+    Held { value: u64, read: u32 },
+    NoRoom { read: u32 },
+    AtCap,
+    NotImage { read: u32 },
+}
+
+// An answer in the numbers of the refusal table.
+pub struct Numbers {
+    pub refusal: u16,
+    pub page: u16,
+    pub value: u64,
+    pub read: u32,
+    pub moved: u32,
+}
+
+// The state after a call, and its answer.
+pub struct Done {
+    pub state: State,
+    pub answer: Answer,
+}
+
+impl State {
+    // The state of an empty file.
+    pub fn new(n0: u16, n: u16, s: u16, cap: u16) -> Self
+        requires { ⌜ n0 * n < 65536 ⌝ }
+        ensures { λ r. ⌜ r ≡ fresh n0 n s cap ⌝ }
+    {
+        State {
+            n0,
+            n,
+            s,
+            p: n0 * n,
+            cap,
+            r: 0,
+        }
+    }
+
+    // Whether its numbers are in their ranges. The tests are joined without a branch.
+    pub fn in_range(self) -> bool
+        ensures { λ r. ⌜ r ≡ inRange self ⌝ }
+    {
+        let n0 = self.n0;
+        let n = self.n;
+        let s = self.s;
+        let p = self.p;
+        let cap = self.cap;
+        (1 <= n0)
+            & (n0 <= 4)
+            & (1 <= n)
+            & (n <= 64)
+            & (1 <= s)
+            & (s <= 8)
+            & (1 <= cap)
+            & (cap <= 4096)
+            & ((n0 as u32) * (n as u32) <= p as u32)
+            & (p <= cap)
+            & (self.r <= 12 * (cap as u32))
+    }
+
+    // Whether growth is due.
+    pub fn due(self) -> bool
+        ensures { λ r. ⌜ r ≡ isDue self ⌝ }
+    {
+        self.in_range() & (48 * (self.p as u64) < 5 * (self.r as u64))
+    }
+
+    pub fn one_more(mut self) -> Self
+        requires { ⌜ self .r < 49152 ⌝ }
+        ensures { λ r. ⌜ r ≡ oneMore self ⌝ }
+    {
+        self.r = self.r + 1;
+        self
+    }
+
+    pub fn one_less(mut self) -> Self
+        requires { ⌜ 1 ≤ self .r ⌝ }
+        ensures { λ r. ⌜ r ≡ oneLess self ⌝ }
+    {
+        self.r = self.r - 1;
+        self
+    }
+
+    // One page more.
+    pub fn grown(mut self) -> Self
+        requires { ⌜ self .p < 4096 ⌝ }
+        ensures { λ r. ⌜ r ≡ grown self ⌝ }
+    {
+        self.p = self.p + 1;
+        self
+    }
+
+    // What the homes of its keys depend on.
+    pub fn shape(self) -> Shape
+        requires { ⌜ inRange self ≡ true ⌝ }
+        ensures { λ r. ⌜ r ≡ shapeOf (self .n0) (self .n) (self .s) (self .p) ⌝ }
+        ensures ready { λ r. ⌜ Ready r ⌝ }
+    {
+        Shape::new(self.n0 as u64, self.n as u64, self.s as u64, self.p as u64)
+    }
+}
+
+fn told(refusal: u16, page: u16, value: u64, read: u32, moved: u32) -> Numbers
+    ensures { λ r. ⌜ r ≡ record { refusal = refusal; page = page; value = value; read = read; moved = moved } ⌝ }
+{
+    Numbers {
+        refusal,
+        page,
+        value,
+        read,
+        moved,
+    }
+}
+
+impl Answer {
+    // The answer in 01's numbers.
+    pub fn numbers(self) -> Numbers
+        ensures { λ r. ⌜ r ≡ numbers self ⌝ }
+    {
+        match self {
+            Answer::Accepted { value, read, moved } => told(0, 0, value, read, moved),
+            Answer::OutOfRange => told(1, 0, 0, 0, 0),
+            Answer::WrongArea => told(2, 0, 0, 0, 0),
+            Answer::WrongRow => told(3, 0, 0, 0, 0),
+            Answer::Broken { page, read } => told(4, page, 0, read, 0),
+            Answer::Absent { read } => told(5, 0, 0, read, 0),
+            Answer::Held { value, read } => told(6, 0, value, read, 0),
+            Answer::NoRoom { read } => told(7, 0, 0, read, 0),
+            Answer::AtCap => told(8, 0, 0, 0, 0),
+            Answer::NotImage { read } => told(9, 0, 0, read, 0),
+        }
+    }
+}

@@ -1,0 +1,4 @@
+pub mod Entries
+pub mod Rows
+pub mod Sorting
+pub mod Turns

@@ -1,0 +1,114 @@
+// Judges one good page, and the same page with one number of it changed, a case for each page rule. The page is written here number by number, as the scope lays it out, and not by the code under test.
+use homes::Shape;
+use libc::STDOUT_FILENO;
+ghost use mathlib.Core.Path.{_≡_};
+ghost use Prim.Native.Nat.{_+_, _*_, _≤_, _<_};
+ghost use lib.ListN.{length};
+
+fn slot(part: &mut [u8], i: usize, kind: u16, key: u64, value: u64)
+    requires { ⌜ (i < 12) × (length (now part) ≡ 256) ⌝ }
+{
+    let at = 16 + 20 * i;
+    numbers::put_u16(part, at, 20);
+    numbers::put_u16(part, at + 2, kind);
+    numbers::put_u64(part, at + 4, key);
+    numbers::put_u64(part, at + 12, value);
+}
+
+fn empty_slots(part: &mut [u8])
+    requires { ⌜ length (now part) ≡ 256 ⌝ }
+{
+    let mut i = 3;
+    while i < 12 {
+        slot(part, i, 0, 0, 0);
+        i += 1;
+    }
+}
+
+fn head(part: &mut [u8])
+    requires { ⌜ length (now part) ≡ 256 ⌝ }
+{
+    numbers::put_u16(part, 0, 256);
+    numbers::put_u16(part, 2, 17);
+    numbers::put_u32(part, 4, 5);
+    numbers::put_u16(part, 8, 3);
+    numbers::put_u16(part, 10, 0);
+    numbers::put_u32(part, 12, 0);
+}
+
+// Page 5 of a file of eight pages, with keys 4, 5 and 13, whose homes are 4, 5 and 5.
+fn good_page(part: &mut [u8])
+    requires { ⌜ length (now part) ≡ 256 ⌝ }
+{
+    head(part);
+    slot(part, 0, 1, 4, 40);
+    slot(part, 1, 1, 5, 50);
+    slot(part, 2, 1, 13, 0);
+    empty_slots(part);
+}
+
+// A number of two or of eight bytes changed.
+fn change(part: &mut [u8], at: usize, eight: bool, x: u64)
+    requires { ⌜ (at + 8 ≤ 256) × (length (now part) ≡ 256) ⌝ }
+{
+    if eight {
+        numbers::put_u64(part, at, x);
+    } else {
+        numbers::put_u16(part, at, (x % 65536) as u16);
+    }
+}
+
+// The good page with a number changed, judged.
+fn judge_changed(name: &[u8], at: usize, eight: bool, x: u64)
+    requires { ⌜ at + 8 ≤ 256 ⌝ }
+{
+    let mut bytes = [0; 256];
+    good_page(&mut bytes[..]);
+    change(&mut bytes[..], at, eight, x);
+    let shape = Shape::new(1, 8, 1, 8);
+    let judged = pages::judge(&bytes[..], 5, shape);
+    io::write_all(STDOUT_FILENO, name);
+    if judged.good {
+        io::write_all(STDOUT_FILENO, b": good\n");
+    } else {
+        io::write_all(STDOUT_FILENO, b": broken\n");
+    }
+}
+
+fn head_cases() {
+    judge_changed(b"nothing changed", 0, false, 256);
+    judge_changed(b"head length 255", 0, false, 255);
+    judge_changed(b"head kind 0x0012", 2, false, 18);
+    judge_changed(b"address 6", 4, false, 6);
+    judge_changed(b"address 5 + 65536", 6, false, 1);
+    judge_changed(b"count 2, with three records", 8, false, 2);
+    judge_changed(b"count 4, with three records", 8, false, 4);
+    judge_changed(b"count 13", 8, false, 13);
+    judge_changed(b"first of the six zero bytes 1", 10, false, 1);
+    judge_changed(b"last of the six zero bytes 1", 14, false, 256);
+}
+
+fn slot_cases() {
+    judge_changed(b"slot 0 with length 21", 16, false, 21);
+    judge_changed(b"slot 11 with length 19", 236, false, 19);
+    judge_changed(b"slot 0 with kind 2", 18, false, 2);
+    judge_changed(b"slot 1 empty before a record", 38, false, 0);
+    judge_changed(b"slot 3 a record that is not counted", 78, false, 1);
+    judge_changed(b"an empty slot with a key", 80, true, 21);
+    judge_changed(b"an empty slot with a value", 248, true, 1);
+    judge_changed(b"another value", 48, true, 51);
+}
+
+fn order_cases() {
+    judge_changed(b"home 6 on page 5", 60, true, 14);
+    judge_changed(b"a lower home after a higher one", 40, true, 3);
+    judge_changed(b"a lower key after a higher one", 40, true, 21);
+    judge_changed(b"a key twice", 40, true, 13);
+    judge_changed(b"another key in order", 60, true, 21);
+}
+
+fn main() {
+    head_cases();
+    slot_cases();
+    order_cases();
+}

@@ -1,0 +1,116 @@
+-- The way of a rebuild: entries packed at the top end, sorted there, and laid on the pages.
+use mathlib.Core.Path.{_≡_, refl, ap, _∙_}
+use mathlib.Core.List.{List, [], _++_, map, append-nil}
+use Prim.Native.Nat.{ℕ, zero, suc, _+_, _-_, _*_, _/_, _^_, _≤_, _<_}
+use native.Mathlib.Omega.{arith}
+use mir.Syntax.{w8}
+use mir.Val as val
+use borrow.Rule.Slice.PartMut.{putMid}
+use lib.ListN.{length, take, drop, getD, length-append, length-drop, drop-of-length-le}
+use lib.Seq.{take-all, take-at, drop-at, length-take-le}
+use Rattle.placing.specs.Image.{All, cat, Distinct, RecordSet}
+use Rattle.placing.specs.Lay.{sort, lay, taken}
+use Rattle.placing.specs.Rows.{strayed}
+use Rattle.placing.proofs.Order.{Sorted}
+use Rattle.placing.proofs.Perms.{perm-length, sort-perm}
+use Rattle.pages.specs.Page.{Record, key, homeFor}
+use Rattle.pages.specs.Area.{heldFrom, areaFrom}
+use Rattle.entries.specs.declared.Entry.{Entry}
+use Rattle.entries.specs.Entries.{entriesIn, rowBytes, rank, home}
+use Rattle.entries.proofs.Entries.{Fits}
+use Rattle.entries.proofs.Rows.{row-length, entries-row}
+use Rattle.rebuild.specs.Rebuild.{packed, recordIn, hopsFrom, relaid}
+use Rattle.rebuild.proofs.Tags.{entries-few}
+use Rattle.rebuild.proofs.Fitting.{held-fit}
+use Rattle.rebuild.proofs.Commuting.{all-sort, pages-relaid, pages-distinct, pages-sorted, pages-room}
+use Rattle.rebuild.proofs.Moved.{pages-moved}
+
+-- the records of l, no key twice, packed from base on in m
+pub record Gathered (h : ℕ → ℕ) (cap : ℕ) (l : List ℕ) (base : ℕ) (m : List ℕ) : Type 0 where
+  pub small : cap ≤ 4096
+  pub size : length l ≡ 256 * cap
+  pub low : (k : ℕ) → h k < 2 ^ 16
+  pub fit : (k : ℕ) → val.Fits w8 (getD l k 0)
+  pub set : RecordSet key (cat (heldFrom l cap 0) [])
+  pub base-is : base ≡ 256 * cap - 20 * length (packed h cap l)
+  pub bytes : m ≡ take base l ++ rowBytes (packed h cap l)
+
+held-length : (area : List ℕ) (n a : ℕ) → length (heldFrom area n a) ≡ n
+held-length area zero a = refl
+held-length area (suc n) a = ap suc (held-length area n (suc a))
+
+module _ (h : ℕ → ℕ) (cap : ℕ) (l : List ℕ) (base : ℕ) (m : List ℕ) (g : Gathered h cap l base m) where
+  pub begins : base + 20 * length (packed h cap l) ≡ 256 * cap
+  unfolding packed
+  begins = omega (arith, g .base-is, entries-few h l cap 0)
+
+  pub base-whole : 256 * cap ≡ base + 20 * ((256 * cap - base) / 20)
+  base-whole = omega (arith, begins)
+
+  es-fit : All Fits (packed h cap l)
+  unfolding packed
+  es-fit = held-fit h l cap 0 (g .low) (λ k i. omega (arith, g .fit k)) (omega (arith, g .size)) (omega (arith, g .small))
+
+  front : length (take base l) ≡ base
+  front = length-take-le base l (omega (arith, begins, g .size))
+
+  -- as long as the area, with any as many entries
+  full : (fs : List Entry) → length fs ≡ length (packed h cap l) → length (take base l ++ rowBytes fs) ≡ 256 * cap
+  full fs e = omega (arith, length-append (take base l) (rowBytes fs), front, row-length fs, begins)
+
+  -- the part that is lent to be sorted
+  part : take (length m - base) (drop base m) ≡ rowBytes (packed h cap l)
+  part =
+      let d : drop base m ≡ rowBytes (packed h cap l) = rw (g .bytes) (drop-at (take base l) (rowBytes (packed h cap l)) base front) in
+      rw d (take-all (length m - base) (rowBytes (packed h cap l)) (omega (arith, row-length (packed h cap l), ap length (g .bytes), full (packed h cap l) refl, begins)))
+
+  pub part-whole : length (take (length m - base) (drop base m)) ≡ 20 * (length (take (length m - base) (drop base m)) / 20)
+  part-whole = rw part (omega (arith, row-length (packed h cap l)))
+
+  part-entries : entriesIn (take (length m - base) (drop base m)) ≡ packed h cap l
+  part-entries = ap entriesIn part ∙ entries-row (packed h cap l) es-fit
+
+  packed-distinct : Distinct rank (packed h cap l)
+  unfolding packed
+  packed-distinct = pages-distinct h (heldFrom l cap 0) (g .set)
+
+  pub part-distinct : Distinct rank (entriesIn (take (length m - base) (drop base m)))
+  part-distinct = rw part-entries packed-distinct
+
+  module _ (k : List ℕ) (e : k ≡ rowBytes (sort rank (entriesIn (take (length m - base) (drop base m))))) where
+    -- the area with that part back
+    back : putMid base (length m - base) m k ≡ take base l ++ rowBytes (sort rank (packed h cap l))
+    back =
+        let t : take base m ≡ take base l = rw (g .bytes) (take-at (take base l) (rowBytes (packed h cap l)) base front) in
+        let d : drop (length m - base) (drop base m) ≡ [] = drop-of-length-le (drop base m) {i = length m - base} (omega (arith, length-drop base m)) in
+        let s : k ≡ rowBytes (sort rank (packed h cap l)) = e ∙ ap (λ (x : List Entry). rowBytes (sort rank x)) part-entries in
+        rw (t, d, s, append-nil)
+
+    -- holds the entries in order
+    back-entries : entriesIn (drop base (putMid base (length m - base) m k)) ≡ sort rank (packed h cap l)
+    back-entries =
+        rw (back, drop-at (take base l) (rowBytes (sort rank (packed h cap l))) base front)
+        (entries-row (sort rank (packed h cap l)) (all-sort Fits rank (packed h cap l) es-fit))
+
+    pub back-length : length (putMid base (length m - base) m k) ≡ 256 * cap
+    back-length = rw back (full (sort rank (packed h cap l)) (perm-length (sort-perm rank (packed h cap l))))
+
+    pub back-sorted : Sorted rank (entriesIn (drop base (putMid base (length m - base) m k)))
+    unfolding packed
+    back-sorted = rw back-entries (pages-sorted h (heldFrom l cap 0) (g .set))
+
+    pub back-room : taken (homeFor h) 12 (cat (heldFrom l cap 0) []) cap ≡ length (cat (heldFrom l cap 0) [])
+        → taken home 12 (entriesIn (drop base (putMid base (length m - base) m k))) cap ≡ length (entriesIn (drop base (putMid base (length m - base) m k)))
+    unfolding packed
+    back-room r = rw back-entries (pages-room h (heldFrom l cap 0) cap r)
+
+    -- and is laid as the records are
+    pub back-moved : hopsFrom 0 (lay home 12 cap 0 (entriesIn (drop base (putMid base (length m - base) m k))))
+        ≡ strayed key (heldFrom l cap 0) (relaid h cap (heldFrom l cap 0))
+    unfolding packed
+    back-moved = rw back-entries (pages-moved h cap (heldFrom l cap 0) (held-length l cap 0) (g .set .once))
+
+    pub back-laid : areaFrom 0 (map (map recordIn) (lay home 12 cap 0 (entriesIn (drop base (putMid base (length m - base) m k)))))
+        ≡ areaFrom 0 (relaid h cap (heldFrom l cap 0))
+    unfolding packed
+    back-laid = rw back-entries (ap (λ (qs : List (List Record)). areaFrom 0 qs) (pages-relaid h (heldFrom l cap 0) cap))

@@ -1,0 +1,46 @@
+-- The entries of pages: how many they are, and that they fit.
+use mathlib.Core.Path.{_≡_, refl, ap, _∙_}
+use mathlib.Core.List.{List, [], _∷_, _++_}
+use Prim.Native.Nat.{ℕ, zero, suc, _*_, _^_, _≤_, _<_}
+use native.Mathlib.Omega.{arith}
+use lib.ListN.{length, length-append}
+use Rattle.homes.specs.declared.Shape.{Shape}
+use Rattle.homes.specs.Homes.{Ready, homeIn}
+use Rattle.homes.proofs.Homes.{home-below}
+use Rattle.pages.specs.declared.Page.{Page}
+use Rattle.pages.specs.Page.{Record, inMemory, recordsIn}
+use Rattle.pages.specs.Slots.{recordsOf}
+use Rattle.pages.specs.Area.{partAt, heldFrom}
+use Rattle.pages.proofs.Memory.{memory}
+use Rattle.pages.proofs.Read.{held-few}
+use Rattle.rebuild.specs.Rebuild.{tagged, taggedFrom}
+
+pub tagged-append : (h : ℕ → ℕ) (a : ℕ) (p q : List Record) → tagged h a (p ++ q) ≡ tagged h a p ++ tagged h a q
+tagged-append h a [] q = refl
+tagged-append h a (x ∷ p) q = rw (tagged-append h a p q)
+
+pub tagged-length : (h : ℕ → ℕ) (a : ℕ) (p : List Record) → length (tagged h a p) ≡ length p
+tagged-length h a [] = refl
+tagged-length h a (x ∷ p) = ap suc (tagged-length h a p)
+
+-- a page in memory holds what was read
+pub page-count : (p : Page) (rs : List Record) → p ≡ inMemory rs → p .count ≡ length rs
+unfolding inMemory
+page-count p rs e = rw e
+
+pub page-records : (p : Page) (rs : List Record) → p ≡ inMemory rs → recordsOf p ≡ rs
+page-records p rs e = ap recordsOf e ∙ memory rs
+
+pub page-few : (p : Page) (l : List ℕ) → p ≡ inMemory (recordsIn l) → p .count ≤ 12
+page-few p l e = omega (arith, page-count p (recordsIn l) e, held-few l)
+
+-- twelve entries a page at most, which take less than its bytes
+pub entries-few : (h : ℕ → ℕ) (area : List ℕ) (n a : ℕ) → length (taggedFrom h a (heldFrom area n a)) ≤ 12 * n
+entries-few h area zero a = omega arith
+entries-few h area (suc n) a =
+    let p : List Record = recordsIn (partAt area a) in
+    omega (arith, length-append (tagged h a p) (taggedFrom h (suc a) (heldFrom area n (suc a))), tagged-length h a p, held-few (partAt area a), entries-few h area n (suc a))
+
+-- a home fits two bytes
+pub home-small : (shape : Shape) (k r : ℕ) → Ready shape → r ≡ homeIn shape k → r < 2 ^ 16
+home-small shape k r h e = omega (arith, e, home-below (shape .n0) (shape .n) (shape .s) (shape .p) k h, h .P-high)

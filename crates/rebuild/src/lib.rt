@@ -1,0 +1,139 @@
+// A file made anew in its own area: its records packed as entries at the top end, sorted by (home, key), and laid on the pages from below.
+use entries::Entry;
+use homes::Shape;
+use pages::Page;
+ghost use mathlib.Core.Path.{_≡_};
+ghost use mathlib.Core.Bool.{not};
+ghost use mathlib.Core.List.{[], _++_, map};
+ghost use Prim.Native.Nat.{_+_, _-_, _*_, _/_, _≤_, _<_};
+ghost use lib.ListN.{length, take, drop};
+ghost use lib.Dec.{eqb};
+ghost use Rattle.numbers.specs.Little.{written};
+ghost use Rattle.homes.specs.Homes.{Ready, homeIn};
+ghost use Rattle.placing.specs.Image.{RecordSet, cat};
+ghost use Rattle.placing.specs.Lay.{one, lay, taken};
+ghost use Rattle.placing.specs.Rows.{strayed};
+ghost use Rattle.placing.proofs.Order.{Sorted};
+ghost use Rattle.pages.specs.Page.{key, homeFor};
+ghost use Rattle.pages.specs.Slots.{recordsOf};
+ghost use Rattle.pages.specs.Area.{heldFrom, areaFrom};
+ghost use Rattle.entries.specs.Entries.{entriesIn, rowBytes, rank, home};
+ghost use Rattle.rebuild.specs.Rebuild.{tagged, packed, recordIn, hopsFrom, took, relaid};
+
+// A page filled from entries: where the next entry stands, and how many came from another page.
+pub struct Took {
+    pub page: Page,
+    pub next: usize,
+    pub moved: u32,
+}
+
+// The records of page a as entries, the last first, downward from `top`; the answer is where they begin.
+fn pack_page(area: &mut [u8], page: Page, a: usize, shape: Shape, top: usize) -> usize
+    requires { ⌜ (page .count ≤ 12) × (a < 4096) × (20 * page .count ≤ top) × (top ≤ length (now area)) × Ready shape ⌝ }
+    ensures { λ r. ⌜ r ≡ top - 20 * page .count ⌝ }
+    ensures { λ r. ⌜ now (area .exit) ≡ written (now (area .entry)) (top - 20 * page .count) (rowBytes (tagged (homeIn shape) a (recordsOf page))) ⌝ }
+{
+    let keys = page.keys;
+    let values = page.values;
+    let mut at = top;
+    let mut i = page.count;
+    while 0 < i {
+        i -= 1;
+        at -= 20;
+        let key = keys[i];
+        let home = shape.home(key) as u16;
+        let e = Entry {
+            home,
+            from: a as u16,
+            key,
+            value: values[i],
+        };
+        entries::put_entry(area, at, e);
+    }
+    at
+}
+
+// All records of an area as entries at its top end, in the order of the pages; the answer is where they begin. A page is read before entries may cover it.
+pub fn pack(area: &mut [u8], cap: usize, shape: Shape) -> usize
+    requires { ⌜ (cap ≤ 4096) × (length (now area) ≡ 256 * cap) × Ready shape ⌝ }
+    ensures { λ r. ⌜ r ≡ 256 * cap - 20 * length (packed (homeIn shape) cap (now (area .entry))) ⌝ }
+    ensures { λ r. ⌜ now (area .exit) ≡ take r (now (area .entry)) ++ rowBytes (packed (homeIn shape) cap (now (area .entry))) ⌝ }
+{
+    let mut at = 256 * cap;
+    let mut a = cap;
+    while 0 < a {
+        a -= 1;
+        let page = pages::parse_at(&area[..], a);
+        at = pack_page(area, page, a, shape, at);
+    }
+    at
+}
+
+// Page a takes entries while it has a slot and the next entry's home is not above it.
+fn take_page(area: &[u8], at: usize, a: usize) -> Took
+    requires { ⌜ (at ≤ length (now area)) × (length (now area) ≡ at + 20 * ((length (now area) - at) / 20)) × (a < 4096) ⌝ }
+    ensures { λ r. ⌜ r ≡ took a at (entriesIn (drop at (now (area .entry)))) ⌝ }
+{
+    let mut keys = [0; 12];
+    let mut values = [0; 12];
+    let mut count = 0;
+    let mut next = at;
+    let mut moved: u32 = 0;
+    while (count < 12) & (next < area.len()) {
+        let e = entries::get_entry(area, next);
+        if (a as u16) < e.home {
+            break;
+        }
+        keys[count] = e.key;
+        values[count] = e.value;
+        moved += strange(e.from, a);
+        count += 1;
+        next += 20;
+    }
+    let page = Page {
+        count,
+        keys,
+        values,
+    };
+    Took { page, next, moved }
+}
+
+// 1 where an entry comes from another page than a.
+fn strange(from: u16, a: usize) -> u32
+    ensures { λ r. ⌜ r ≡ one (not (eqb from a)) ⌝ }
+{
+    if from as usize == a { 0 } else { 1 }
+}
+
+// Sorted entries at the top end of an area laid on its pages; the answer is how many came from another page. Where all have room, a page ends below the first entry that is not yet read.
+pub fn unpack(area: &mut [u8], cap: usize, base: usize) -> u32
+    requires { ⌜ (cap ≤ 4096) × (length (now area) ≡ 256 * cap) × (base ≤ 256 * cap) × (256 * cap ≡ base + 20 * ((256 * cap - base) / 20)) ⌝ }
+    requires { ⌜ Sorted rank (entriesIn (drop base (now area))) × (taken home 12 (entriesIn (drop base (now area))) cap ≡ length (entriesIn (drop base (now area)))) ⌝ }
+    ensures { λ r. ⌜ r ≡ hopsFrom 0 (lay home 12 cap 0 (entriesIn (drop base (now (area .entry))))) ⌝ }
+    ensures { λ r. ⌜ now (area .exit) ≡ areaFrom 0 (map (map recordIn) (lay home 12 cap 0 (entriesIn (drop base (now (area .entry)))))) ⌝ }
+{
+    let mut moved = 0;
+    let mut at = base;
+    let mut a = 0;
+    while a < cap {
+        let t = take_page(&area[..], at, a);
+        let page = t.page;
+        pages::store_at(area, a, page);
+        at = t.next;
+        moved += t.moved;
+        a += 1;
+    }
+    moved
+}
+
+// The records of an area laid anew for the homes of a shape; the answer is how many lie on another page.
+pub fn rebuild(area: &mut [u8], cap: usize, shape: Shape) -> u32
+    requires { ⌜ (cap ≤ 4096) × (length (now area) ≡ 256 * cap) × Ready shape ⌝ }
+    requires { ⌜ RecordSet key (cat (heldFrom (now area) cap 0) []) × (taken (homeFor (homeIn shape)) 12 (cat (heldFrom (now area) cap 0) []) cap ≡ length (cat (heldFrom (now area) cap 0) [])) ⌝ }
+    ensures { λ r. ⌜ r ≡ strayed key (heldFrom (now (area .entry)) cap 0) (relaid (homeIn shape) cap (heldFrom (now (area .entry)) cap 0)) ⌝ }
+    ensures { λ r. ⌜ now (area .exit) ≡ areaFrom 0 (relaid (homeIn shape) cap (heldFrom (now (area .entry)) cap 0)) ⌝ }
+{
+    let base = pack(area, cap, shape);
+    entries::sort_row(&mut area[base..]);
+    unpack(area, cap, base)
+}

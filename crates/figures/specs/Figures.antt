@@ -2,8 +2,22 @@
 use mathlib.Core.Path.{_≡_, refl}
 use mathlib.Core.List.{List, [], _∷_, _++_, map}
 use mathlib.Core.Bool.{cond}
-use Prim.Native.Nat.{ℕ}
+use Prim.Native.Nat.{ℕ, _*_}
+use lib.ListN.{length, replicate}
+use Rattle.numbers.specs.Little.{little, bytesOf, numberAt, written}
+use Rattle.numbers.specs.Fields.{encode}
 use Rattle.homes.specs.Homes.{draw, mover, swept, newPage, moved, nextGroups, steps, home}
+use Rattle.pages.specs.Page.{key, pageBytes, recordsIn, wellFormed, readPage, inMemory}
+use Rattle.pages.specs.Slots.{opened, closed}
+use Rattle.pages.specs.Area.{partAt}
+use Rattle.state.specs.declared.Done.{Done}
+use Rattle.state.specs.State.{all, inRange, isDue}
+use Rattle.state.specs.Answer.{numbers}
+use Rattle.walks.specs.Walks.{walk, putWalk}
+use Rattle.survey.specs.Survey.{isImage, surveyed}
+use Rattle.rebuild.specs.Rebuild.{relaid}
+use Rattle.register.specs.Gates.{gateOf, imageGate, growGate}
+use Rattle.register.specs.Calls.{Outcome, Growth, formatted, stored, grownFile, grew}
 
 -- "Seed 1: draws"
 abbrev draws : List ℕ
@@ -21,17 +35,103 @@ homes K = map (λ P. home 2 2 1 P K) (4 ∷ 5 ∷ 6 ∷ 7 ∷ 8 ∷ [])
 abbrev movers : List ℕ
 movers = map (λ K. cond (mover 2 K 1) 1 0) (42590 ∷ 42591 ∷ [])
 
-abbrev pub given : List ℕ
-given = draws ++ grown ++ homes 0 ++ homes 1 ++ movers
+-- "P 4: 38 records not due, 39 due": 1 for due, 0 for not
+abbrev dues : List ℕ
+dues = map (λ r. cond (isDue (record { n0 = 2; n = 2; s = 1; p = 4; cap = 4; r = r })) 1 0) (38 ∷ 39 ∷ [])
 
-abbrev pub printed : List ℕ
+-- a file of n0, N and s all 1 in an area that held other bytes before
+abbrev file : (cap : ℕ) → Outcome
+file cap = formatted (record { n0 = 0; n = 0; s = 0; p = 0; cap = 0; r = 0 }) 1 1 1 cap (replicate (256 * cap) 255)
+
+-- keys put one after the other, each with itself as its value
+abbrev putAll : List ℕ → Outcome → Outcome
+putAll [] o = o
+putAll (k ∷ ks) o = putAll ks (stored (o .done .state) (o .area) (k, k))
+
+-- and then one page more
+abbrev grow : Outcome → Growth
+grow o = grew (o .done .state) (o .area) (replicate 2 0)
+
+-- the refusal of an answer, and what it moved
+abbrev refusal : Done → ℕ
+refusal d = numbers (d .answer) .refusal
+
+abbrev movedBy : Done → ℕ
+movedBy d = numbers (d .answer) .moved
+
+-- the keys of a page
+abbrev keysOn : List ℕ → ℕ → List ℕ
+keysOn area a = map key (recordsIn (partAt area a))
+
+abbrev twelve : List ℕ
+twelve = 0 ∷ 1 ∷ 2 ∷ 3 ∷ 4 ∷ 5 ∷ 6 ∷ 7 ∷ 8 ∷ 9 ∷ 10 ∷ 11 ∷ []
+
+-- "Keys 0 to 11, then grow: all twelve on page 1, page 0 empty, moved 12."
+abbrev moves : Growth → List ℕ
+moves g = refusal (g .done) ∷ movedBy (g .done) ∷ length (keysOn (g .area) 0) ∷ keysOn (g .area) 1
+
+-- "Then key 12 is refused with 7, though page 0 is empty."
+abbrev then12 : Growth → List ℕ
+then12 g = refusal (stored (g .done .state) (g .area) (12, 12) .done) ∷ []
+
+-- "Keys 0 to 12 put at P 1: page 0 holds 0 to 11, page 1 holds 12; grow is refused with 7."
+abbrev thirteen : Outcome → List ℕ
+thirteen o = keysOn (o .area) 0 ++ keysOn (o .area) 1 ++ refusal (grow o .done) ∷ []
+
+-- "cap 1: the thirteenth key is refused with 7, a held key still gets 6."
+abbrev onePage : Outcome → List ℕ
+onePage o = refusal (stored (o .done .state) (o .area) (12, 12) .done) ∷ refusal (stored (o .done .state) (o .area) (5, 12) .done) ∷ []
+
+-- The table: a row for each figure, as the definitions give it ..
+abbrev pub given : List (List ℕ)
+given =
+    draws
+    ∷ grown
+    ∷ homes 0
+    ∷ homes 1
+    ∷ movers
+    ∷ dues
+    ∷ moves (grow (putAll twelve (file 2)))
+    ∷ then12 (grow (putAll twelve (file 2)))
+    ∷ thirteen (putAll (twelve ++ 12 ∷ []) (file 2))
+    ∷ onePage (putAll twelve (file 1))
+    ∷ []
+
+-- .. and as 01 prints it
+abbrev pub printed : List (List ℕ)
 printed =
-    16807 ∷ 282475249 ∷ 1622650073 ∷ 984943658 ∷
-    16 ∷ 17 ∷ 18 ∷ 19 ∷ 20 ∷ 21 ∷ 22 ∷ 23 ∷
-    0 ∷ 0 ∷ 5 ∷ 6 ∷ 6 ∷
-    1 ∷ 4 ∷ 4 ∷ 4 ∷ 4 ∷
-    1 ∷ 0 ∷ []
+    (16807 ∷ 282475249 ∷ 1622650073 ∷ 984943658 ∷ [])
+    ∷ (16 ∷ 17 ∷ 18 ∷ 19 ∷ 20 ∷ 21 ∷ 22 ∷ 23 ∷ [])
+    ∷ (0 ∷ 0 ∷ 5 ∷ 6 ∷ 6 ∷ [])
+    ∷ (1 ∷ 4 ∷ 4 ∷ 4 ∷ 4 ∷ [])
+    ∷ (1 ∷ 0 ∷ [])
+    ∷ (0 ∷ 1 ∷ [])
+    ∷ (0 ∷ 12 ∷ 0 ∷ 0 ∷ 1 ∷ 2 ∷ 3 ∷ 4 ∷ 5 ∷ 6 ∷ 7 ∷ 8 ∷ 9 ∷ 10 ∷ 11 ∷ [])
+    ∷ (7 ∷ [])
+    ∷ (0 ∷ 1 ∷ 2 ∷ 3 ∷ 4 ∷ 5 ∷ 6 ∷ 7 ∷ 8 ∷ 9 ∷ 10 ∷ 11 ∷ 12 ∷ 7 ∷ [])
+    ∷ (7 ∷ 6 ∷ [])
+    ∷ []
+
+-- the rows that take a run of the calls, each worked out by itself
+run-moves : moves (grow (putAll twelve (file 2))) ≡ (0 ∷ 12 ∷ 0 ∷ 0 ∷ 1 ∷ 2 ∷ 3 ∷ 4 ∷ 5 ∷ 6 ∷ 7 ∷ 8 ∷ 9 ∷ 10 ∷ 11 ∷ [])
+unfolding draw mover swept moved nextGroups steps home little bytesOf numberAt written encode pageBytes recordsIn wellFormed readPage inMemory partAt opened closed all inRange walk putWalk isImage surveyed gateOf imageGate growGate relaid grownFile
+run-moves = refl
+
+run-then12 : then12 (grow (putAll twelve (file 2))) ≡ (7 ∷ [])
+unfolding draw mover swept moved nextGroups steps home little bytesOf numberAt written encode pageBytes recordsIn wellFormed readPage inMemory partAt opened closed all inRange walk putWalk isImage surveyed gateOf imageGate growGate relaid grownFile
+run-then12 = refl
+
+run-thirteen : thirteen (putAll (twelve ++ 12 ∷ []) (file 2)) ≡ (0 ∷ 1 ∷ 2 ∷ 3 ∷ 4 ∷ 5 ∷ 6 ∷ 7 ∷ 8 ∷ 9 ∷ 10 ∷ 11 ∷ 12 ∷ 7 ∷ [])
+unfolding draw mover swept moved nextGroups steps home little bytesOf numberAt written encode pageBytes recordsIn wellFormed readPage inMemory partAt opened closed all inRange walk putWalk isImage surveyed gateOf imageGate growGate relaid grownFile
+run-thirteen = refl
+
+run-one : onePage (putAll twelve (file 1)) ≡ (7 ∷ 6 ∷ [])
+unfolding draw mover swept moved nextGroups steps home little bytesOf numberAt written encode pageBytes recordsIn wellFormed readPage inMemory partAt opened closed all inRange walk putWalk isImage surveyed gateOf imageGate growGate relaid grownFile
+run-one = refl
+
+row : {a b : List ℕ} {s t : List (List ℕ)} → a ≡ b → s ≡ t → (a ∷ s) ≡ (b ∷ t)
+row e f = rw (e, f)
 
 pub figures : given ≡ printed
-unfolding draw mover swept moved nextGroups steps home
-figures = refl
+unfolding draw mover swept moved nextGroups steps home little bytesOf numberAt written encode pageBytes recordsIn wellFormed readPage inMemory partAt opened closed all inRange walk putWalk isImage surveyed gateOf imageGate growGate relaid grownFile
+figures = row refl (row refl (row refl (row refl (row refl (row refl (row run-moves (row run-then12 (row run-thirteen (row run-one refl)))))))))

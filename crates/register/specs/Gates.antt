@@ -1,0 +1,47 @@
+-- What a call refuses before it does anything (01, 'Refusal numbers'), in 01's order. What is quoted is 01's.
+use Prim.Native.Nat.{ℕ, suc, _*_, _<_}
+use mathlib.Core.Path.{_≡_}
+use mathlib.Core.Bool.{true, cond, _&&_}
+use mathlib.Core.List.{List}
+use lib.ListN.{length}
+use lib.Dec.{eqb}
+use Rattle.state.specs.declared.State.{State}
+use Rattle.state.specs.State.{inRange, homes}
+use Rattle.state.specs.declared.Answer.{Answer}
+use Rattle.state.specs.declared.Answer.the-variants.{OutOfRange, WrongArea, WrongRow, Broken, AtCap, NotImage}
+use Rattle.survey.specs.declared.Verdict.{Verdict}
+use Rattle.survey.specs.declared.Verdict.the-variants.{Sick, Whole}
+use Rattle.survey.specs.Survey.{surveyed}
+use Rattle.register.specs.declared.Gate.{Gate}
+use Rattle.register.specs.declared.Gate.the-variants.{Open, Shut}
+
+abbrev pub onGate : {A : Type 0} → Gate → (Answer → A) → A → A
+onGate Open refuse on = on
+onGate (Shut why) refuse on = refuse why
+
+-- "1 a state number out of range", then "2 area isn't 256 x cap bytes", of an area of n bytes
+unfoldable pub gateOf : State → (n : ℕ) → Gate
+gateOf s n = cond (inRange s) (cond (eqb n (256 * s .cap)) Open (Shut WrongArea)) (Shut OutOfRange)
+
+-- "Check says yes exactly when the area is the image of r records. Otherwise 4 with the lowest broken page, or, with none broken, 9." Pages are judged from 0 upward, so a broken page a is the last of a + 1 that are read.
+abbrev pub imageOf : State → Verdict → Gate
+imageOf s (Sick a) = Shut (Broken a (suc a))
+imageOf s (Whole image records) = cond (image && eqb records (s .r)) Open (Shut (NotImage (s .cap)))
+
+unfoldable pub imageGate : State → List ℕ → Gate
+imageGate s area = imageOf s (surveyed (homes s) area (s .cap))
+
+-- "Grow 1, 2, 3, 8, 4, 9", with a row of n counts
+unfoldable pub growGate : State → List ℕ → (n : ℕ) → Gate
+growGate s area n =
+    onGate (gateOf s (length area)) Shut
+    (cond (eqb n (s .cap)) (cond (eqb (s .p) (s .cap)) (Shut AtCap) (imageGate s area)) (Shut WrongRow))
+
+-- what is known past a gate
+abbrev pub OpenFor : State → ℕ → Gate → Type 0
+OpenFor s n Open = (inRange s ≡ true) × (n ≡ 256 * s .cap)
+OpenFor s n (Shut why) = Unit {0}
+
+abbrev pub OpenToGrow : State → List ℕ → ℕ → Gate → Type 0
+OpenToGrow s area n Open = (inRange s ≡ true) × (length area ≡ 256 * s .cap) × (n ≡ s .cap) × (s .p < s .cap) × (imageGate s area ≡ Open)
+OpenToGrow s area n (Shut why) = Unit {0}

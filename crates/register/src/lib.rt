@@ -1,0 +1,347 @@
+// The register: request number -> the commit it became, in a lent area of pages. Every call takes any numbers and any bytes, and answers.
+use homes::Shape;
+use state::Answer;
+use state::Done;
+use state::State;
+use survey::Verdict;
+use walks::Met;
+use walks::Plan;
+ghost use mathlib.Core.Path.{_≡_};
+ghost use mathlib.Core.Bool.{true};
+ghost use mathlib.Core.List.{[]};
+ghost use Prim.Native.Nat.{_*_, _≤_, _<_};
+ghost use lib.ListN.{length, replicate};
+ghost use lib.Dec.{eqb};
+ghost use Rattle.pages.specs.Area.{areaFrom};
+ghost use Rattle.state.specs.State.{inRange, homes, oneMore, oneLess};
+ghost use Rattle.walks.specs.Walks.{walk, findAnswer, putWalk, removeWalk};
+ghost use Rattle.register.specs.declared.Gate.the-variants.{Open};
+ghost use Rattle.register.specs.Gates.{gateOf, imageGate, growGate, OpenFor, OpenToGrow};
+ghost use Rattle.register.specs.Calls.{formatted, found, settled, stored, removed, checked, grownFile, grew};
+
+// Whether a call may go on, or why not.
+pub enum Gate {
+    Open,
+    Shut { why: Answer },
+}
+
+// The refusals that need no page: a number out of range, an area of another length.
+fn gate(state: State, length: usize) -> Gate
+    ensures { λ r. ⌜ r ≡ gateOf state length ⌝ }
+    ensures within { λ r. ⌜ OpenFor state length r ⌝ }
+{
+    if !state.in_range() {
+        return Gate::Shut {
+            why: Answer::OutOfRange,
+        };
+    }
+    if length != 256 * (state.cap as usize) {
+        return Gate::Shut {
+            why: Answer::WrongArea,
+        };
+    }
+    Gate::Open
+}
+
+// All pages empty.
+fn clear_pages(area: &mut [u8], cap: usize)
+    requires { ⌜ (cap ≤ 4096) × (length (now area) ≡ 256 * cap) ⌝ }
+    ensures { λ _. ⌜ now (area .exit) ≡ areaFrom 0 (replicate cap []) ⌝ }
+{
+    let blank = pages::blank();
+    let mut a = 0;
+    while a < cap {
+        pages::store_at(area, a, blank);
+        a += 1;
+    }
+}
+
+// An empty file, whatever was held before. It is judged on the numbers that are asked for; a refused one leaves the old file and its state.
+pub fn format(state: State, n0: u16, n: u16, s: u16, cap: u16, area: &mut [u8]) -> Done
+    ensures { λ r. ⌜ r ≡ formatted state n0 n s cap (now (area .entry)) .done ⌝ }
+    ensures { λ _. ⌜ now (area .exit) ≡ formatted state n0 n s cap (now (area .entry)) .area ⌝ }
+{
+    if 65535 < (n0 as u32) * (n as u32) {
+        return Done {
+            state,
+            answer: Answer::OutOfRange,
+        };
+    }
+    let fresh = State::new(n0, n, s, cap);
+    let gate = gate(fresh, area.len());
+    match gate {
+        Gate::Shut { why } => Done { state, answer: why },
+        Gate::Open => {
+            clear_pages(area, cap as usize);
+            let answer = Answer::Accepted {
+                value: 0,
+                read: 0,
+                moved: 0,
+            };
+            Done {
+                state: fresh,
+                answer,
+            }
+        }
+    }
+}
+
+// The walk's answer to a find.
+fn find_answer(met: Met) -> Answer
+    requires { ⌜ metIn 4096 met ⌝ }
+    ensures { λ r. ⌜ r ≡ findAnswer met ⌝ }
+{
+    match met {
+        Met::Found {
+            page: _,
+            slot: _,
+            count: _,
+            value,
+            read,
+        } => Answer::Accepted {
+            value,
+            read,
+            moved: 0,
+        },
+        Met::Sick { page, read } => Answer::Broken {
+            page: page as u16,
+            read,
+        },
+        Met::Ends {
+            page: _,
+            at: _,
+            count: _,
+            read,
+        } => Answer::Absent { read },
+        Met::Past { read } => Answer::Absent { read },
+    }
+}
+
+// The value of a key.
+pub fn find(state: State, area: &[u8], key: u64) -> Done
+    ensures { λ r. ⌜ r ≡ found state (now (area .entry)) key ⌝ }
+{
+    let gate = gate(state, area.len());
+    match gate {
+        Gate::Shut { why } => Done { state, answer: why },
+        Gate::Open => {
+            let shape = state.shape();
+            let met = walks::meet(area, state.cap as usize, shape, key);
+            let answer = find_answer(met);
+            Done { state, answer }
+        }
+    }
+}
+
+// A put past the gate.
+fn put_open(state: State, area: &mut [u8], key: u64, value: u64) -> Done
+    requires { ⌜ (inRange state ≡ true) × (length (now area) ≡ 256 * state .cap) ⌝ }
+    ensures { λ r. ⌜ r ≡ settled state (now (area .entry)) (oneMore state) (eqb (state .r) (12 * state .cap)) (putWalk (homes state) (now (area .entry)) (state .cap) (key, value)) .done ⌝ }
+    ensures { λ _. ⌜ now (area .exit) ≡ settled state (now (area .entry)) (oneMore state) (eqb (state .r) (12 * state .cap)) (putWalk (homes state) (now (area .entry)) (state .cap) (key, value)) .area ⌝ }
+{
+    let shape = state.shape();
+    let plan = walks::plan_put(&area[..], state.cap as usize, shape, key);
+    match plan {
+        Plan::Stop { why } => Done { state, answer: why },
+        Plan::Go {
+            first,
+            at,
+            last,
+            read,
+        } => {
+            if state.r == 12 * (state.cap as u32) {
+                return Done {
+                    state,
+                    answer: Answer::NotImage { read },
+                };
+            }
+            walks::pour(area, shape, first, at, last, key, value);
+            let next = state.one_more();
+            let answer = Answer::Accepted {
+                value: 0,
+                read,
+                moved: (last - first) as u32,
+            };
+            Done {
+                state: next,
+                answer,
+            }
+        }
+    }
+}
+
+// A record more, unless its key is held.
+pub fn put(state: State, area: &mut [u8], key: u64, value: u64) -> Done
+    ensures { λ r. ⌜ r ≡ stored state (now (area .entry)) (key, value) .done ⌝ }
+    ensures { λ _. ⌜ now (area .exit) ≡ stored state (now (area .entry)) (key, value) .area ⌝ }
+{
+    let gate = gate(state, area.len());
+    match gate {
+        Gate::Shut { why } => Done { state, answer: why },
+        Gate::Open => put_open(state, area, key, value),
+    }
+}
+
+// A remove past the gate.
+fn remove_open(state: State, area: &mut [u8], key: u64) -> Done
+    requires { ⌜ (inRange state ≡ true) × (length (now area) ≡ 256 * state .cap) ⌝ }
+    ensures { λ r. ⌜ r ≡ settled state (now (area .entry)) (oneLess state) (eqb (state .r) 0) (removeWalk (homes state) (now (area .entry)) (state .cap) key) .done ⌝ }
+    ensures { λ _. ⌜ now (area .exit) ≡ settled state (now (area .entry)) (oneLess state) (eqb (state .r) 0) (removeWalk (homes state) (now (area .entry)) (state .cap) key) .area ⌝ }
+{
+    let shape = state.shape();
+    let plan = walks::plan_remove(&area[..], state.cap as usize, shape, key);
+    match plan {
+        Plan::Stop { why } => Done { state, answer: why },
+        Plan::Go {
+            first,
+            at,
+            last,
+            read,
+        } => {
+            if state.r == 0 {
+                return Done {
+                    state,
+                    answer: Answer::NotImage { read },
+                };
+            }
+            walks::draw_back(area, shape, first, at, last);
+            let next = state.one_less();
+            let answer = Answer::Accepted {
+                value: 0,
+                read,
+                moved: (last - first) as u32,
+            };
+            Done {
+                state: next,
+                answer,
+            }
+        }
+    }
+}
+
+// A record less.
+pub fn remove(state: State, area: &mut [u8], key: u64) -> Done
+    ensures { λ r. ⌜ r ≡ removed state (now (area .entry)) key .done ⌝ }
+    ensures { λ _. ⌜ now (area .exit) ≡ removed state (now (area .entry)) key .area ⌝ }
+{
+    let gate = gate(state, area.len());
+    match gate {
+        Gate::Shut { why } => Done { state, answer: why },
+        Gate::Open => remove_open(state, area, key),
+    }
+}
+
+// Whether the area is the image of the records that the state tells of.
+fn image_gate(state: State, area: &[u8]) -> Gate
+    requires { ⌜ (inRange state ≡ true) × (length (now area) ≡ 256 * state .cap) ⌝ }
+    ensures { λ r. ⌜ r ≡ imageGate state (now (area .entry)) ⌝ }
+{
+    let shape = state.shape();
+    let verdict = survey::survey(area, state.cap as usize, shape);
+    match verdict {
+        Verdict::Sick { page } => Gate::Shut {
+            why: Answer::Broken {
+                page: page as u16,
+                read: page as u32 + 1,
+            },
+        },
+        Verdict::Whole { image, records } => {
+            if image & (records == state.r) {
+                return Gate::Open;
+            }
+            Gate::Shut {
+                why: Answer::NotImage {
+                    read: state.cap as u32,
+                },
+            }
+        }
+    }
+}
+
+// The whole file judged.
+pub fn check(state: State, area: &[u8]) -> Done
+    ensures { λ r. ⌜ r ≡ checked state (now (area .entry)) ⌝ }
+{
+    let gate = gate(state, area.len());
+    match gate {
+        Gate::Shut { why } => Done { state, answer: why },
+        Gate::Open => {
+            let image = image_gate(state, area);
+            match image {
+                Gate::Shut { why } => Done { state, answer: why },
+                Gate::Open => {
+                    let answer = Answer::Accepted {
+                        value: 0,
+                        read: state.cap as u32,
+                        moved: 0,
+                    };
+                    Done { state, answer }
+                }
+            }
+        }
+    }
+}
+
+// Whether a growth may go on, with a row of n counts.
+fn grow_gate(state: State, area: &[u8], n: usize) -> Gate
+    ensures { λ r. ⌜ r ≡ growGate state (now (area .entry)) n ⌝ }
+    ensures within { λ r. ⌜ OpenToGrow state (now (area .entry)) n r ⌝ }
+{
+    let gate = gate(state, area.len());
+    match gate {
+        Gate::Shut { why } => Gate::Shut { why },
+        Gate::Open => {
+            if n != state.cap as usize {
+                return Gate::Shut {
+                    why: Answer::WrongRow,
+                };
+            }
+            if state.p == state.cap {
+                return Gate::Shut { why: Answer::AtCap };
+            }
+            image_gate(state, area)
+        }
+    }
+}
+
+// A growth past its gate: the row is filled and decides; then the file is made anew in its own area.
+fn grow_open(state: State, area: &mut [u8], row: &mut [u32]) -> Done
+    requires { ⌜ OpenToGrow state (now area) (length (now row)) Open ⌝ }
+    ensures { λ r. ⌜ r ≡ grownFile state (now (area .entry)) .done ⌝ }
+    ensures { λ _. ⌜ now (area .exit) ≡ grownFile state (now (area .entry)) .area ⌝ }
+    ensures { λ _. ⌜ now (row .exit) ≡ grownFile state (now (area .entry)) .row ⌝ }
+{
+    let cap = state.cap as usize;
+    let next = state.grown();
+    let shape = next.shape();
+    survey::count_row(&area[..], cap, shape, row);
+    if !survey::has_room(&row[..]) {
+        return Done {
+            state,
+            answer: Answer::NoRoom { read: cap as u32 },
+        };
+    }
+    let moved = rebuild::rebuild(area, cap, shape);
+    let answer = Answer::Accepted {
+        value: 0,
+        read: cap as u32,
+        moved,
+    };
+    Done {
+        state: next,
+        answer,
+    }
+}
+
+// One page more, with a lent row of counts, one a page.
+pub fn grow(state: State, area: &mut [u8], row: &mut [u32]) -> Done
+    ensures { λ r. ⌜ r ≡ grew state (now (area .entry)) (now (row .entry)) .done ⌝ }
+    ensures { λ _. ⌜ now (area .exit) ≡ grew state (now (area .entry)) (now (row .entry)) .area ⌝ }
+    ensures { λ _. ⌜ now (row .exit) ≡ grew state (now (area .entry)) (now (row .entry)) .row ⌝ }
+{
+    let gate = grow_gate(state, &area[..], row.len());
+    match gate {
+        Gate::Shut { why } => Done { state, answer: why },
+        Gate::Open => grow_open(state, area, row),
+    }
+}

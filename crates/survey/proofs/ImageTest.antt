@@ -1,0 +1,210 @@
+-- The survey's test tells whether good pages are an image (01, 'The one image').
+use mathlib.Core.Path.{_≡_, refl, sym, ap}
+use mathlib.Core.Bool.{Bool, true, false, _&&_}
+use mathlib.Core.Logic.{_↔_}
+use mathlib.Core.Option.{Option, none, some}
+use mathlib.Core.List.{List, [], _∷_, _++_, map, Permᴰ·refl}
+use Prim.Native.Nat.{ℕ, zero, suc, _+_, _*_, _^_, _≤_, _<_}
+use native.Mathlib.Omega.{arith}
+use lib.Dec.{leb}
+use lib.ListN.{length, drop}
+use borrow.Author.Tests.{leb-true, le-leb}
+use Rattle.numbers.proofs.Laws.{Bytes, bytes-take, bytes-drop, number-bound}
+use Rattle.numbers.proofs.Records.{and-left, and-right}
+use Rattle.placing.specs.Image.{All, cat, Distinct, RecordSet, home, Image}
+use Rattle.placing.specs.Lay.{rankOf, rankIn}
+use Rattle.placing.proofs.Lists.{all-map, all-append, all-right}
+use Rattle.placing.proofs.Order.{Sorted, sorted-right, lower}
+use Rattle.placing.proofs.Forms.{FirstHome, Local, local-packed, packed-local}
+use Rattle.placing.proofs.Rank.{mono, rising-sorted}
+use Rattle.placing.proofs.Tidy.{Tidy, image-tidy, tidy-image}
+use Rattle.placing.proofs.Seek.{clash}
+use Rattle.pages.specs.Page.{Record, key, recordsFrom, countIn, recordsIn, homesTo, rises, readPage}
+use Rattle.pages.specs.Area.{partAt, pagesFrom, heldFrom}
+use Rattle.pages.proofs.RoundTrip.{Small, Good, read-good}
+use Rattle.pages.proofs.Rules.{homes-all, rises-sorted}
+use Rattle.pages.proofs.Areas.{part-length}
+use Rattle.survey.specs.Survey.{lowestBroken, startsAtHome, startsAt, nextLow, imageFrom, isImage}
+
+module _ (h : ℕ → ℕ) where
+  abbrev rank : Record → ℕ
+  rank = rankIn key h
+
+  -- a page at address a keeps the page rules
+  pub record GoodPage (a : ℕ) (p : List Record) : Type 0 where
+    pub few : length p ≤ 12
+    pub homes : homesTo h a p ≡ true
+    pub rising : rises h p ≡ true
+    pub keys : All (λ x. key x < 2 ^ 64) p
+
+  -- and so do all, the first at address a
+  abbrev pub GoodFrom : ℕ → List (List Record) → Type 0
+  GoodFrom a [] = Unit {0}
+  GoodFrom a (p ∷ ps) = GoodPage a p × GoodFrom (suc a) ps
+
+  -- their keys are 64-bit numbers
+  good-keys : (a : ℕ) (ps : List (List Record)) → GoodFrom a ps → All (λ x. key x < 2 ^ 64) (cat ps [])
+  good-keys a [] g = tt
+  good-keys a (p ∷ ps) g = all-append (λ x. key x < 2 ^ 64) p (cat ps []) (g .0 .keys) (good-keys (suc a) ps (g .1))
+
+  -- what comes after a page stands after its last record
+  after-last : (low : ℕ) (p t : List Record) → Sorted rank (p ++ t) → All (λ y. low ≤ rank y) t → All (λ y. nextLow h low p ≤ rank y) t
+  after-last low [] t s b = b
+  after-last low (x ∷ []) t s b = s .0
+  after-last low (x ∷ (y ∷ p)) t s b = after-last low (y ∷ p) t (s .1) b
+
+  -- and where it does, page and rest are sorted
+  sorted-append : (low : ℕ) (p t : List Record) → Sorted rank p → All (λ y. nextLow h low p ≤ rank y) t → Sorted rank t → Sorted rank (p ++ t)
+  sorted-append low [] t s b k = k
+  sorted-append low (x ∷ []) t s b k = (b, k)
+  sorted-append low (x ∷ (y ∷ p)) t s b k =
+      let on : Sorted rank (y ∷ (p ++ t)) = sorted-append low (y ∷ p) t (s .1) b k in
+      (lower rank (rank x) y (p ++ t) on (s .0 .0), on)
+
+  -- a sorted list stands at `low` or after where its first does
+  starts-low : (low : ℕ) (p t : List Record) → startsAt h low p ≡ true → Sorted rank (p ++ t) → All (λ y. nextLow h low p ≤ rank y) t
+      → All (λ y. low ≤ rank y) (p ++ t)
+  starts-low low [] t e s b = b
+  starts-low low (x ∷ p) t e s b =
+      let l : low ≤ rank x = leb-true low (rank x) e in
+      (l, all-map (λ y. rank x < rank y) (λ y. low ≤ rank y) (λ y k. omega arith) (p ++ t) (s .0))
+
+  low-starts : (low : ℕ) (p t : List Record) → All (λ y. low ≤ rank y) (p ++ t) → startsAt h low p ≡ true
+  low-starts low [] t b = refl
+  low-starts low (x ∷ p) t b = le-leb low (rank x) (b .0)
+
+  -- the test of the first home is that of the page by page form
+  starts-first : (full : Bool) (a : ℕ) (p : List Record) → startsAtHome h full a p ≡ true → FirstHome (home key h) 12 full a p
+  starts-first true a p e = tt
+  starts-first false a [] e = tt
+  starts-first false a (x ∷ p) e = leb-true a (h (key x)) e
+
+  first-starts : (full : Bool) (a : ℕ) (p : List Record) → FirstHome (home key h) 12 full a p → startsAtHome h full a p ≡ true
+  first-starts true a p f = refl
+  first-starts false a [] f = refl
+  first-starts false a (x ∷ p) f = le-leb a (h (key x)) f
+
+  -- the test of a page and of those after it is three tests
+  three : (full : Bool) (low a : ℕ) (p : List Record) (ps : List (List Record)) → imageFrom h full low a (p ∷ ps) ≡ true
+      → (startsAtHome h full a p ≡ true) × (startsAt h low p ≡ true) × (imageFrom h (leb 12 (length p)) (nextLow h low p) (suc a) ps ≡ true)
+  three full low a p ps e =
+      let on : Bool = imageFrom h (leb 12 (length p)) (nextLow h low p) (suc a) ps in
+      let both : (startsAt h low p && on) ≡ true = and-right (startsAtHome h full a p) (startsAt h low p && on) e in
+      (and-left (startsAtHome h full a p) (startsAt h low p && on) e, and-left (startsAt h low p) on both, and-right (startsAt h low p) on both)
+
+  -- good pages that pass are sorted, from `low` on
+  test-sorted : (full : Bool) (low a : ℕ) (ps : List (List Record)) → GoodFrom a ps → imageFrom h full low a ps ≡ true
+      → Sorted rank (cat ps []) × All (λ y. low ≤ rank y) (cat ps [])
+  test-sorted full low a [] g e = (tt, tt)
+  test-sorted full low a (p ∷ ps) g e =
+      let t = three full low a p ps e in
+      let on = test-sorted (leb 12 (length p)) (nextLow h low p) (suc a) ps (g .1) (t .2) in
+      let s : Sorted rank (p ++ cat ps []) = sorted-append low p (cat ps []) (rises-sorted h p (g .0 .rising)) (on .1) (on .0) in
+      (s, starts-low low p (cat ps []) (t .1) s (on .1))
+
+  -- and rightly placed, each judged with what was seen of the page before it
+  test-local : (full : Bool) (low a : ℕ) (ps : List (List Record)) → GoodFrom a ps → imageFrom h full low a ps ≡ true → Local (home key h) 12 full a ps
+  test-local full low a [] g e = tt
+  test-local full low a (p ∷ ps) g e =
+      let t = three full low a p ps e in (
+        g .0 .few,
+        homes-all h a p (g .0 .homes),
+        starts-first full a p (t .0),
+        test-local (leb 12 (length p)) (nextLow h low p) (suc a) ps (g .1) (t .2),
+      )
+
+  -- pages that are both pass
+  local-test : (full : Bool) (low a : ℕ) (ps : List (List Record)) → Local (home key h) 12 full a ps → Sorted rank (cat ps []) → All (λ y. low ≤ rank y) (cat ps [])
+      → imageFrom h full low a ps ≡ true
+  local-test full low a [] l s b = refl
+  local-test full low a (p ∷ ps) l s b =
+      rw (first-starts full a p (l .2), low-starts low p (cat ps []) b)
+      (local-test (leb 12 (length p)) (nextLow h low p) (suc a) ps (l .3) (sorted-right rank p (cat ps []) s)
+      (after-last low p (cat ps []) s (all-right (λ y. low ≤ rank y) p (cat ps []) b)))
+
+  -- in rising ranks no key is there twice
+  sorted-once : (s : List Record) → Sorted rank s → Distinct key s
+  sorted-once [] k = tt
+  sorted-once (x ∷ s) k = (
+    all-map (λ y. rank x < rank y) (λ y. key y ≡ key x → ⊥) (λ y l e. let q : rank y ≡ rank x = ap (rankOf h) e in omega arith) s (k .0),
+    sorted-once s (k .1),
+  )
+
+  sorted-set : (ps : List (List Record)) → GoodFrom 0 ps → Sorted rank (cat ps []) → RecordSet key (cat ps [])
+  sorted-set ps g k = record { keys = good-keys 0 ps g; once = sorted-once (cat ps []) k }
+
+  module _ (ps : List (List Record)) where
+    -- an image, read upward, is sorted
+    pub image-sorted : isImage h ps ≡ true → GoodFrom 0 ps → Sorted (rankIn key h) (cat ps [])
+    unfolding isImage
+    image-sorted e g = test-sorted true 0 0 ps g e .0
+
+    -- and holds no key twice
+    pub image-set : isImage h ps ≡ true → GoodFrom 0 ps → RecordSet key (cat ps [])
+    image-set e g = sorted-set ps g (image-sorted e g)
+
+    -- good pages pass the test exactly where they are the image of their records
+    pub image-test : (n : ℕ) → length ps ≡ n → GoodFrom 0 ps → (isImage h ps ≡ true) ↔ Image key h 12 n (cat ps []) ps
+    unfolding isImage
+    image-test n m g = (passes, passed)
+      where
+        passes : isImage h ps ≡ true → Image key h 12 n (cat ps []) ps
+        passes e =
+            let s : Sorted rank (cat ps []) = image-sorted e g in
+            tidy-image key h 12 (image-set e g) (record {
+              packed = local-packed rank (home key h) 12 (omega arith) (mono key h) true 0 ps s (test-local true 0 0 ps g e);
+              sorted = s;
+              holds = Permᴰ·refl (cat ps []);
+              many = m;
+            })
+
+        passed : Image key h 12 n (cat ps []) ps → isImage h ps ≡ true
+        passed i =
+            let s : Sorted rank (cat ps []) = rising-sorted key h (cat ps []) (good-keys 0 ps g) (i .rising) in
+            let t : Tidy key h 12 n (cat ps []) ps = image-tidy key h 12 (sorted-set ps g s) i in
+            local-test true 0 0 ps (packed-local rank (home key h) 12 (omega arith) (mono key h) true 0 ps (t .packed) (λ e. absurd (let z : _≡_ {A = ℕ} 0 1 = cc in omega arith))) s
+            (all-map (λ x. key x < 2 ^ 64) (λ y. 0 ≤ rank y) (λ y k. omega arith) (cat ps []) (good-keys 0 ps g))
+
+-- key and value of what bytes hold are 64-bit numbers
+small-from : (l : List ℕ) → length l ≡ 256 → Bytes l → (n i : ℕ) → n + i ≤ 12 → All Small (recordsFrom n i l)
+small-from l m b zero i f = tt
+small-from l m b (suc n) i f = (
+  (number-bound 8 l (20 + 20 * i) (omega arith) b, number-bound 8 l (28 + 20 * i) (omega arith) b),
+  small-from l m b n (suc i) (omega arith),
+)
+
+pub records-small : (l : List ℕ) → length l ≡ 256 → Bytes l → All Small (recordsIn l)
+unfolding recordsIn
+records-small l m b = small-from l m b (countIn l) 0 (omega arith)
+
+module _ (h : ℕ → ℕ) (area : List ℕ) where
+  -- where no page is broken, each is read as what it holds
+  pub none-broken : (n a : ℕ) → lowestBroken a (pagesFrom h area n a) ≡ none → pagesFrom h area n a ≡ map some (heldFrom area n a)
+  none-broken zero a e = refl
+  none-broken (suc n) a e = go (readPage h a (partAt area a)) refl (none-broken n (suc a))
+    where
+      go : (o : Option (List Record)) → readPage h a (partAt area a) ≡ o
+          → (lowestBroken (suc a) (pagesFrom h area n (suc a)) ≡ none → pagesFrom h area n (suc a) ≡ map some (heldFrom area n (suc a)))
+          → pagesFrom h area (suc n) a ≡ map some (heldFrom area (suc n) a)
+      go none q on = absurd (clash (sym (rw q at e)))
+      go (some p) q on =
+          let r : p ≡ recordsIn (partAt area a) = read-good h a (partAt area a) p q .records in
+          rw (q, r, on (rw q at e))
+
+  -- and all keep the page rules
+  pub good-pages : Bytes area → (n a : ℕ) → 256 * (a + n) ≤ length area → lowestBroken a (pagesFrom h area n a) ≡ none → GoodFrom h a (heldFrom area n a)
+  unfolding partAt
+  good-pages b zero a f e = tt
+  good-pages b (suc n) a f e = go (readPage h a (partAt area a)) refl (good-pages b n (suc a) (omega arith))
+    where
+      go : (o : Option (List Record)) → readPage h a (partAt area a) ≡ o
+          → (lowestBroken (suc a) (pagesFrom h area n (suc a)) ≡ none → GoodFrom h (suc a) (heldFrom area n (suc a)))
+          → GoodFrom h a (heldFrom area (suc n) a)
+      go none q on = absurd (clash (sym (rw q at e)))
+      go (some p) q on =
+          let l : List ℕ = partAt area a in
+          let g : Good h a l p = read-good h a l p q in
+          let small : All Small (recordsIn l) =
+          records-small l (part-length area a (omega arith)) (bytes-take 256 (drop (256 * a) area) (bytes-drop (256 * a) area b)) in
+          let keys : All (λ x. key x < 2 ^ 64) (recordsIn l) = all-map Small (λ x. key x < 2 ^ 64) (λ x k. k .0) (recordsIn l) small in
+          (rw (← g .records) (record { few = g .few; homes = g .homes; rising = g .rising; keys = rw (g .records) keys }), on (rw q at e))

@@ -1,0 +1,69 @@
+-- `survey::has_room` meets its contract. The loop's invariant: what is left over so far goes on through the counts from i on.
+-- The measure is how many counts are left.
+use mathlib.Core.Path.{_≡_, refl, _∙_}
+use mathlib.Core.Logic.{⊎-elim}
+use Prim.Native.Nat.{_+_, _*_, _-_, _≤_}
+use native.Mathlib.Omega.{arith}
+use lib.ListN.{length, getD, drop}
+use borrow.Author.Needs.{needs}
+use Rattle.placing.specs.Rows.{leftOver}
+use Rattle.survey.proofs.Counting.{over-goes-on, over-ends}
+use Rattle.survey.proofs.has_room.Statement.{statement}
+use Rattle.survey.proofs.has_room.Tie as tie
+
+abbrev Inv-loop : tie.InvT-loop
+Inv-loop row over₀ i₀ over i = (i ≤ length row) × (over ≤ 4294967296 * i) × (leftOver 12 (drop i row) over ≡ leftOver 12 row 0)
+
+abbrev μ-loop : tie.MeasureT-loop
+μ-loop row over₀ i₀ over i = length row - i
+
+loop-holds : tie.Need-loop-holds Inv-loop μ-loop
+loop-holds c = (omega arith, omega arith, refl)
+
+mul-here : tie.Need-mul-here Inv-loop μ-loop
+mul-here c = search needs
+
+shared-slice-read-here : tie.Need-shared-slice-read-here Inv-loop μ-loop
+shared-slice-read-here c = search needs
+
+cast-here : tie.Need-cast-here Inv-loop μ-loop
+cast-here c = omega (arith, c .shared-slice-known .given (c .before .before .loop .i))
+
+add-here : tie.Need-add-here Inv-loop μ-loop
+add-here c = omega (arith, c .shared-slice-known .given (c .before .before .loop .i))
+
+add-i : tie.Need-add-i Inv-loop μ-loop
+add-i c = search needs
+
+-- a page takes twelve, or all where there are fewer
+next : (c : tie.Joined1 Inv-loop μ-loop)
+    → c .if1 .over ≡ c .before .before .before .loop .over + getD (c .before .before .before .before .args .row .now) (c .before .before .before .loop .i) 0 - 12
+next c = ⊎-elim (λ w. omega arith) (λ w. omega arith) (c .if1 .came)
+
+loop-less : tie.Need-loop-less Inv-loop μ-loop
+loop-less c = search needs
+
+loop-again : tie.Need-loop-again Inv-loop μ-loop
+loop-again c =
+    let e = next c in
+    let l = c .before .before .before .loop in
+    (omega arith, omega (arith, c .before .shared-slice-known .given (l .i)), over-goes-on _ (l .i) (l .over) _ (omega arith) e ∙ l .inv .2)
+
+returns : tie.Need-returns Inv-loop μ-loop
+returns c = over-ends (c .before .before .args .row .now) (c .before .loop .i) (c .before .loop .over) (omega arith) (c .before .loop .inv .2)
+
+pub has-room-spec : {M : Type 1} → statement M
+has-room-spec =
+    tie.close
+    (tie.spec
+    Inv-loop
+    μ-loop
+    loop-holds
+    mul-here
+    shared-slice-read-here
+    cast-here
+    add-here
+    add-i
+    loop-less
+    loop-again
+    returns)

@@ -1,0 +1,149 @@
+// Looks at all pages of an area: whether they are an image, and how many records there are of each home.
+use homes::Shape;
+use pages::Judged;
+use pages::Page;
+ghost use mathlib.Core.Path.{_≡_};
+ghost use mathlib.Core.List.{[]};
+ghost use Prim.Native.Nat.{ℕ, _+_, _*_, _≤_, _<_};
+ghost use lib.ListN.{length, getD, replicate};
+ghost use lib.Dec.{eqb};
+ghost use Rattle.homes.specs.Homes.{Ready, homeIn};
+ghost use Rattle.placing.specs.Image.{cat};
+ghost use Rattle.placing.specs.Rows.{counts, leftOver};
+ghost use Rattle.pages.specs.Page.{homeFor};
+ghost use Rattle.pages.specs.Slots.{recordsOf};
+ghost use Rattle.pages.specs.Area.{heldFrom};
+ghost use Rattle.survey.specs.Survey.{surveyed};
+ghost use Rattle.survey.specs.Looks.{unseen, looked, tallied};
+
+// The lowest broken page; or, with none broken, whether the pages are an image, and of how many records.
+pub enum Verdict {
+    Sick { page: usize },
+    Whole { image: bool, records: u32 },
+}
+
+// What has been seen of the pages so far: whether they may be an image, whether the last of them is full, and (home, key) of the last record, if there is any.
+pub struct Seen {
+    pub image: bool,
+    pub full: bool,
+    pub any: bool,
+    pub home: u64,
+    pub key: u64,
+    pub records: u32,
+}
+
+// What has been seen after page a.
+fn look(seen: Seen, judged: Judged, a: usize) -> Seen
+    requires { ⌜ (judged .page .count ≤ 12) × (seen .records ≤ 49152) ⌝ }
+    ensures { λ r. ⌜ r ≡ looked seen a (judged .page .count) (judged .homes) (judged .page .keys) ⌝ }
+{
+    let homes = judged.homes;
+    let page = judged.page;
+    let keys = page.keys;
+    let count = page.count;
+    let records = seen.records + count as u32;
+    if count == 0 {
+        return Seen {
+            image: seen.image,
+            full: false,
+            any: seen.any,
+            home: seen.home,
+            key: seen.key,
+            records,
+        };
+    }
+    let at_home = seen.full | (a as u64 <= homes[0]);
+    let rising = !seen.any | pages::before(seen.home, seen.key, homes[0], keys[0]);
+    let last = count - 1;
+    let image = seen.image & (at_home & rising);
+    Seen {
+        image,
+        full: count == 12,
+        any: true,
+        home: homes[last],
+        key: keys[last],
+        records,
+    }
+}
+
+// Judges the pages from 0 upward, and stops at the first broken one.
+pub fn survey(area: &[u8], cap: usize, shape: Shape) -> Verdict
+    requires { ⌜ (cap ≤ 4096) × (length (now area) ≡ 256 * cap) × Ready shape ⌝ }
+    ensures { λ r. ⌜ r ≡ surveyed (homeIn shape) (now (area .entry)) cap ⌝ }
+{
+    let mut seen = Seen {
+        image: true,
+        full: true,
+        any: false,
+        home: 0,
+        key: 0,
+        records: 0,
+    };
+    let mut a = 0;
+    while a < cap {
+        let judged = pages::judge_at(area, a, shape);
+        if !judged.good {
+            return Verdict::Sick { page: a };
+        }
+        seen = look(seen, judged, a);
+        a += 1;
+    }
+    Verdict::Whole {
+        image: seen.image,
+        records: seen.records,
+    }
+}
+
+fn clear(row: &mut [u32])
+    ensures { λ _. ⌜ now (row .exit) ≡ replicate (length (now (row .entry))) 0 ⌝ }
+{
+    let mut i = 0;
+    while i < row.len() {
+        row[i] = 0;
+        i += 1;
+    }
+}
+
+// The records of a page, each counted at its home.
+fn tally(page: Page, shape: Shape, row: &mut [u32])
+    requires { ⌜ (page .count ≤ 12) × Ready shape × (shape .p ≤ length (now row)) × ((k : ℕ) → getD (now row) k 0 ≤ 49152) ⌝ }
+    ensures { λ _. ⌜ now (row .exit) ≡ tallied (homeIn shape) (recordsOf page) (now (row .entry)) ⌝ }
+{
+    let count = page.count;
+    let keys = page.keys;
+    let mut i = 0;
+    while i < count {
+        let home = shape.home(keys[i]) as usize;
+        row[home] = row[home] + 1;
+        i += 1;
+    }
+}
+
+// Fills a lent row with the number of records of each home.
+pub fn count_row(area: &[u8], cap: usize, shape: Shape, row: &mut [u32])
+    requires { ⌜ (cap ≤ 4096) × (length (now area) ≡ 256 * cap) × Ready shape × (shape .p ≤ cap) × (length (now row) ≡ cap) ⌝ }
+    ensures { λ _. ⌜ now (row .exit) ≡ counts (homeFor (homeIn shape)) (cat (heldFrom (now (area .entry)) cap 0) []) cap 0 ⌝ }
+{
+    clear(row);
+    let mut a = 0;
+    while a < cap {
+        let page = pages::parse_at(area, a);
+        tally(page, shape, row);
+        a += 1;
+    }
+}
+
+// Whether records of these homes find room, twelve to a page, each at its home or higher: what does not fit on a page goes on to the next.
+pub fn has_room(row: &[u32]) -> bool
+    requires { ⌜ length (now row) ≤ 4096 ⌝ }
+    ensures { λ r. ⌜ r ≡ eqb (leftOver 12 (now (row .entry)) 0) 0 ⌝ }
+{
+    let mut over: u64 = 0;
+    let mut i = 0;
+    while i < row.len() {
+        let here = over + row[i] as u64;
+        over = if here < 12 { 0 } else { here - 12 };
+        i += 1;
+    }
+    over == 0
+}

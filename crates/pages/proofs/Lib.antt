@@ -9,3 +9,4 @@ pub mod RoundTrip
 pub mod Rules
 pub mod Places
 pub mod Areas
+pub mod Keys

@@ -114,7 +114,8 @@ from-length : (n i : ℕ) (l : List ℕ) → length (recordsFrom n i l) ≡ n
 from-length zero i l = refl
 from-length (suc n) i l = omega (arith, from-length n (suc i) l)
 
-records-few : (l : List ℕ) → length (recordsIn l) ≤ 12
+-- any bytes hold twelve records at most
+pub records-few : (l : List ℕ) → length (recordsIn l) ≤ 12
 unfolding recordsIn
 records-few l = omega (arith, from-length (countIn l) 0 l)
 

@@ -26,7 +26,7 @@ pub enum Gate {
 }
 
 // The refusals that need no page: a number out of range, an area of another length.
-fn gate(state: State, length: usize) -> Gate
+fn enter(state: State, length: usize) -> Gate
     ensures { λ r. ⌜ r ≡ gateOf state length ⌝ }
     ensures within { λ r. ⌜ OpenFor state length r ⌝ }
 {
@@ -68,7 +68,7 @@ pub fn format(state: State, n0: u16, n: u16, s: u16, cap: u16, area: &mut [u8]) 
         };
     }
     let fresh = State::new(n0, n, s, cap);
-    let gate = gate(fresh, area.len());
+    let gate = enter(fresh, area.len());
     match gate {
         Gate::Shut { why } => Done { state, answer: why },
         Gate::Open => {
@@ -121,7 +121,7 @@ fn find_answer(met: Met) -> Answer
 pub fn find(state: State, area: &[u8], key: u64) -> Done
     ensures { λ r. ⌜ r ≡ found state (now (area .entry)) key ⌝ }
 {
-    let gate = gate(state, area.len());
+    let gate = enter(state, area.len());
     match gate {
         Gate::Shut { why } => Done { state, answer: why },
         Gate::Open => {
@@ -175,7 +175,7 @@ pub fn put(state: State, area: &mut [u8], key: u64, value: u64) -> Done
     ensures { λ r. ⌜ r ≡ stored state (now (area .entry)) (key, value) .done ⌝ }
     ensures { λ _. ⌜ now (area .exit) ≡ stored state (now (area .entry)) (key, value) .area ⌝ }
 {
-    let gate = gate(state, area.len());
+    let gate = enter(state, area.len());
     match gate {
         Gate::Shut { why } => Done { state, answer: why },
         Gate::Open => put_open(state, area, key, value),
@@ -224,7 +224,7 @@ pub fn remove(state: State, area: &mut [u8], key: u64) -> Done
     ensures { λ r. ⌜ r ≡ removed state (now (area .entry)) key .done ⌝ }
     ensures { λ _. ⌜ now (area .exit) ≡ removed state (now (area .entry)) key .area ⌝ }
 {
-    let gate = gate(state, area.len());
+    let gate = enter(state, area.len());
     match gate {
         Gate::Shut { why } => Done { state, answer: why },
         Gate::Open => remove_open(state, area, key),
@@ -262,7 +262,7 @@ fn image_gate(state: State, area: &[u8]) -> Gate
 pub fn check(state: State, area: &[u8]) -> Done
     ensures { λ r. ⌜ r ≡ checked state (now (area .entry)) ⌝ }
 {
-    let gate = gate(state, area.len());
+    let gate = enter(state, area.len());
     match gate {
         Gate::Shut { why } => Done { state, answer: why },
         Gate::Open => {
@@ -287,7 +287,7 @@ fn grow_gate(state: State, area: &[u8], n: usize) -> Gate
     ensures { λ r. ⌜ r ≡ growGate state (now (area .entry)) n ⌝ }
     ensures within { λ r. ⌜ OpenToGrow state (now (area .entry)) n r ⌝ }
 {
-    let gate = gate(state, area.len());
+    let gate = enter(state, area.len());
     match gate {
         Gate::Shut { why } => Gate::Shut { why },
         Gate::Open => {

@@ -1,0 +1,128 @@
+-- The second phase of a remove: pages closed up and filled in memory, and the area that they are written to.
+use mathlib.Core.Path.{_≡_, refl, sym, ap, _∙_}
+use mathlib.Core.Bool.{Bool, true, false, cond}
+use mathlib.Core.List.{List, [], _∷_, append-nil}
+use Prim.Native.Nat.{ℕ, zero, suc, _+_, _-_, _*_, _≤_, _<_}
+use native.Mathlib.Omega.{arith}
+use lib.Dec.{ltb}
+use lib.ListN.{length, take, drop, getD, length-append, length-take, length-drop, drop-of-length-le}
+use lib.Seq.{take-all}
+use Rattle.placing.specs.Lay.{ranked, rankIn}
+use Rattle.pages.specs.declared.Page.{Page}
+use Rattle.pages.specs.declared.Pushed.{Pushed}
+use Rattle.pages.specs.Page.{Record, key, rank, recordsIn, inMemory}
+use Rattle.pages.specs.Slots.{opened, closed, upToBack, recordsOf, pushed}
+use Rattle.pages.specs.Area.{partAt, withPage}
+use Rattle.pages.proofs.Memory.{memory}
+use Rattle.pages.proofs.RoundTrip.{records-few}
+use Rattle.pages.proofs.Areas.{with-length, part-other}
+use Rattle.walks.specs.Walks.{writes}
+use Rattle.walks.specs.Plans.{held, firstOf, backed, drawn}
+
+-- a page in memory holds the records that it was made of
+page-count : (p : Page) (rs : List Record) → p ≡ inMemory rs → p .count ≡ length rs
+unfolding inMemory
+page-count p rs e = rw e
+
+page-records : (p : Page) (rs : List Record) → p ≡ inMemory rs → recordsOf p ≡ rs
+page-records p rs e = ap recordsOf e ∙ memory rs
+
+-- closing up a slot that holds no record changes nothing
+closed-past : (slot : ℕ) (rs : List Record) → length rs ≤ slot → closed slot rs ≡ rs
+unfolding closed
+closed-past slot rs l = rw (take-all slot rs l, drop-of-length-le rs {i = suc slot} (omega arith)) (append-nil rs)
+
+closed-few : (slot : ℕ) (rs : List Record) → length (closed slot rs) ≤ length rs
+unfolding closed
+closed-few slot rs = omega (arith, length-append (take slot rs) (drop (suc slot) rs), length-take slot rs, length-drop (suc slot) rs)
+
+pub close-past : (p : Page) (slot : ℕ) → p ≡ inMemory (recordsOf p) → p .count ≤ slot → p ≡ inMemory (closed slot (recordsOf p))
+close-past p slot e l = rw (closed-past slot (recordsOf p) (omega (arith, page-count p (recordsOf p) e))) e
+
+-- a page that may be changed and stored
+abbrev Kept : Page → Type 0
+Kept p = (p .count ≤ 12) × (p ≡ inMemory (recordsOf p))
+
+kept : (p : Page) (rs : List Record) → length rs ≤ 12 → p ≡ inMemory rs → Kept p
+kept p rs n e = (omega (arith, page-count p rs e), e ∙ ap inMemory (sym (page-records p rs e)))
+
+-- as it is read, closed up and filled
+pub read-kept : (p : Page) (l : List ℕ) → p ≡ inMemory (recordsIn l) → Kept p
+read-kept p l e = kept p (recordsIn l) (records-few l) e
+
+pub shut-kept : (p q : Page) (slot : ℕ) → Kept p → q ≡ inMemory (closed slot (recordsOf p)) → Kept q
+shut-kept p q slot k e =
+    kept q (closed slot (recordsOf p)) (omega (arith, closed-few slot (recordsOf p), page-count p (recordsOf p) (k .1))) e
+
+pub full-kept : (h : ℕ → ℕ) (next shut full : Page) → full ≡ inMemory (backed h (firstOf (recordsOf next)) (recordsOf shut)) → Kept full
+full-kept h next shut full e =
+    let y : Record = firstOf (recordsOf next) in
+    let s : List Record = recordsOf shut in
+    kept full (backed h y s) (omega (arith, length-take 12 (opened (upToBack (rankIn key h) (rankIn key h y) (0, 0) s (length s)) y s))) e
+
+-- a place from the back is one among the records
+back-le : {R : Type 0} (rank : R → ℕ) (r : ℕ) (d : R) (s : List R) (n : ℕ) → upToBack rank r d s n ≤ n
+back-le rank r d s zero = omega arith
+back-le rank r d s (suc n) = go (ltb (rank (getD s n d)) r) (back-le rank r d s n)
+  where
+    go : (u : Bool) → upToBack rank r d s n ≤ n → cond u (suc n) (upToBack rank r d s n) ≤ suc n
+    go true ih = omega arith
+    go false ih = omega arith
+
+-- the first of a page's two rows is its first record
+first-rows : (rs : List Record) → (getD (inMemory rs .keys) 0 0, getD (inMemory rs .values) 0 0) ≡ firstOf rs
+unfolding inMemory
+first-rows [] = refl
+first-rows (x ∷ rs) = refl
+
+-- the first record of the page after it goes to its place from the back
+module _ (h : ℕ → ℕ) (p next : Page) (home place : ℕ) where
+  -- where it is sought
+  abbrev sought : ℕ
+  sought = upToBack (rank h) (ranked home (getD (next .keys) 0 0)) (0, 0) (recordsOf p) (p .count)
+
+  pub place-le : place ≡ sought → place ≤ p .count
+  place-le e = rw e (back-le (rank h) (ranked home (getD (next .keys) 0 0)) (0, 0) (recordsOf p) (p .count))
+
+  pub pushed-back : (q : Pushed) → home ≡ h (getD (next .keys) 0 0) → place ≡ sought → p ≡ inMemory (recordsOf p) → next ≡ inMemory (recordsOf next)
+      → q ≡ pushed place (getD (next .keys) 0 0, getD (next .values) 0 0) (recordsOf p)
+      → q .page ≡ inMemory (backed h (firstOf (recordsOf next)) (recordsOf p))
+  pushed-back q d g e f k =
+      let z : firstOf (recordsOf next) ≡ (getD (next .keys) 0 0, getD (next .values) 0 0) = sym (first-rows (recordsOf next)) ∙ rw (← f) in
+      let n : p .count ≡ length (recordsOf p) = page-count p (recordsOf p) e in
+      rw (z, ← n, k, g, d)
+
+-- a page stored in an area leaves the length and the pages after it
+module _ (area new : List ℕ) (a : ℕ) (p : List Record) (e : new ≡ withPage area a p) (fits : 256 * (a + 1) ≤ length area) where
+  pub stored-length : length new ≡ length area
+  stored-length = ap length e ∙ with-length area a p fits
+
+  pub stored-same : (entry : List ℕ) → ((b : ℕ) → a ≤ b → partAt area b ≡ partAt entry b) → (b : ℕ) → a + 1 ≤ b → partAt new b ≡ partAt entry b
+  stored-same entry same b l = rw e (part-other area a p fits b (λ q. omega arith)) ∙ same b (omega arith)
+
+-- page a is written to an area that agrees with the first area from there on
+module _ (h : ℕ → ℕ) (entry area : List ℕ) (last a slot : ℕ) (same : (b : ℕ) → a ≤ b → partAt area b ≡ partAt entry b) where
+  pub draw-turn : (page next shut full : Page) (new : List ℕ) → new ≡ withPage area a (recordsOf full)
+      → page ≡ inMemory (held area a) → next ≡ inMemory (held area (a + 1)) → shut ≡ inMemory (closed slot (recordsOf page))
+      → full ≡ inMemory (backed h (firstOf (recordsOf next)) (recordsOf shut)) → a < last
+      → writes new (drawn h entry (last - (a + 1)) (a + 1) 0) ≡ writes area (drawn h entry (last - a) a slot)
+  draw-turn page next shut full new d e f g k l =
+      let n : last - a ≡ suc (last - (a + 1)) = omega arith in
+      let m : a + 1 ≡ suc a = omega arith in
+      rw (
+        d,
+        page-records full (backed h (firstOf (recordsOf next)) (recordsOf shut)) k,
+        page-records shut (closed slot (recordsOf page)) g,
+        page-records page (held area a) e,
+        page-records next (held area (a + 1)) f,
+        n,
+        same a (omega arith),
+        same (a + 1) (omega arith),
+        m,
+      )
+
+  pub draw-last : (page shut : Page) (new : List ℕ) → last ≡ a → new ≡ withPage area last (recordsOf shut)
+      → page ≡ inMemory (held area last) → shut ≡ inMemory (closed slot (recordsOf page)) → new ≡ writes area (drawn h entry (last - a) a slot)
+  draw-last page shut new l d e g =
+      let n : a - a ≡ 0 = omega arith in
+      rw (d, page-records shut (closed slot (recordsOf page)) g, page-records page (held area last) e, l, n, same a (omega arith))

@@ -1,0 +1,116 @@
+-- The second phase of a put, page by page.
+use mathlib.Core.Path.{_≡_, refl, sym, ap, _∙_}
+use mathlib.Core.Bool.{Bool, true, false, cond}
+use mathlib.Core.List.{List}
+use Prim.Native.Nat.{ℕ, suc, _+_, _*_, _-_, _≤_, _<_}
+use native.Mathlib.Numerals.{add-one}
+use native.Mathlib.Omega.{arith}
+use borrow.Author.Tests.{eqb-true}
+use lib.Dec.{eqb}
+use lib.ListN.{length, take, getD, length-take}
+use Rattle.placing.specs.Lay.{rankIn, ins, ranked}
+use Rattle.pages.specs.declared.Page.{Page}
+use Rattle.pages.specs.declared.Pushed.{Pushed}
+use Rattle.pages.specs.Page.{Record, key, rank, recordsIn, inMemory}
+use Rattle.pages.specs.Slots.{opened, ahead, recordsOf, pushed}
+use Rattle.pages.specs.Area.{partAt, withPage}
+use Rattle.pages.proofs.Memory.{memory}
+use Rattle.pages.proofs.Read.{held-few, ready}
+use Rattle.pages.proofs.Places.{ins-opened, ahead-le}
+use Rattle.pages.proofs.Areas.{with-length, part-other}
+use Rattle.walks.specs.Walks.{writes}
+use Rattle.walks.specs.Plans.{held, poured}
+use Rattle.walks.proofs.Meeting.{records-count}
+
+-- the place on a page after the first is sought
+pub place-sought : (h : ℕ → ℕ) (rs : List Record) (known : Bool) (at key home : ℕ) → known ≡ false → home ≡ h key
+    → {r : ℕ} → r ≡ ahead (rank h) (ranked home key) rs → r ≡ cond known at (ahead (rank h) (ranked (h key) key) rs)
+place-sought h rs known at key home e l p = rw (e, ← l) p
+
+-- the pages from page a on are as they were
+abbrev pub Untouched : (start area : List ℕ) → ℕ → Type 0
+Untouched start area a = (b : ℕ) → a ≤ b → partAt area b ≡ partAt start b
+
+-- a page of the bytes of an area, in memory
+module _ (area : List ℕ) (a : ℕ) (page : Page) (is : page ≡ inMemory (held area a)) where
+  page-holds : recordsOf page ≡ held area a
+  page-holds = rw is (memory (held area a))
+
+  pub page-fits : (page .count ≤ 12) × (page ≡ inMemory (recordsOf page))
+  page-fits = ready page (held area a) is (held-few (partAt area a))
+
+-- a turn puts (k, v) at its place on page a
+pub record Turn (h : ℕ → ℕ) (start area : List ℕ) (a k v : ℕ) (page : Page) (place : ℕ) : Type 0 where
+  pub rest : Untouched start area a
+  pub is : page ≡ inMemory (held area a)
+  pub at : place ≡ ahead (rank h) (ranked (h k) k) (held start a)
+
+-- which is known on the first page and sought on the others
+pub place-right : (h : ℕ → ℕ) (start area : List ℕ) (a k : ℕ) (page : Page) (first at first-key place : ℕ)
+    → Untouched start area a → page ≡ inMemory (held area a) → (a ≡ first → k ≡ first-key)
+    → at ≡ ahead (rank h) (ranked (h first-key) first-key) (held start first)
+    → place ≡ cond (eqb a first) at (ahead (rank h) (ranked (h k) k) (recordsOf page))
+    → place ≡ ahead (rank h) (ranked (h k) k) (held start a)
+place-right h start area a k page first at first-key place rest is same known e = go (eqb a first) refl e
+  where
+    go : (u : Bool) → eqb a first ≡ u → place ≡ cond u at (ahead (rank h) (ranked (h k) k) (recordsOf page)) → place ≡ ahead (rank h) (ranked (h k) k) (held start a)
+    go true t e =
+        let f : a ≡ first = eqb-true a first t in
+        let s : k ≡ first-key = same f in
+        e ∙ rw (f, s) known
+    go false t e = rw (page-holds area a page is, rest a (omega arith)) at e
+
+module _ {h : ℕ → ℕ} {start area : List ℕ} {a k v : ℕ} {page : Page} {place : ℕ} (t : Turn h start area a k v page place) where
+  -- the records of the page with (k, v) among them
+  abbrev q : List Record
+  q = ins (rankIn key h) (k, v) (held start a)
+
+  holds : recordsOf page ≡ held start a
+  holds = page-holds area a page (t .is) ∙ ap recordsIn (t .rest a (omega arith))
+
+  pub place-within : place ≤ page .count
+  place-within = omega (arith, t .at, ahead-le (rank h) (ranked (h k) k) (held start a), ap length holds, records-count page)
+
+  module _ (out : Pushed) (gives : out ≡ pushed place (k, v) (recordsOf page)) where
+    opens : opened place (k, v) (recordsOf page) ≡ q
+    opens = rw (holds, t .at) (sym (ins-opened (rankIn key h) (k, v) (held start a)))
+
+    next-is : out .page ≡ inMemory (take 12 q)
+    next-is = rw opens at (ap (λ (o : Pushed). o .page) gives)
+
+    -- the page may be stored
+    pub next-fits : (out .page .count ≤ 12) × (out .page ≡ inMemory (recordsOf (out .page)))
+    next-fits = ready (out .page) (take 12 q) next-is (omega (arith, length-take 12 q))
+
+    goes-on : _≡_ {A = Record} (out .key, out .value) (getD q 12 (k, v))
+    goes-on = rw opens at (ap {B = Record} (λ (o : Pushed). (o .key, o .value)) gives)
+
+    module _ (to : List ℕ) (stored : to ≡ withPage area a (recordsOf (out .page))) (fits : 256 * (a + 1) ≤ length area) where
+      -- the area stays as long
+      pub pour-length : length to ≡ length area
+      pour-length = ap length stored ∙ with-length area a (recordsOf (out .page)) fits
+
+      -- the pages after it stay
+      pub pour-rest : Untouched start to (a + 1)
+      pour-rest b l = rw stored (part-other area a (recordsOf (out .page)) fits b (λ e. omega arith)) ∙ t .rest b (omega arith)
+
+      -- and what is left to write is the same
+      pub pour-turn : (last : ℕ) → a ≤ last
+          → writes to (poured h start (suc last - (a + 1)) (a + 1) (out .key, out .value)) ≡ writes area (poured h start (suc last - a) a (k, v))
+      pour-turn last l =
+          let e : suc last - a ≡ suc (suc last - (a + 1)) = omega arith in
+          let p : recordsOf (out .page) ≡ take 12 q = rw next-is (memory (take 12 q)) in
+          rw (e, stored, p, goes-on, add-one)
+
+-- at the start all is left to write
+pub pour-starts : (h : ℕ → ℕ) (area : List ℕ) (first last : ℕ) (x : Record) → first ≤ last
+    → writes area (poured h area (suc last - first) first x) ≡ writes area (poured h area (suc (last - first)) first x)
+pour-starts h area first last x l =
+    let e : suc last - first ≡ suc (last - first) = omega arith in
+    rw e
+
+-- at the end nothing is left to write
+pub pour-ends : (h : ℕ → ℕ) (start area : List ℕ) (last a : ℕ) (x : Record) → last < a → writes area (poured h start (suc last - a) a x) ≡ area
+pour-ends h start area last a x l =
+    let e : suc last - a ≡ 0 = omega arith in
+    rw e

@@ -1,0 +1,210 @@
+-- The plan of a put: its pages one by one, and that what it comes to is the walk.
+use mathlib.Core.Path.{_≡_, refl, sym, _∙_}
+use mathlib.Core.Bool.{Bool, true, false, cond}
+use mathlib.Core.Option.{Option, none, some}
+use mathlib.Core.List.{List, [], _∷_}
+use Prim.Native.Nat.{ℕ, zero, suc, _+_, _-_, _≤_, _<_}
+use native.Mathlib.Nat.{sub-zero}
+use native.Mathlib.Numerals.{add-one}
+use native.Mathlib.Omega.{arith}
+use borrow.Author.Tests.{ltb-true, lt-ltb, le-ltb}
+use lib.Dec.{ltb}
+use lib.ListN.{length, take, getD}
+use lib.Seq.{take-all}
+use Rattle.placing.specs.Lay.{rankOf, rankIn, ins}
+use Rattle.placing.proofs.Order.{ins-length}
+use Rattle.pages.specs.declared.Judged.{Judged}
+use Rattle.pages.specs.Page.{Record, key, readPage}
+use Rattle.pages.specs.Slots.{ahead}
+use Rattle.pages.specs.Area.{partAt, pagesFrom}
+use Rattle.pages.proofs.RoundTrip.{read-good}
+use Rattle.state.specs.declared.Answer.the-variants.{Broken, NoRoom, Held}
+use Rattle.walks.specs.declared.Met.{Met}
+use Rattle.walks.specs.declared.Met.the-variants.{Found, Sick, Ends, Past}
+use Rattle.walks.specs.declared.Plan.{Plan}
+use Rattle.walks.specs.declared.Plan.the-variants.{Go, Stop}
+use Rattle.walks.specs.Walks.{Pages, went, stopped, wrote, heldAt, onHeld, endsOn, meets, walk, carry, putMet, putWalk}
+use Rattle.walks.specs.Plans.{held, poured, reached, planned, placedIn}
+use Rattle.walks.proofs.Meeting.{Seen, pages-next, page-broken, page-read, records-count}
+
+-- what is left of the way to the first page with room, from page a on, where n pages were read
+abbrev pub reachLeft : (ℕ → ℕ) → List ℕ → (cap f at a n : ℕ) → Plan
+reachLeft h area cap f at a n = reached h f at a n (pagesFrom h area (cap - a) a)
+
+-- past the end there is no room
+pub reach-past : (h : ℕ → ℕ) (area : List ℕ) (cap f at a n : ℕ) → cap ≤ a → Stop (NoRoom n) ≡ reachLeft h area cap f at a n
+reach-past h area cap f at a n l =
+    let e : cap - a ≡ 0 = omega arith in
+    rw e
+
+module _ {h : ℕ → ℕ} {area : List ℕ} {cap a : ℕ} {j : Judged} (seen : Seen h area cap a j) (f at n : ℕ) where
+  -- a broken page stops it
+  pub reach-sick : j .good ≡ false → Stop (Broken a (n + 1)) ≡ reachLeft h area cap f at a n
+  reach-sick g = rw (pages-next seen, page-broken seen g, add-one)
+
+  module _ (g : j .good ≡ true) where
+    at-page : reachLeft h area cap f at a n ≡ cond (ltb (j .page .count) 12) (Go f at a (n + 1)) (reachLeft h area cap f at (a + 1) (n + 1))
+    at-page = rw (pages-next seen, page-read seen g, records-count (j .page), add-one n, add-one a)
+
+    -- a page with room is the last
+    pub reach-here : j .page .count < 12 → Go f at a (n + 1) ≡ reachLeft h area cap f at a n
+    reach-here l = sym (at-page ∙ rw (lt-ltb (j .page .count) 12 l))
+
+    -- after a full one it goes on
+    pub reach-on : 12 ≤ j .page .count → reachLeft h area cap f at (a + 1) (n + 1) ≡ reachLeft h area cap f at a n
+    reach-on l = sym (at-page ∙ rw (le-ltb (j .page .count) 12 l))
+
+module _ (h : ℕ → ℕ) (area : List ℕ) (f at : ℕ) where
+  -- a plan from page f on whose last page is page a or a later one
+  abbrev LastFrom : ℕ → Plan → Type 0
+  LastFrom a (Go g i last read) = (g ≡ f) × (i ≡ at) × (a ≤ last)
+  LastFrom a (Stop why) = Unit {0}
+
+  later : (a : ℕ) (p : Plan) → LastFrom (suc a) p → LastFrom a p
+  later a (Go g i last read) l = (l .0, l .1, omega arith)
+  later a (Stop why) l = tt
+
+  reached-from : (a n : ℕ) (ps : List (Option (List Record))) → LastFrom a (reached h f at a n ps)
+  reached-from a n [] = tt
+  reached-from a n (none ∷ ps) = tt
+  reached-from a n (some p ∷ ps) = go (ltb (length p) 12) (later a (reached h f at (suc a) (suc n) ps) (reached-from (suc a) (suc n) ps))
+    where
+      go : (u : Bool) → LastFrom a (reached h f at (suc a) (suc n) ps) → LastFrom a (cond u (Go f at a (suc n)) (reached h f at (suc a) (suc n) ps))
+      go true l = (refl, refl, omega arith)
+      go false l = l
+
+  -- the pages that are poured from page a on, which is the m-th after the first of the plan
+  abbrev pouredOn : (m a : ℕ) → Record → (n b i : ℕ) → Pages
+  pouredOn m a x n b i = poured h area (suc (n - m)) a x
+
+  -- a full page before those that are left
+  wrote-on : (m a : ℕ) (x : Record) (p : Plan) → f + m ≡ a → LastFrom (suc a) p
+      → wrote a (take 12 (ins (rankIn key h) x (held area a))) (planned (pouredOn (suc m) (suc a) (getD (ins (rankIn key h) x (held area a)) 12 x)) p)
+      ≡ planned (pouredOn m a x) p
+  wrote-on m a x (Stop why) e l = refl
+  wrote-on m a x (Go g i last read) e l =
+      let k : last - g - m ≡ suc (last - g - suc m) = omega (arith, l .0, l .2) in
+      rw k
+
+  module _ (a n m : ℕ) (x : Record) (ps : List (Option (List Record))) (e : f + m ≡ a)
+      (on : (y : Record) → carry h (suc a) (suc n) (suc m) y ps ≡ planned (pouredOn (suc m) (suc a) y) (reached h f at (suc a) (suc n) ps)) where
+    good-page : (p : List Record) → p ≡ held area a → (u : Bool) → ltb (length p) 12 ≡ u
+        → cond u (went ((a, ins (rankIn key h) x p) ∷ []) (suc n) m)
+        (wrote a (take 12 (ins (rankIn key h) x p)) (carry h (suc a) (suc n) (suc m) (getD (ins (rankIn key h) x p) 12 x) ps))
+        ≡ planned (pouredOn m a x) (cond u (Go f at a (suc n)) (reached h f at (suc a) (suc n) ps))
+    good-page p q true t =
+        let k : a - f ≡ m = omega arith in
+        let z : m - m ≡ 0 = omega arith in
+        let l : length (ins (rankIn key h) x p) ≤ 12 = omega (arith, ins-length (rankIn key h) x p, ltb-true (length p) 12 t) in
+        let w : take 12 (ins (rankIn key h) x p) ≡ ins (rankIn key h) x p = take-all 12 (ins (rankIn key h) x p) l in
+        rw (k, z, ← q, w)
+    good-page p q false t =
+        rw (q, on (getD (ins (rankIn key h) x (held area a)) 12 x)) (wrote-on m a x (reached h f at (suc a) (suc n) ps) e (reached-from (suc a) (suc n) ps))
+
+    any-page : (o : Option (List Record)) → readPage h a (partAt area a) ≡ o → carry h a n m x (o ∷ ps) ≡ planned (pouredOn m a x) (reached h f at a n (o ∷ ps))
+    any-page none r = refl
+    any-page (some p) r = good-page p (read-good h a (partAt area a) p r .records) (ltb (length p) 12) refl
+
+  -- what is carried from page a on is what the plan pours
+  carried : (c a n m : ℕ) (x : Record) → f + m ≡ a
+      → carry h a n m x (pagesFrom h area c a) ≡ planned (pouredOn m a x) (reached h f at a n (pagesFrom h area c a))
+  carried zero a n m x e = refl
+  carried (suc c) a n m x e =
+      any-page a n m x (pagesFrom h area c (suc a)) e (λ y. carried c (suc a) (suc n) (suc m) y (omega arith)) (readPage h a (partAt area a)) refl
+
+  from-first : (x : Record) (p : Plan) → LastFrom f p → planned (pouredOn 0 f x) p ≡ planned (λ n a i. poured h area (suc n) a x) p
+  from-first x (Stop why) l = refl
+  from-first x (Go g i last read) l = rw (sub-zero, l .0)
+
+  -- from a good page on, a put is its plan
+  pub put-planned : (cap n : ℕ) (x : Record) (p : List Record) → f < cap → 1 ≤ n → readPage h f (partAt area f) ≡ some p
+      → planned (λ k b i. poured h area (suc k) b x) (cond (ltb (length p) 12) (Go f at f n) (reached h f at (suc f) n (pagesFrom h area (cap - suc f) (suc f))))
+      ≡ carry h f (n - 1) 0 x (pagesFrom h area (cap - f) f)
+  put-planned cap n x p l k r =
+      let e : cap - f ≡ suc (cap - suc f) = omega arith in
+      let q : suc (n - 1) ≡ n = omega arith in
+      let ps : List (Option (List Record)) = pagesFrom h area (cap - suc f) (suc f) in
+      let plan : Plan = cond (ltb (length p) 12) (Go f at f n) (reached h f at (suc f) n ps) in
+      let first : reached h f at f (n - 1) (pagesFrom h area (cap - f) f) ≡ plan = rw (e, r, q) in
+      let from : LastFrom f plan = rw first at (reached-from f (n - 1) (pagesFrom h area (cap - f) f)) in
+      sym (carried (cap - f) f (n - 1) 0 x (omega arith) ∙ rw first (from-first x plan from))
+
+module _ (h : ℕ → ℕ) (area : List ℕ) (k : ℕ) where
+  -- page a is good and has c records, and the key's place there is i
+  pub record EndsAt (a i c : ℕ) : Type 0 where
+    pub read : readPage h a (partAt area a) ≡ some (held area a)
+    pub count : c ≡ length (held area a)
+    pub place : i ≡ ahead (rankIn key h) (rankOf h k) (held area a)
+
+  -- a walk that ends on a page does so at the key's place there
+  meets-ends : (m b r a i c n : ℕ) → meets h k b r (pagesFrom h area m b) ≡ Ends a i c n → EndsAt a i c
+  meets-ends zero b r a i c n e = absurd (let z : _≡_ {A = ℕ} 0 1 = cc in omega arith)
+  meets-ends (suc m) b r a i c n e = go (readPage h b (partAt area b)) refl e (meets-ends m (suc b) (suc r) a i c n)
+    where
+      ps : List (Option (List Record))
+      ps = pagesFrom h area m (suc b)
+
+      here : (p : List Record) → readPage h b (partAt area b) ≡ some p
+          → Ends b (ahead (rankIn key h) (rankOf h k) p) (length p) (suc r) ≡ Ends a i c n → EndsAt a i c
+      here p q e =
+          let s : p ≡ held area b = read-good h b (partAt area b) p q .records in
+          let t : b ≡ a = cc in
+          let u : ahead (rankIn key h) (rankOf h k) p ≡ i = cc in
+          let w : length p ≡ c = cc in
+          rw (← t) (record { read = rw s at q; count = rw s at (sym w); place = rw s at (sym u) })
+
+      good : (p : List Record) → readPage h b (partAt area b) ≡ some p → (o : Option (ℕ × ℕ)) (u : Bool)
+          → onHeld o (λ j v. Found b j (length p) v (suc r))
+          (cond u (Ends b (ahead (rankIn key h) (rankOf h k) p) (length p) (suc r)) (meets h k (suc b) (suc r) ps)) ≡ Ends a i c n
+          → (meets h k (suc b) (suc r) ps ≡ Ends a i c n → EndsAt a i c) → EndsAt a i c
+      good p q (some w) u e ih = absurd (let z : _≡_ {A = ℕ} 0 1 = cc in omega arith)
+      good p q none true e ih = here p q e
+      good p q none false e ih = ih e
+
+      go : (o : Option (List Record)) → readPage h b (partAt area b) ≡ o → meets h k b r (o ∷ ps) ≡ Ends a i c n
+          → (meets h k (suc b) (suc r) ps ≡ Ends a i c n → EndsAt a i c) → EndsAt a i c
+      go none q e ih = absurd (let z : _≡_ {A = ℕ} 0 1 = cc in omega arith)
+      go (some p) q e ih = good p q (heldAt k 0 p) (endsOn h k p) e ih
+
+  -- each page that a put meets, and what it then does
+  module _ (cap : ℕ) (m : Met) (is : m ≡ walk h area cap k) where
+    put-met : (met : Met) → m ≡ met → (v : ℕ) → putMet h area cap (k, v) met ≡ putWalk h area cap (k, v)
+    unfolding putWalk
+    put-met met e v = rw (← e, is)
+
+    pub put-found : (a i c old n : ℕ) → m ≡ Found a i c old n → (v : ℕ) → stopped (Held old n) ≡ putWalk h area cap (k, v)
+    put-found a i c old n e v = put-met (Found a i c old n) e v
+
+    pub put-sick : (a n : ℕ) → m ≡ Sick a n → (v : ℕ) → stopped (Broken a n) ≡ putWalk h area cap (k, v)
+    put-sick a n e v = put-met (Sick a n) e v
+
+    pub put-past : (n : ℕ) → m ≡ Past n → (v : ℕ) → stopped (NoRoom n) ≡ putWalk h area cap (k, v)
+    put-past n e v = put-met (Past n) e v
+
+    module _ (a i c n : ℕ) (e : m ≡ Ends a i c n) where
+      pub put-at : EndsAt a i c
+      unfolding walk
+      put-at = meets-ends (cap - h k) (h k) 0 a i c n (sym is ∙ e)
+
+      put-ends : a < cap → 1 ≤ n → (v : ℕ)
+          → planned (λ n a i. poured h area (suc n) a (k, v)) (cond (ltb c 12) (Go a i a n) (reachLeft h area cap a i (suc a) n)) ≡ putWalk h area cap (k, v)
+      put-ends l s v =
+          let w : c ≡ length (held area a) = put-at .count in
+          rw w (put-planned h area a i cap n (k, v) (held area a) l s (put-at .read)) ∙ put-met (Ends a i c n) e v
+
+      -- with room the ending page is the last
+      pub put-here : a < cap → 1 ≤ n → c < 12 → (v : ℕ) → planned (λ n a i. poured h area (suc n) a (k, v)) (Go a i a n) ≡ putWalk h area cap (k, v)
+      put-here l s t v = rw (lt-ltb c 12 t) at (put-ends l s v)
+
+      -- else one after it
+      pub put-on : a < cap → 1 ≤ n → 12 ≤ c → (p : Plan) → p ≡ reachLeft h area cap a i (suc a) n → (v : ℕ)
+          → planned (λ n a i. poured h area (suc n) a (k, v)) p ≡ putWalk h area cap (k, v)
+      put-on l s t p q v = rw q (rw (le-ltb c 12 t) at (put-ends l s v))
+
+      placed : (b : ℕ) (p : Plan) → LastFrom h area a i b p → placedIn h area k p
+      placed b (Go f at last read) l = l .1 ∙ put-at .place ∙ rw (l .0)
+      placed b (Stop why) l = tt
+
+      -- with the key's place on the first page of the plan
+      pub put-placed : (p : Plan) → p ≡ reachLeft h area cap a i (suc a) n → placedIn h area k p
+      put-placed p q = rw q (placed (suc a) (reachLeft h area cap a i (suc a) n) (reached-from h area a i (suc a) n (pagesFrom h area (cap - suc a) (suc a))))

@@ -11,8 +11,9 @@ use lib.Seq.{take-at, drop-at, take-append-le, drop-append-le, take-append-add, 
 use Rattle.numbers.specs.Little.{written}
 use Rattle.numbers.proofs.Laws.{Bytes, bytes-take, bytes-drop, written-length, written-at, written-after}
 use Rattle.pages.specs.Page.{Record, pageBytes, readPage}
-use Rattle.pages.specs.Area.{partAt, pagesFrom, heldFrom, areaFrom, withPage}
-use Rattle.pages.proofs.RoundTrip.{page-length, read-bytes}
+use Rattle.pages.specs.Area.{partAt, pagesFrom, areaFrom, withPage}
+use Rattle.pages.proofs.Write.{page-length}
+use Rattle.pages.proofs.RoundTrip.{read-bytes}
 
 pub part-length : (area : List ℕ) (a : ℕ) → 256 * (a + 1) ≤ length area → length (partAt area a) ≡ 256
 unfolding partAt
@@ -93,23 +94,6 @@ with-from a (suc i) (q ∷ ps) p l =
 -- a page written in an area is a page set in the list
 pub with-area : (i : ℕ) (ps : List (List Record)) (p : List Record) → i < length ps → withPage (areaFrom 0 ps) i p ≡ areaFrom 0 (set ps i p)
 with-area i ps p l = rw zero-add at (with-from 0 i ps p l)
-
--- areas that agree from a page on agree from the next page on
-agree-next : (a : ℕ) (l m : List ℕ) → drop (256 * a) l ≡ drop (256 * a) m → drop (256 * suc a) l ≡ drop (256 * suc a) m
-agree-next a l m e =
-    let f : 256 * suc a ≡ 256 * a + 256 = omega arith in
-    rw (f, ← drop-drop 256 (256 * a) l, ← drop-drop 256 (256 * a) m, e)
-
--- and have the same pages from there on
-pub pages-take : (h : ℕ → ℕ) (n a : ℕ) (l m : List ℕ) → drop (256 * a) l ≡ drop (256 * a) m → pagesFrom h l n a ≡ pagesFrom h m n a
-unfolding partAt
-pages-take h zero a l m e = refl
-pages-take h (suc n) a l m e = rw (e, pages-take h n (suc a) l m (agree-next a l m e))
-
-pub held-take : (n a : ℕ) (l m : List ℕ) → drop (256 * a) l ≡ drop (256 * a) m → heldFrom l n a ≡ heldFrom m n a
-unfolding partAt
-held-take zero a l m e = refl
-held-take (suc n) a l m e = rw (e, held-take n (suc a) l m (agree-next a l m e))
 
 -- good pages from an address on are the bytes of their records
 pub pages-from : (h : ℕ → ℕ) (area : List ℕ) → Bytes area → (n a : ℕ) (ps : List (List Record)) → length area ≡ 256 * (a + n)

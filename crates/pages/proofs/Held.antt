@@ -1,5 +1,5 @@
 -- What a page in memory holds, and how that changes with a record more or a record less.
-use mathlib.Core.Path.{_≡_, refl, sym, ap, _∙_}
+use mathlib.Core.Path.{_≡_, refl, ap, _∙_}
 use mathlib.Core.List.{List, [], _∷_, _++_, map}
 use Prim.Native.Nat.{ℕ, zero, suc, _+_, _-_, _≤_, _<_, min}
 use native.Mathlib.Omega.{arith}
@@ -9,7 +9,6 @@ use Rattle.pages.specs.Page.{Record, key, value, padded, inMemory}
 use Rattle.pages.specs.Slots.{opened, closed, recordsOf, pushed}
 use Rattle.pages.specs.declared.Page.{Page}
 use Rattle.pages.specs.declared.Pushed.{Pushed}
-use Rattle.pages.proofs.Memory.{memory}
 use Rattle.pages.proofs.Rows.{opened-length, opened-count, closed-length, opened-after, map-take, map-opened, map-closed, padded-opened, padded-closed}
 
 -- a count and two rows hold these records
@@ -26,11 +25,6 @@ made : (n : ℕ) (ks vs : List ℕ) (rs : List Record) → Held n ks vs rs
     → _≡_ {A = Page} (record { count = n; keys = ks; values = vs }) (inMemory rs)
 unfolding inMemory
 made n ks vs rs h = rw (h .0, h .1, h .2)
-
--- a page of twelve records at most may be stored, or changed again
-pub fit : (rs : List Record) → length rs ≤ 12 → (inMemory rs .count ≤ 12) × (inMemory rs ≡ inMemory (recordsOf (inMemory rs)))
-unfolding inMemory
-fit rs h = (h, ap inMemory (sym (memory rs)))
 
 -- the rows of records that are opened at a place, and closed over one
 row-opened : (f : Record → ℕ) (at : ℕ) (x : Record) (rs : List Record) → length rs ≤ 12 → at ≤ length rs

@@ -5,8 +5,8 @@ pub mod Read
 pub mod Write
 pub mod Seeking
 pub mod Judging
+pub mod Bounds
 pub mod RoundTrip
 pub mod Rules
 pub mod Places
 pub mod Areas
-pub mod Keys

@@ -3,7 +3,7 @@ use mathlib.Core.Path.{_≡_, refl, ap}
 use mathlib.Core.List.{List, [], _∷_, _++_, map}
 use Prim.Native.Nat.{ℕ, _-_}
 use lib.ListN.{length, replicate}
-use Rattle.pages.specs.Page.{Record, key, value, padded, inMemory}
+use Rattle.pages.specs.Page.{Record, key, value, inMemory}
 use Rattle.pages.specs.Slots.{paired, recordsOf}
 
 paired-rows : (rs : List Record) (ks vs : List ℕ) → paired (length rs) (map key rs ++ ks) (map value rs ++ vs) ≡ rs

@@ -7,39 +7,19 @@ use Prim.Native.Nat.{ℕ, zero, suc, _+_, _*_, _^_, _≤_, _<_}
 use native.Mathlib.Omega.{arith}
 use lib.ListN.{length}
 use lib.Seq.{take-all}
-use Rattle.numbers.specs.Little.{bytesOf, numberAt}
+use Rattle.numbers.specs.Little.{numberAt}
 use Rattle.numbers.specs.Fields.{Field, width, encode, matches}
-use Rattle.numbers.proofs.Laws.{Bytes, bytes-of, bytes-append}
+use Rattle.numbers.proofs.Laws.{Bytes}
 use Rattle.numbers.proofs.Records.{Fit, length-encode, encode-append, and-left, and-right, match-first, match-rest, match-at, matches-append, matches-sound, matches-complete}
 use Rattle.placing.specs.Image.{All}
 use Rattle.placing.proofs.Seek.{clash}
+use Rattle.pages.proofs.Bounds.{Small}
+use Rattle.pages.proofs.Read.{held-few}
+use Rattle.pages.proofs.Write.{slots-width}
 use Rattle.pages.specs.Page.{Record, key, value, full, slots, fields, pageBytes, recordsFrom, countIn, recordsIn, wellFormed, homesTo, rises, readPage}
 
--- key and value are 64-bit numbers
-abbrev pub Small : Record → Type 0
-Small x = (key x < 2 ^ 64) × (value x < 2 ^ 64)
-
-width-slots : (n : ℕ) (rs : List Record) → width (slots n rs) ≡ 20 * n
-width-slots zero rs = refl
-width-slots (suc n) [] = omega (arith, width-slots n [])
-width-slots (suc n) (x ∷ rs) = omega (arith, width-slots n rs)
-
 width-page : (a : ℕ) (rs : List Record) → width (fields a rs) ≡ 256
-width-page a rs = omega (arith, width-slots 12 rs)
-
--- a page has 256 bytes
-pub page-length : (a : ℕ) (rs : List Record) → length (pageBytes a rs) ≡ 256
-unfolding pageBytes
-page-length a rs = length-encode (fields a rs) ∙ width-page a rs
-
-bytes-encode : (fs : List Field) → Bytes (encode fs)
-unfolding encode
-bytes-encode [] = λ k h. omega arith
-bytes-encode (f ∷ fs) = bytes-append (bytesOf (f .0) (f .1)) (encode fs) (bytes-of (f .0) (f .1)) (bytes-encode fs)
-
-pub page-bytes : (a : ℕ) (rs : List Record) → Bytes (pageBytes a rs)
-unfolding pageBytes
-page-bytes a rs = bytes-encode (fields a rs)
+width-page a rs = omega (arith, slots-width 12 rs)
 
 fit-slots : (n : ℕ) (rs : List Record) → All Small rs → Fit (slots n rs)
 fit-slots zero rs s = tt
@@ -110,15 +90,6 @@ module _ (h : ℕ → ℕ) (a : ℕ) (l : List ℕ) where
     pub homes : homesTo h a rs ≡ true
     pub rising : rises h rs ≡ true
 
-from-length : (n i : ℕ) (l : List ℕ) → length (recordsFrom n i l) ≡ n
-from-length zero i l = refl
-from-length (suc n) i l = omega (arith, from-length n (suc i) l)
-
--- any bytes hold twelve records at most
-pub records-few : (l : List ℕ) → length (recordsIn l) ≤ 12
-unfolding recordsIn
-records-few l = omega (arith, from-length (countIn l) 0 l)
-
 -- a page that is read is good
 pub read-good : (h : ℕ → ℕ) (a : ℕ) (l : List ℕ) (rs : List Record) → readPage h a l ≡ some rs → Good h a l rs
 unfolding readPage
@@ -134,7 +105,7 @@ read-good h a l rs e = go (wellFormed a l && (homesTo h a (recordsIn l) && rises
         record {
           formed = and-left (wellFormed a l) (homesTo h a (recordsIn l) && rises h (recordsIn l)) t;
           records = q;
-          few = rw q (records-few l);
+          few = rw q (held-few l);
           homes = rw q (and-left (homesTo h a (recordsIn l)) (rises h (recordsIn l)) r);
           rising = rw q (and-right (homesTo h a (recordsIn l)) (rises h (recordsIn l)) r);
         }

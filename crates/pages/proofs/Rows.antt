@@ -22,10 +22,6 @@ module _ {A : Type 0} where
   pub opened-count : (n at : ℕ) (x : A) (s : List A) → length (take n (opened at x s)) ≡ min n (length s + 1)
   opened-count n at x s = length-take n (opened at x s) ∙ omega (arith, opened-length at x s)
 
-  -- and never more than n
-  pub opened-fits : (n at : ℕ) (x : A) (s : List A) → length (take n (opened at x s)) ≤ n
-  opened-fits n at x s = omega (arith, opened-count n at x s)
-
   -- a row closed over one of its places has one less
   pub closed-length : (at : ℕ) (s : List A) → at < length s → suc (length (closed at s)) ≡ length s
   unfolding closed

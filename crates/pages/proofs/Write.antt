@@ -15,7 +15,7 @@ use Rattle.pages.specs.Page.{Record, key, value, head, slot, slots, fiel
 use Rattle.pages.proofs.Held.{Held}
 
 -- n slots have 20 bytes each
-slots-width : (n : ℕ) (rs : List Record) → width (slots n rs) ≡ 20 * n
+pub slots-width : (n : ℕ) (rs : List Record) → width (slots n rs) ≡ 20 * n
 slots-width zero rs = refl
 slots-width (suc n) [] = omega (arith, slots-width n [])
 slots-width (suc n) (x ∷ rs) = omega (arith, slots-width n rs)

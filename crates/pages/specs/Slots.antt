@@ -2,7 +2,7 @@
 use Prim.Native.Nat.{ℕ, zero, suc}
 use mathlib.Core.Bool.{cond}
 use mathlib.Core.List.{List, [], _∷_, _++_}
-use lib.ListN.{length, take, drop, getD}
+use lib.ListN.{take, drop, getD}
 use lib.Dec.{leb, ltb}
 use Rattle.pages.specs.Page.{Record, key, value, inMemory}
 use Rattle.placing.specs.Lay.{ranked}

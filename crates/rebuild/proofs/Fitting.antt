@@ -1,31 +1,16 @@
 -- The entries of an area's pages fit their bytes.
-use mathlib.Core.Path.{_≡_}
 use mathlib.Core.List.{List, [], _∷_}
 use Prim.Native.Nat.{ℕ, zero, suc, _+_, _*_, _^_, _≤_, _<_}
 use native.Mathlib.Omega.{arith}
-use lib.ListN.{length, drop}
-use Rattle.numbers.proofs.Laws.{Bytes, bytes-take, bytes-drop, length-part, number-bound}
+use lib.ListN.{length}
+use Rattle.numbers.proofs.Laws.{Bytes}
 use Rattle.placing.specs.Image.{All}
 use Rattle.placing.proofs.Lists.{all-append}
-use Rattle.pages.specs.Page.{Record, key, value, countIn, recordsFrom, recordsIn}
+use Rattle.pages.specs.Page.{Record, key, value, recordsIn}
 use Rattle.pages.specs.Area.{partAt, heldFrom}
-use Rattle.pages.proofs.RoundTrip.{Small}
+use Rattle.pages.proofs.Bounds.{Small, part-small}
 use Rattle.entries.proofs.Entries.{Fits}
 use Rattle.rebuild.specs.Rebuild.{tagged, taggedFrom}
-
-from-small : (n i : ℕ) (l : List ℕ) → Bytes l → 16 + 20 * (i + n) ≤ length l → All Small (recordsFrom n i l)
-from-small zero i l b h = tt
-from-small (suc n) i l b h =
-    ((number-bound 8 l (20 + 20 * i) (omega arith) b, number-bound 8 l (28 + 20 * i) (omega arith) b), from-small n (suc i) l b (omega arith))
-
-records-small : (l : List ℕ) → Bytes l → length l ≡ 256 → All Small (recordsIn l)
-unfolding recordsIn
-records-small l b h = from-small (countIn l) 0 l b (omega arith)
-
-part-small : (area : List ℕ) (a : ℕ) → Bytes area → 256 * (a + 1) ≤ length area → All Small (recordsIn (partAt area a))
-unfolding partAt
-part-small area a b h =
-    records-small (partAt area a) (bytes-take 256 (drop (256 * a) area) (bytes-drop (256 * a) area b)) (length-part 256 area (256 * a) (omega arith))
 
 tagged-fit : (h : ℕ → ℕ) (a : ℕ) (p : List Record) → ((k : ℕ) → h k < 2 ^ 16) → a < 2 ^ 16 → All Small p → All Fits (tagged h a p)
 tagged-fit h a [] low l k = tt
@@ -36,5 +21,5 @@ pub held-fit : (h : ℕ → ℕ) (area : List ℕ) (n a : ℕ) → ((k : ℕ) �
 held-fit h area zero a low b e l = tt
 held-fit h area (suc n) a low b e l =
     all-append Fits (tagged h a (recordsIn (partAt area a))) (taggedFrom h (suc a) (heldFrom area n (suc a)))
-    (tagged-fit h a (recordsIn (partAt area a)) low (omega arith) (part-small area a b (omega arith)))
+    (tagged-fit h a (recordsIn (partAt area a)) low (omega arith) (part-small area a (omega arith) b))
     (held-fit h area n (suc a) low b (omega arith) (omega arith))

@@ -21,7 +21,7 @@ use Rattle.pages.specs.Page.{Record, pageBytes, inMemory}
 use Rattle.pages.specs.Slots.{recordsOf}
 use Rattle.pages.specs.Area.{areaFrom, withPage}
 use Rattle.pages.proofs.Memory.{memory}
-use Rattle.pages.proofs.RoundTrip.{page-length}
+use Rattle.pages.proofs.Write.{page-length}
 use Rattle.pages.proofs.Read.{ready}
 use Rattle.entries.specs.declared.Entry.{Entry}
 use Rattle.entries.specs.Entries.{entriesIn, rank, home}

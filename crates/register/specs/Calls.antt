@@ -1,7 +1,7 @@
 -- The calls of the register: what each answers, and the state, the area and the row that it leaves, for any numbers and any bytes. What is quoted is 01's.
-use Prim.Native.Nat.{ℕ, _+_, _*_}
+use Prim.Native.Nat.{ℕ, _*_}
 use mathlib.Core.Bool.{Bool, cond}
-use mathlib.Core.List.{List, [], _∷_}
+use mathlib.Core.List.{List, []}
 use lib.ListN.{length, replicate}
 use lib.Dec.{eqb}
 use Rattle.placing.specs.Image.{cat}
@@ -48,14 +48,18 @@ settled s area next wrong (went pages read moved) =
     cond wrong (refused s area (NotImage read)) (record { done = done next (Accepted 0 read moved); area = writes area pages })
 
 -- 9: "put where r = 12 x cap"
+abbrev pub putOpen : State → List ℕ → Record → Outcome
+putOpen s area x = settled s area (oneMore s) (eqb (s .r) (12 * s .cap)) (putWalk (homes s) area (s .cap) x)
+
 abbrev pub stored : State → List ℕ → Record → Outcome
-stored s area x =
-    onGate (gateOf s (length area)) (refused s area) (settled s area (oneMore s) (eqb (s .r) (12 * s .cap)) (putWalk (homes s) area (s .cap) x))
+stored s area x = onGate (gateOf s (length area)) (refused s area) (putOpen s area x)
 
 -- 9: "remove where r = 0"
+abbrev pub removeOpen : State → List ℕ → (k : ℕ) → Outcome
+removeOpen s area k = settled s area (oneLess s) (eqb (s .r) 0) (removeWalk (homes s) area (s .cap) k)
+
 abbrev pub removed : State → List ℕ → (k : ℕ) → Outcome
-removed s area k =
-    onGate (gateOf s (length area)) (refused s area) (settled s area (oneLess s) (eqb (s .r) 0) (removeWalk (homes s) area (s .cap) k))
+removed s area k = onGate (gateOf s (length area)) (refused s area) (removeOpen s area k)
 
 -- "Check 1, 2, 4, 9."
 abbrev pub checked : State → List ℕ → Done

@@ -1,5 +1,4 @@
 // The register: request number -> the commit it became, in a lent area of pages. Every call takes any numbers and any bytes, and answers.
-use homes::Shape;
 use state::Answer;
 use state::Done;
 use state::State;
@@ -9,15 +8,15 @@ use walks::Plan;
 ghost use mathlib.Core.Path.{_≡_};
 ghost use mathlib.Core.Bool.{true};
 ghost use mathlib.Core.List.{[]};
-ghost use Prim.Native.Nat.{_*_, _≤_, _<_};
+ghost use Prim.Native.Nat.{_*_, _≤_};
 ghost use lib.ListN.{length, replicate};
-ghost use lib.Dec.{eqb};
 ghost use Rattle.pages.specs.Area.{areaFrom};
-ghost use Rattle.state.specs.State.{inRange, homes, oneMore, oneLess};
-ghost use Rattle.walks.specs.Walks.{walk, findAnswer, putWalk, removeWalk};
+ghost use Rattle.state.specs.State.{inRange};
+ghost use Rattle.walks.specs.Walks.{findAnswer};
+ghost use Rattle.walks.specs.Plans.{metIn};
 ghost use Rattle.register.specs.declared.Gate.the-variants.{Open};
 ghost use Rattle.register.specs.Gates.{gateOf, imageGate, growGate, OpenFor, OpenToGrow};
-ghost use Rattle.register.specs.Calls.{formatted, found, settled, stored, removed, checked, grownFile, grew};
+ghost use Rattle.register.specs.Calls.{formatted, found, putOpen, stored, removeOpen, removed, checked, grownFile, grew};
 
 // Whether a call may go on, or why not.
 pub enum Gate {
@@ -136,8 +135,8 @@ pub fn find(state: State, area: &[u8], key: u64) -> Done
 // A put past the gate.
 fn put_open(state: State, area: &mut [u8], key: u64, value: u64) -> Done
     requires { ⌜ (inRange state ≡ true) × (length (now area) ≡ 256 * state .cap) ⌝ }
-    ensures { λ r. ⌜ r ≡ settled state (now (area .entry)) (oneMore state) (eqb (state .r) (12 * state .cap)) (putWalk (homes state) (now (area .entry)) (state .cap) (key, value)) .done ⌝ }
-    ensures { λ _. ⌜ now (area .exit) ≡ settled state (now (area .entry)) (oneMore state) (eqb (state .r) (12 * state .cap)) (putWalk (homes state) (now (area .entry)) (state .cap) (key, value)) .area ⌝ }
+    ensures { λ r. ⌜ r ≡ putOpen state (now (area .entry)) (key, value) .done ⌝ }
+    ensures { λ _. ⌜ now (area .exit) ≡ putOpen state (now (area .entry)) (key, value) .area ⌝ }
 {
     let shape = state.shape();
     let plan = walks::plan_put(&area[..], state.cap as usize, shape, key);
@@ -185,8 +184,8 @@ pub fn put(state: State, area: &mut [u8], key: u64, value: u64) -> Done
 // A remove past the gate.
 fn remove_open(state: State, area: &mut [u8], key: u64) -> Done
     requires { ⌜ (inRange state ≡ true) × (length (now area) ≡ 256 * state .cap) ⌝ }
-    ensures { λ r. ⌜ r ≡ settled state (now (area .entry)) (oneLess state) (eqb (state .r) 0) (removeWalk (homes state) (now (area .entry)) (state .cap) key) .done ⌝ }
-    ensures { λ _. ⌜ now (area .exit) ≡ settled state (now (area .entry)) (oneLess state) (eqb (state .r) 0) (removeWalk (homes state) (now (area .entry)) (state .cap) key) .area ⌝ }
+    ensures { λ r. ⌜ r ≡ removeOpen state (now (area .entry)) key .done ⌝ }
+    ensures { λ _. ⌜ now (area .exit) ≡ removeOpen state (now (area .entry)) key .area ⌝ }
 {
     let shape = state.shape();
     let plan = walks::plan_remove(&area[..], state.cap as usize, shape, key);

@@ -7,9 +7,9 @@ use mathlib.Core.List.{List, [], _∷_, _++_, map, Permᴰ·refl}
 use Prim.Native.Nat.{ℕ, zero, suc, _+_, _*_, _^_, _≤_, _<_}
 use native.Mathlib.Omega.{arith}
 use lib.Dec.{leb}
-use lib.ListN.{length, drop}
+use lib.ListN.{length}
 use borrow.Author.Tests.{leb-true, le-leb}
-use Rattle.numbers.proofs.Laws.{Bytes, bytes-take, bytes-drop, number-bound}
+use Rattle.numbers.proofs.Laws.{Bytes}
 use Rattle.numbers.proofs.Records.{and-left, and-right}
 use Rattle.placing.specs.Image.{All, cat, Distinct, RecordSet, home, Image}
 use Rattle.placing.specs.Lay.{rankOf, rankIn}
@@ -19,11 +19,11 @@ use Rattle.placing.proofs.Forms.{FirstHome, Local, local-packed, packed-local}
 use Rattle.placing.proofs.Rank.{mono, rising-sorted}
 use Rattle.placing.proofs.Tidy.{Tidy, image-tidy, tidy-image}
 use Rattle.placing.proofs.Seek.{clash}
-use Rattle.pages.specs.Page.{Record, key, recordsFrom, countIn, recordsIn, homesTo, rises, readPage}
+use Rattle.pages.specs.Page.{Record, key, recordsIn, homesTo, rises, readPage}
 use Rattle.pages.specs.Area.{partAt, pagesFrom, heldFrom}
-use Rattle.pages.proofs.RoundTrip.{Small, Good, read-good}
+use Rattle.pages.proofs.RoundTrip.{Good, read-good}
+use Rattle.pages.proofs.Bounds.{keys-small}
 use Rattle.pages.proofs.Rules.{homes-all, rises-sorted}
-use Rattle.pages.proofs.Areas.{part-length}
 use Rattle.survey.specs.Survey.{lowestBroken, startsAtHome, startsAt, nextLow, imageFrom, isImage}
 
 module _ (h : ℕ → ℕ) where
@@ -165,18 +165,6 @@ module _ (h : ℕ → ℕ) where
             local-test true 0 0 ps (packed-local rank (home key h) 12 (omega arith) (mono key h) true 0 ps (t .packed) (λ e. absurd (let z : _≡_ {A = ℕ} 0 1 = cc in omega arith))) s
             (all-map (λ x. key x < 2 ^ 64) (λ y. 0 ≤ rank y) (λ y k. omega arith) (cat ps []) (good-keys 0 ps g))
 
--- key and value of what bytes hold are 64-bit numbers
-small-from : (l : List ℕ) → length l ≡ 256 → Bytes l → (n i : ℕ) → n + i ≤ 12 → All Small (recordsFrom n i l)
-small-from l m b zero i f = tt
-small-from l m b (suc n) i f = (
-  (number-bound 8 l (20 + 20 * i) (omega arith) b, number-bound 8 l (28 + 20 * i) (omega arith) b),
-  small-from l m b n (suc i) (omega arith),
-)
-
-pub records-small : (l : List ℕ) → length l ≡ 256 → Bytes l → All Small (recordsIn l)
-unfolding recordsIn
-records-small l m b = small-from l m b (countIn l) 0 (omega arith)
-
 module _ (h : ℕ → ℕ) (area : List ℕ) where
   -- where no page is broken, each is read as what it holds
   pub none-broken : (n a : ℕ) → lowestBroken a (pagesFrom h area n a) ≡ none → pagesFrom h area n a ≡ map some (heldFrom area n a)
@@ -204,7 +192,5 @@ module _ (h : ℕ → ℕ) (area : List ℕ) where
       go (some p) q on =
           let l : List ℕ = partAt area a in
           let g : Good h a l p = read-good h a l p q in
-          let small : All Small (recordsIn l) =
-          records-small l (part-length area a (omega arith)) (bytes-take 256 (drop (256 * a) area) (bytes-drop (256 * a) area b)) in
-          let keys : All (λ x. key x < 2 ^ 64) (recordsIn l) = all-map Small (λ x. key x < 2 ^ 64) (λ x k. k .0) (recordsIn l) small in
+          let keys : All (λ x. key x < 2 ^ 64) (recordsIn l) = keys-small area a (omega arith) b in
           (rw (← g .records) (record { few = g .few; homes = g .homes; rising = g .rising; keys = rw (g .records) keys }), on (rw q at e))

@@ -14,7 +14,7 @@ ghost use Rattle.pages.specs.Page.{homeFor};
 ghost use Rattle.pages.specs.Slots.{recordsOf};
 ghost use Rattle.pages.specs.Area.{heldFrom};
 ghost use Rattle.survey.specs.Survey.{surveyed};
-ghost use Rattle.survey.specs.Looks.{unseen, looked, tallied};
+ghost use Rattle.survey.specs.Looks.{looked, tallied};
 
 // The lowest broken page; or, with none broken, whether the pages are an image, and of how many records.
 pub enum Verdict {

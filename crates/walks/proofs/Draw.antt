@@ -14,7 +14,7 @@ use Rattle.pages.specs.Page.{Record, key, rank, recordsIn, inMemory}
 use Rattle.pages.specs.Slots.{opened, closed, upToBack, recordsOf, pushed}
 use Rattle.pages.specs.Area.{partAt, withPage}
 use Rattle.pages.proofs.Memory.{memory}
-use Rattle.pages.proofs.RoundTrip.{records-few}
+use Rattle.pages.proofs.Read.{held-few}
 use Rattle.pages.proofs.Areas.{with-length, part-other}
 use Rattle.walks.specs.Walks.{writes}
 use Rattle.walks.specs.Plans.{held, firstOf, backed, drawn}
@@ -48,7 +48,7 @@ kept p rs n e = (omega (arith, page-count p rs e), e ∙ ap inMemory (sym (page-
 
 -- as it is read, closed up and filled
 pub read-kept : (p : Page) (l : List ℕ) → p ≡ inMemory (recordsIn l) → Kept p
-read-kept p l e = kept p (recordsIn l) (records-few l) e
+read-kept p l e = kept p (recordsIn l) (held-few l) e
 
 pub shut-kept : (p q : Page) (slot : ℕ) → Kept p → q ≡ inMemory (closed slot (recordsOf p)) → Kept q
 shut-kept p q slot k e =

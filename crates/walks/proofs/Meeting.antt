@@ -30,7 +30,7 @@ use Rattle.pages.proofs.RoundTrip.{Good, read-good}
 use Rattle.pages.proofs.Rules.{rises-sorted}
 use Rattle.pages.proofs.Places.{ahead-le, ahead-all}
 use Rattle.pages.proofs.Seeking.{paired-length, place-ahead}
-use Rattle.pages.proofs.Keys.{keys-small}
+use Rattle.pages.proofs.Bounds.{keys-small}
 use Rattle.walks.specs.declared.Met.{Met}
 use Rattle.walks.specs.declared.Met.the-variants.{Found, Sick, Ends, Past}
 use Rattle.walks.specs.Walks.{heldAt, onHeld, endsOn, meets, walk}

@@ -7,13 +7,14 @@ use Prim.Native.Nat.{ℕ, zero, suc, _+_, _-_, _≤_, _<_}
 use native.Mathlib.Nat.{zero-add}
 use native.Mathlib.Omega.{arith}
 use lib.Dec.{leb, ltb}
-use lib.ListN.{length, take, drop, length-append, length-take, length-drop}
+use lib.ListN.{length}
 use lib.Seq.{take-all}
 use Rattle.placing.specs.Image.{All}
 use Rattle.placing.specs.Lay.{rankIn, ins}
 use Rattle.placing.proofs.Order.{Sorted, ins-length}
 use Rattle.pages.specs.Page.{Record, key, rises, readPage}
 use Rattle.pages.specs.Slots.{closed}
+use Rattle.pages.proofs.Rows.{closed-length}
 use Rattle.pages.specs.Area.{partAt, pagesFrom}
 use Rattle.pages.proofs.RoundTrip.{Good, read-good}
 use Rattle.pages.proofs.Rules.{rises-sorted}
@@ -44,11 +45,6 @@ module _ {R : Type 0} where
   sorted-closed rank zero (x ∷ s) k = k .1
   sorted-closed rank (suc i) [] k = tt
   sorted-closed rank (suc i) (x ∷ s) k = (all-closed (λ y. rank x < rank y) i s (k .0), sorted-closed rank i s (k .1))
-
-  -- and takes one out
-  closed-length : (i : ℕ) (s : List R) → i < length s → suc (length (closed i s)) ≡ length s
-  unfolding closed
-  closed-length i s l = omega (arith, length-append (take i s) (drop (suc i) s), length-take i s, length-drop (suc i) s)
 
   closed-first : (y : R) (q : List R) → closed 0 (y ∷ q) ≡ q
   unfolding closed

@@ -1,5 +1,5 @@
 -- The walks of find, put and remove on any bytes (01, 'The walks'). What is quoted is 01's. A page is none where it is broken; h is the home of a key; n counts the pages read.
-use Prim.Native.Nat.{ℕ, zero, suc, _-_}
+use Prim.Native.Nat.{ℕ, suc, _-_}
 use mathlib.Core.Bool.{Bool, cond, _||_}
 use mathlib.Core.Option.{Option, none, some}
 use mathlib.Core.List.{List, [], _∷_}

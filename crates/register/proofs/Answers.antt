@@ -1,0 +1,74 @@
+-- What format, check and grow come to, on each way out of their gates.
+use mathlib.Core.Path.{_≡_, refl, sym}
+use mathlib.Core.Bool.{Bool, true, false}
+use mathlib.Core.List.{List, []}
+use Prim.Native.Nat.{ℕ, _*_, _≤_, _<_}
+use native.Mathlib.Omega.{arith}
+use lib.ListN.{length, replicate}
+use Rattle.pages.specs.Area.{areaFrom}
+use Rattle.state.specs.declared.State.{State}
+use Rattle.state.specs.declared.Done.{Done}
+use Rattle.state.specs.declared.Answer.{Answer}
+use Rattle.state.specs.declared.Answer.the-variants.{Accepted, OutOfRange}
+use Rattle.state.specs.State.{inRange, fresh}
+use Rattle.state.proofs.Ranges.{Ranged, ranged}
+use Rattle.register.specs.declared.Gate.{Gate}
+use Rattle.register.specs.declared.Gate.the-variants.{Open, Shut}
+use Rattle.register.specs.Gates.{gateOf, imageGate, growGate}
+use Rattle.register.specs.Calls.{done, Outcome, formatted, checked, Growth, grownFile, grew}
+use Rattle.register.proofs.Gating.{range-shut}
+
+-- the state and answer, and the area, of an outcome
+abbrev pub Comes : Done → List ℕ → Outcome → Type 0
+Comes d area o = (d ≡ o .done) × (area ≡ o .area)
+
+-- the same of a growth, with the row
+abbrev pub Grows : Done → List ℕ → List ℕ → Growth → Type 0
+Grows d area row o = (d ≡ o .done) × ((area ≡ o .area) × (row ≡ o .row))
+
+-- more pages than 16 bits count are out of range
+wide-range : (n0 N s cap : ℕ) → 65535 < n0 * N → cap < 65536 → inRange (fresh n0 N s cap) ≡ false
+wide-range n0 N s cap w l = go (inRange (fresh n0 N s cap)) refl
+  where
+    go : (u : Bool) → inRange (fresh n0 N s cap) ≡ u → u ≡ false
+    go false e = refl
+    go true e = absurd (let r : Ranged (fresh n0 N s cap) = ranged (fresh n0 N s cap) e in omega (arith, r .p-high))
+
+-- past its gate a format has pages to clear
+pub fresh-fits : (n0 N s cap n : ℕ) (f : State) → f ≡ fresh n0 N s cap → inRange f ≡ true → n ≡ 256 * f .cap → (cap ≤ 4096) × (n ≡ 256 * cap)
+fresh-fits n0 N s cap n f k e l =
+    let r : Ranged f = ranged f e in
+    let c : f .cap ≡ cap = rw k in
+    (omega arith, omega arith)
+
+module _ (old : State) (n0 N s cap : ℕ) (area : List ℕ) where
+  -- a refused format gives back the old state and the old area
+  pub format-shut : (f : State) → f ≡ fresh n0 N s cap → (g : Gate) → g ≡ gateOf f (length area) → (why : Answer) → g ≡ Shut why
+      → Comes (done old why) area (formatted old n0 N s cap area)
+  format-shut f k g gate why e = rw (← k, ← gate, e) (refl, refl)
+
+  pub format-wide : 65535 < n0 * N → cap < 65536 → Comes (done old OutOfRange) area (formatted old n0 N s cap area)
+  format-wide w l =
+      format-shut (fresh n0 N s cap) refl (gateOf (fresh n0 N s cap) (length area)) refl OutOfRange (sym (range-shut (fresh n0 N s cap) (length area) (wide-range n0 N s cap w l)))
+
+  pub format-open : (f : State) → f ≡ fresh n0 N s cap → (g : Gate) → g ≡ gateOf f (length area) → g ≡ Open → (new : List ℕ) → new ≡ areaFrom 0 (replicate cap [])
+      → Comes (done f (Accepted 0 0 0)) new (formatted old n0 N s cap area)
+  format-open f k g gate e new n = rw (← k, ← gate, e) (refl, n)
+
+module _ (s : State) (area : List ℕ) (g : Gate) (gate : g ≡ gateOf s (length area)) where
+  pub check-shut : (why : Answer) → g ≡ Shut why → done s why ≡ checked s area
+  check-shut why e = rw (← gate, e)
+
+  module _ (e : g ≡ Open) (i : Gate) (image : i ≡ imageGate s area) where
+    pub check-no : (why : Answer) → i ≡ Shut why → done s why ≡ checked s area
+    check-no why k = rw (← gate, e, ← image, k)
+
+    pub check-yes : i ≡ Open → done s (Accepted 0 (s .cap) 0) ≡ checked s area
+    check-yes k = rw (← gate, e, ← image, k)
+
+module _ (s : State) (area row : List ℕ) (g : Gate) (gate : g ≡ growGate s area (length row)) where
+  pub grew-shut : (why : Answer) → g ≡ Shut why → Grows (done s why) area row (grew s area row)
+  grew-shut why e = rw (← gate, e) (refl, (refl, refl))
+
+  pub grew-open : g ≡ Open → (d : Done) (new filled : List ℕ) → Grows d new filled (grownFile s area) → Grows d new filled (grew s area row)
+  grew-open e d new filled k = rw (← gate, e) k

@@ -1,0 +1,125 @@
+-- What check tells its user.
+use mathlib.Core.Path.{_≡_, refl, sym, ap, _∙_}
+use mathlib.Core.Bool.{Bool, true, false, cond, _&&_}
+use mathlib.Core.Logic.{_↔_}
+use mathlib.Core.Option.{none, some}
+use mathlib.Core.List.{List, [], _∷_, map, Permᴰ·refl}
+use Prim.Native.Nat.{ℕ, zero, suc, _*_}
+use native.Mathlib.Omega.{arith}
+use lib.Dec.{eqb}
+use lib.ListN.{length}
+use Rattle.numbers.proofs.Laws.{Bytes}
+use Rattle.placing.specs.Image.{cat, RecordSet, Image}
+use Rattle.placing.proofs.Perms.{perm-length}
+use Rattle.pages.specs.Page.{Record, key}
+use Rattle.pages.specs.Area.{pagesFrom, heldFrom}
+use Rattle.survey.specs.declared.Verdict.{Verdict}
+use Rattle.survey.specs.declared.Verdict.the-variants.{Sick, Whole}
+use Rattle.survey.specs.Survey.{lowestBroken, surveyed}
+use Rattle.survey.proofs.ImageTest.{GoodFrom, image-set, image-test, none-broken, good-pages}
+use Rattle.state.specs.declared.State.{State}
+use Rattle.state.specs.declared.Answer.the-variants.{Accepted, NotImage}
+use Rattle.state.specs.State.{inRange, homes}
+use Rattle.register.specs.declared.Gate.the-variants.{Open, Shut}
+use Rattle.register.specs.Gates.{onGate, gateOf, imageOf, imageGate}
+use Rattle.register.specs.Calls.{done, checked}
+use Rattle.register.proofs.Gating.{gate-open}
+use Rattle.register.proofs.Judging.{Sound, open-sound, sound-open}
+
+-- "An area is the image of a record set when all pages pass the page rules", and the records lie as 01 says
+pub record AreaImage (s : State) (area : List ℕ) (rs : List Record) : Type 0 where
+  pub pages : List (List Record)
+  pub pass : pagesFrom (homes s) area (s .cap) 0 ≡ map some pages
+  pub image : Image key (homes s) 12 (s .cap) rs pages
+
+-- "the area is the image of r records"
+pub record ImageOfR (s : State) (area : List ℕ) : Type 0 where
+  pub records : List Record
+  pub set : RecordSet key records
+  pub count : length records ≡ s .r
+  pub is : AreaImage s area records
+
+-- good pages have no broken one among them
+none-lowest : (a : ℕ) (ps : List (List Record)) → lowestBroken a (map some ps) ≡ none
+none-lowest a [] = refl
+none-lowest a (p ∷ ps) = none-lowest (suc a) ps
+
+-- what pages are read as is one list
+same-pages : (ps qs : List (List Record)) → map some ps ≡ map some qs → ps ≡ qs
+same-pages [] [] e = refl
+same-pages [] (q ∷ qs) e = absurd (let z : _≡_ {A = ℕ} 0 1 = cc in omega arith)
+same-pages (p ∷ ps) [] e = absurd (let z : _≡_ {A = ℕ} 0 1 = cc in omega arith)
+same-pages (p ∷ ps) (q ∷ qs) e =
+    let x : p ≡ q = cc in
+    let t : map some ps ≡ map some qs = cc in
+    rw (x, same-pages ps qs t)
+
+held-length : (area : List ℕ) (n a : ℕ) → length (heldFrom area n a) ≡ n
+held-length area zero a = refl
+held-length area (suc n) a = ap suc (held-length area n (suc a))
+
+-- an image of records is that of the records that stand on it
+of-own : {h : ℕ → ℕ} {n : ℕ} {rs : List Record} {ps : List (List Record)} → Image key h 12 n rs ps → Image key h 12 n (cat ps []) ps
+of-own {ps = ps} i =
+    let a = i .arranged in
+    record { arranged = record { many = a .many; slots = a .slots; lies = a .lies; holds = Permᴰ·refl (cat ps []) }; full = i .full; rising = i .rising }
+
+-- a gate that is shut says why not
+only-open : (s : State) (area : List ℕ) → onGate (imageGate s area) (done s) (done s (Accepted 0 (s .cap) 0)) .answer ≡ Accepted 0 (s .cap) 0 → imageGate s area ≡ Open
+unfolding imageGate
+only-open s area e = go (surveyed (homes s) area (s .cap)) e
+  where
+    tests : (u : Bool) → onGate (cond u Open (Shut (NotImage (s .cap)))) (done s) (done s (Accepted 0 (s .cap) 0)) .answer ≡ Accepted 0 (s .cap) 0
+        → cond u Open (Shut (NotImage (s .cap))) ≡ Open
+    tests true k = refl
+    tests false k = absurd (let z : _≡_ {A = ℕ} 0 1 = cc in omega arith)
+
+    go : (v : Verdict) → onGate (imageOf s v) (done s) (done s (Accepted 0 (s .cap) 0)) .answer ≡ Accepted 0 (s .cap) 0 → imageOf s v ≡ Open
+    go (Sick a) k = absurd (let z : _≡_ {A = ℕ} 0 1 = cc in omega arith)
+    go (Whole image records) k = tests (image && eqb records (s .r)) k
+
+module _ (s : State) (area : List ℕ) (b : Bytes area) (l : length area ≡ 256 * s .cap) where
+  good : lowestBroken 0 (pagesFrom (homes s) area (s .cap) 0) ≡ none → GoodFrom (homes s) 0 (heldFrom area (s .cap) 0)
+  good e = good-pages (homes s) area b (s .cap) 0 (omega arith) e
+
+  -- what opens the gate is 01's image, and the other way round
+  sound-image : Sound s area → ImageOfR s area
+  sound-image k =
+      let ps : List (List Record) = heldFrom area (s .cap) 0 in
+      let g : GoodFrom (homes s) 0 ps = good (k .whole) in
+      record {
+        records = cat ps [];
+        set = image-set (homes s) ps (k .image) g;
+        count = k .count;
+        is = record {
+          pages = ps;
+          pass = none-broken (homes s) area (s .cap) 0 (k .whole);
+          image = image-test (homes s) ps (s .cap) (held-length area (s .cap) 0) g .0 (k .image);
+        };
+      }
+
+  image-sound : ImageOfR s area → Sound s area
+  image-sound w =
+      let ps : List (List Record) = heldFrom area (s .cap) 0 in
+      let i : AreaImage s area (w .records) = w .is in
+      let whole : lowestBroken 0 (pagesFrom (homes s) area (s .cap) 0) ≡ none = rw (i .pass) (none-lowest 0 (i .pages)) in
+      let e : i .pages ≡ ps = same-pages (i .pages) ps (sym (i .pass) ∙ none-broken (homes s) area (s .cap) 0 whole) in
+      let m : Image key (homes s) 12 (s .cap) (w .records) ps = rw e at (i .image) in
+      record {
+        whole = whole;
+        image = image-test (homes s) ps (s .cap) (held-length area (s .cap) 0) (good whole) .1 (of-own m);
+        count = perm-length (m .arranged .holds) ∙ w .count;
+      }
+
+  -- "Check says yes exactly when the area is the image of r records."
+  pub check-image : inRange s ≡ true → (checked s area .answer ≡ Accepted 0 (s .cap) 0) ↔ ImageOfR s area
+  check-image r = (λ e. sound-image (open-sound s area (yes e)), λ w. says (sound-open s area (image-sound w)))
+    where
+      gate : Open ≡ gateOf s (length area)
+      gate = gate-open s (length area) r l
+
+      says : imageGate s area ≡ Open → checked s area .answer ≡ Accepted 0 (s .cap) 0
+      says e = rw (← gate, e)
+
+      yes : checked s area .answer ≡ Accepted 0 (s .cap) 0 → imageGate s area ≡ Open
+      yes e = only-open s area (rw (← gate) at e)

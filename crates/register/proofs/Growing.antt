@@ -1,0 +1,99 @@
+-- A growth past its gate: the records are a set, their homes are pages, and the row of counts tells whether they have room.
+use mathlib.Core.Path.{_≡_, refl, sym, ap, _∙_}
+use mathlib.Core.Bool.{Bool, true, false}
+use mathlib.Core.List.{List, [], _∷_}
+use Prim.Native.Nat.{ℕ, _+_, _*_, _≤_, _<_}
+use native.Mathlib.Omega.{arith}
+use lib.Dec.{eqb}
+use lib.ListN.{length}
+use borrow.Author.Tests.{eqb-true}
+use Rattle.numbers.proofs.Laws.{Bytes}
+use Rattle.homes.specs.declared.Shape.{Shape}
+use Rattle.homes.specs.Homes.{shapeOf, homeIn}
+use Rattle.homes.proofs.Homes.{home-below}
+use Rattle.placing.specs.Image.{All, cat, RecordSet}
+use Rattle.placing.specs.Lay.{taken}
+use Rattle.placing.specs.Rows.{counts, leftOver, strayed}
+use Rattle.placing.proofs.Rows.{counts-length, row-room}
+use Rattle.pages.specs.Page.{Record, key, homeFor}
+use Rattle.pages.specs.Area.{heldFrom, areaFrom}
+use Rattle.rebuild.specs.Rebuild.{relaid}
+use Rattle.survey.proofs.ImageTest.{image-set, good-pages}
+use Rattle.state.specs.declared.State.{State}
+use Rattle.state.specs.declared.Answer.the-variants.{Accepted, NoRoom}
+use Rattle.state.specs.State.{inRange, homes, grown}
+use Rattle.state.proofs.Ranges.{Ranged, ranged, in-shape, grown-range}
+use Rattle.register.specs.declared.Gate.the-variants.{Open}
+use Rattle.register.specs.Gates.{imageGate}
+use Rattle.register.specs.Calls.{done, grownFile}
+use Rattle.register.proofs.Judging.{Sound, open-sound}
+use Rattle.register.proofs.Answers.{Grows}
+
+-- the records of an area that is an image are a set
+pub held-set : (s : State) (area : List ℕ) → Bytes area → length area ≡ 256 * s .cap → imageGate s area ≡ Open
+    → RecordSet key (cat (heldFrom area (s .cap) 0) [])
+held-set s area b l e =
+    let k : Sound s area = open-sound s area e in
+    image-set (homes s) (heldFrom area (s .cap) 0) (k .image) (good-pages (homes s) area b (s .cap) 0 (omega arith) (k .whole))
+
+-- what holds of every record holds of all
+all-of : (P : Record → Type 0) → ((x : Record) → P x) → (rs : List Record) → All P rs
+all-of P f [] = tt
+all-of P f (x ∷ rs) = (f x, all-of P f rs)
+
+-- a row of counts is as long as the area has pages
+pub row-few : (h : ℕ → ℕ) (rs : List Record) (cap : ℕ) (row : List ℕ) → cap ≤ 4096 → row ≡ counts (homeFor h) rs cap 0 → length row ≤ 4096
+row-few h rs cap row l e = omega (arith, ap length e, counts-length (homeFor h) rs cap 0)
+
+-- a file of one page more: its state and its shape
+module _ (s : State) (range : inRange s ≡ true) (low : s .p < s .cap) where
+  pub grown-low : s .p < 4096
+  grown-low = let r : Ranged s = ranged s range in omega arith
+
+  pub grown-in : (next : State) → next ≡ grown s → inRange next ≡ true
+  grown-in next e = rw e (grown-range s range low)
+
+  module _ (next : State) (more : next ≡ grown s) (shape : Shape) (of : shape ≡ shapeOf (next .n0) (next .n) (next .s) (next .p)) where
+    pub shape-low : shape .p ≤ s .cap
+    shape-low = rw (of, more) (omega arith)
+
+    -- its homes are those of the grown state
+    same-homes : homeIn shape ≡ homes (grown s)
+    same-homes = rw (of, more)
+
+    -- and pages of the area
+    homes-low : (rs : List Record) → All (λ x. homeFor (homeIn shape) x < s .cap) rs
+    homes-low rs =
+        all-of (λ x. homeFor (homeIn shape) x < s .cap)
+        (λ x. rw same-homes (omega (arith, home-below (s .n0) (s .n) (s .s) (s .p + 1) (key x) (in-shape (grown s) (grown-range s range low)))))
+        rs
+
+    module _ (area row : List ℕ) (filled : row ≡ counts (homeFor (homeIn shape)) (cat (heldFrom area (s .cap) 0) []) (s .cap) 0) (room : Bool) (told : room ≡ eqb (leftOver 12 row 0) 0) where
+      -- the counts tell whether the pages can take all
+      room-taken : room ≡ eqb (taken (homeFor (homeIn shape)) 12 (cat (heldFrom area (s .cap) 0) []) (s .cap)) (length (cat (heldFrom area (s .cap) 0) []))
+      room-taken =
+          let rs : List Record = cat (heldFrom area (s .cap) 0) [] in
+          told ∙ (rw filled (row-room (homeFor (homeIn shape)) 12 rs (s .cap) (homes-low rs)))
+
+      -- which a rebuild requires
+      pub takes-all : room ≡ true → taken (homeFor (homeIn shape)) 12 (cat (heldFrom area (s .cap) 0) []) (s .cap) ≡ length (cat (heldFrom area (s .cap) 0) [])
+      takes-all e = eqb-true _ _ (sym room-taken ∙ e)
+
+      -- both in the words of the grown state
+      decided : eqb (taken (homeFor (homes (grown s))) 12 (cat (heldFrom area (s .cap) 0) []) (s .cap)) (length (cat (heldFrom area (s .cap) 0) [])) ≡ room
+      decided = rw same-homes at (sym room-taken)
+
+      row-filled : row ≡ counts (homeFor (homes (grown s))) (cat (heldFrom area (s .cap) 0) []) (s .cap) 0
+      row-filled = rw same-homes at filled
+
+      -- without room the area stays, and the row is filled
+      pub grow-full : room ≡ false → Grows (done s (NoRoom (s .cap))) area row (grownFile s area)
+      unfolding grownFile
+      grow-full e = rw (decided, e) (refl, (refl, row-filled))
+
+      -- with room the file is made anew
+      pub grow-done : room ≡ true → (moved : ℕ) → moved ≡ strayed key (heldFrom area (s .cap) 0) (relaid (homeIn shape) (s .cap) (heldFrom area (s .cap) 0))
+          → (new : List ℕ) → new ≡ areaFrom 0 (relaid (homeIn shape) (s .cap) (heldFrom area (s .cap) 0))
+          → Grows (done next (Accepted 0 (s .cap) moved)) new row (grownFile s area)
+      unfolding grownFile
+      grow-done e moved m new n = rw (decided, e, ← same-homes) (rw (more, m), (n, filled))

@@ -1,0 +1,105 @@
+-- The gate of the pages: what a survey tells decides.
+use mathlib.Core.Path.{_≡_, refl, sym, ap, _∙_}
+use mathlib.Core.Bool.{Bool, true, false, cond, _&&_}
+use mathlib.Core.Option.{Option, none, some}
+use mathlib.Core.List.{List, [], _∷_}
+use Prim.Native.Nat.{ℕ, zero, suc, _+_, _<_}
+use native.Mathlib.Numerals.{add-one}
+use native.Mathlib.Omega.{arith}
+use lib.Dec.{eqb}
+use lib.ListN.{length}
+use borrow.Author.Tests.{eqb-true, eq-eqb}
+use Rattle.homes.specs.declared.Shape.{Shape}
+use Rattle.homes.specs.Homes.{shapeOf, homeIn}
+use Rattle.numbers.proofs.Records.{and-left, and-right}
+use Rattle.placing.specs.Image.{cat}
+use Rattle.pages.specs.Page.{Record}
+use Rattle.pages.specs.Area.{pagesFrom, heldFrom}
+use Rattle.survey.specs.declared.Verdict.{Verdict}
+use Rattle.survey.specs.declared.Verdict.the-variants.{Sick, Whole}
+use Rattle.survey.specs.Survey.{lowestBroken, isImage, onBroken, surveyed}
+use Rattle.state.specs.declared.State.{State}
+use Rattle.state.specs.declared.Answer.the-variants.{Broken, NotImage}
+use Rattle.state.specs.State.{homes}
+use Rattle.register.specs.declared.Gate.the-variants.{Open, Shut}
+use Rattle.register.specs.Gates.{imageOf, imageGate}
+
+-- the lowest broken page is one of those looked at
+lowest-below : (a b : ℕ) (ps : List (Option (List Record))) → lowestBroken a ps ≡ some b → b < a + length ps
+lowest-below a b [] e = absurd (let z : _≡_ {A = ℕ} 0 1 = cc in omega arith)
+lowest-below a b (none ∷ ps) e = let q : a ≡ b = cc in omega arith
+lowest-below a b (some p ∷ ps) e = omega (arith, lowest-below (suc a) b ps e)
+
+pages-length : (h : ℕ → ℕ) (area : List ℕ) (n a : ℕ) → length (pagesFrom h area n a) ≡ n
+pages-length h area zero a = refl
+pages-length h area (suc n) a = ap suc (pages-length h area n (suc a))
+
+-- so what a survey calls broken is a page of the area
+pub sick-below : (h : ℕ → ℕ) (area : List ℕ) (cap : ℕ) (v : Verdict) (a : ℕ) → v ≡ surveyed h area cap → v ≡ Sick a → a < cap
+unfolding surveyed
+sick-below h area cap v a t e = go (lowestBroken 0 (pagesFrom h area cap 0)) refl (sym t ∙ e)
+  where
+    whole : Verdict
+    whole = Whole (isImage h (heldFrom area cap 0)) (length (cat (heldFrom area cap 0) []))
+
+    go : (o : Option ℕ) → lowestBroken 0 (pagesFrom h area cap 0) ≡ o → onBroken h o whole ≡ Sick a → a < cap
+    go none q k = absurd (let z : _≡_ {A = ℕ} 0 1 = cc in omega arith)
+    go (some b) q k =
+        let w : b ≡ a = cc in
+        omega (arith, lowest-below 0 b (pagesFrom h area cap 0) q, pages-length h area cap 0)
+
+module _ (s : State) (area : List ℕ) (shape : Shape) (f : shape ≡ shapeOf (s .n0) (s .n) (s .s) (s .p)) (v : Verdict) (t : v ≡ surveyed (homeIn shape) area (s .cap)) where
+  -- the verdict is that of the state's own homes
+  told : imageOf s v ≡ imageGate s area
+  unfolding imageGate
+  told = rw (t, f)
+
+  -- a broken page, which is the last that was read
+  pub broken-shut : (a : ℕ) → v ≡ Sick a → Shut (Broken a (a + 1)) ≡ imageGate s area
+  broken-shut a e = rw add-one (rw e at told)
+
+  module _ (image : Bool) (records : ℕ) (e : v ≡ Whole image records) where
+    -- an image of the right number of records, or not
+    pub image-open : (image && eqb records (s .r)) ≡ true → Open ≡ imageGate s area
+    image-open u = rw (e, u) at told
+
+    pub image-shut : (image && eqb records (s .r)) ≡ false → Shut (NotImage (s .cap)) ≡ imageGate s area
+    image-shut u = rw (e, u) at told
+
+-- what an open gate tells of the pages: none is broken, and they are an image of as many records as the state tells
+pub record Sound (s : State) (area : List ℕ) : Type 0 where
+  pub whole : lowestBroken 0 (pagesFrom (homes s) area (s .cap) 0) ≡ none
+  pub image : isImage (homes s) (heldFrom area (s .cap) 0) ≡ true
+  pub count : length (cat (heldFrom area (s .cap) 0) []) ≡ s .r
+
+pub open-sound : (s : State) (area : List ℕ) → imageGate s area ≡ Open → Sound s area
+unfolding imageGate surveyed
+open-sound s area e = look (lowestBroken 0 (pagesFrom h area (s .cap) 0)) refl e
+  where
+    h : ℕ → ℕ
+    h = homes s
+
+    held : List (List Record)
+    held = heldFrom area (s .cap) 0
+
+    records : ℕ
+    records = length (cat held [])
+
+    tests : (u : Bool) → (isImage h held && eqb records (s .r)) ≡ u → cond u Open (Shut (NotImage (s .cap))) ≡ Open → (isImage h held && eqb records (s .r)) ≡ true
+    tests true q k = q
+    tests false q k = absurd (let z : _≡_ {A = ℕ} 0 1 = cc in omega arith)
+
+    look : (o : Option ℕ) → lowestBroken 0 (pagesFrom h area (s .cap) 0) ≡ o → imageOf s (onBroken h o (Whole (isImage h held) records)) ≡ Open → Sound s area
+    look (some a) q k = absurd (let z : _≡_ {A = ℕ} 0 1 = cc in omega arith)
+    look none q k =
+        let t : (isImage h held && eqb records (s .r)) ≡ true = tests (isImage h held && eqb records (s .r)) refl k in
+        record {
+          whole = q;
+          image = and-left (isImage h held) (eqb records (s .r)) t;
+          count = eqb-true records (s .r) (and-right (isImage h held) (eqb records (s .r)) t);
+        }
+
+-- and such pages open it
+pub sound-open : (s : State) (area : List ℕ) → Sound s area → imageGate s area ≡ Open
+unfolding imageGate surveyed
+sound-open s area k = rw (k .whole, k .image, eq-eqb (length (cat (heldFrom area (s .cap) 0) [])) (s .r) (k .count))

@@ -1,0 +1,7 @@
+pub mod Gating
+pub mod Judging
+pub mod Clearing
+pub mod Answers
+pub mod Settling
+pub mod Growing
+pub mod CheckImage

@@ -1,0 +1,108 @@
+-- `register::grow_open` meets its contract: the row decides, and where there is room the file is made anew.
+use native.Mathlib.Omega.{arith}
+use denote.Ref.{now}
+use borrow.Author.Tests.{not-true, not-false}
+use borrow.Author.Needs.{needs}
+use Rattle.homes.specs.Homes.{homeIn}
+use Rattle.state.proofs.Ranges.{ranged}
+use Rattle.register.proofs.Growing.{held-set, row-few, grown-low, grown-in, shape-low, takes-all, grow-full, grow-done}
+use Rattle.register.proofs.grow_open.Statement.{statement}
+use Rattle.register.proofs.grow_open.Tie as tie
+
+cast-cap : tie.Need-cast-cap
+cast-cap c = search needs
+
+grown-requires : tie.Need-grown-requires
+grown-requires c κs =
+    let b = c .before .before .before in
+    grown-low (b .args .state) (b .pre .0) (b .pre .3)
+
+shape-requires : tie.Need-shape-requires
+shape-requires c κs =
+    let b = c .before .before .before .before in
+    grown-in (b .args .state) (b .pre .0) (b .pre .3) _ (c .grown .ensures)
+
+count-row-requires : tie.Need-count-row-requires
+count-row-requires c κs =
+    let h = c .before .before in
+    let b = h .before .before .before .before .before in
+    let s = b .args .state in
+    (ranged s (b .pre .0) .cap-high, b .pre .1, h .shape .ensures .1, shape-low s (b .pre .0) (b .pre .3) _ (h .before .grown .ensures) _ (h .shape .ensures .0), b .pre .2)
+
+has-room-requires : tie.Need-has-room-requires
+has-room-requires c κs =
+    let w = c .before .before .before in
+    let h = w .before .before .before in
+    let b = h .before .before .before .before .before in
+    row-few (homeIn (h .shape .result)) _ _ _ (ranged (b .args .state) (b .pre .0) .cap-high) (w .count-row .ensures)
+
+cast-t18 : tie.Need-cast-t18
+cast-t18 c = search needs
+
+same-length : tie.Need-same-length
+same-length c = search needs
+
+same-length-2 : tie.Need-same-length-2
+same-length-2 c = search needs
+
+returns : tie.Need-returns
+returns c =
+    let r = c .before in
+    let w = r .before .before .before .before in
+    let h = w .before .before .before in
+    let b = h .before .before .before .before .before in
+    grow-full (b .args .state) (b .pre .0) (b .pre .3) _ (h .before .grown .ensures) _ (h .shape .ensures .0) (now (b .args .area)) _ (w .count-row .ensures) _
+    (r .has-room .ensures) (not-true _ (c .if1 .taken))
+
+rebuild-requires : tie.Need-rebuild-requires
+rebuild-requires c κs =
+    let r = c .before .before in
+    let w = r .before .before .before .before in
+    let h = w .before .before .before in
+    let b = h .before .before .before .before .before in
+    let s = b .args .state in (
+      (ranged s (b .pre .0) .cap-high, b .pre .1, h .shape .ensures .1),
+      (
+        held-set s (now (b .args .area)) (λ k l. omega (arith, h .before .before .before .before .slice-known .given k)) (b .pre .1) (b .pre .4),
+        takes-all s (b .pre .0) (b .pre .3) _ (h .before .grown .ensures) _ (h .shape .ensures .0) (now (b .args .area)) _ (w .count-row .ensures) _ (r .has-room .ensures)
+            (not-false _ (c .before .if1 .left)),
+      ),
+    )
+
+cast-t22 : tie.Need-cast-t22
+cast-t22 c = search needs
+
+same-length-3 : tie.Need-same-length-3
+same-length-3 c = search needs
+
+same-length-4 : tie.Need-same-length-4
+same-length-4 c = search needs
+
+returns-2 : tie.Need-returns-2
+returns-2 c =
+    let m = c .before .before in
+    let r = m .before .before .before in
+    let w = r .before .before .before .before in
+    let h = w .before .before .before in
+    let b = h .before .before .before .before .before in
+    grow-done (b .args .state) (b .pre .0) (b .pre .3) _ (h .before .grown .ensures) _ (h .shape .ensures .0) (now (b .args .area)) _ (w .count-row .ensures) _
+    (r .has-room .ensures) (not-false _ (m .before .before .if1 .left)) _ (m .rebuild .ensures .0) _ (m .rebuild .ensures .1)
+
+pub grow-open-spec : {M : Type 1} → statement M
+grow-open-spec =
+    tie.close
+    (tie.spec
+    cast-cap
+    grown-requires
+    shape-requires
+    count-row-requires
+    has-room-requires
+    cast-t18
+    same-length
+    same-length-2
+    returns
+    rebuild-requires
+    cast-t22
+    same-length-3
+    same-length-4
+    returns-2)

@@ -1,0 +1,133 @@
+-- `register::put_open` meets its contract: the plan decides, then the number of records.
+use Prim.Native.Nat.{_+_, _*_, _≤_, _<_}
+use lib.ListN.{length}
+use denote.Ref.{now}
+use borrow.Author.Needs.{needs, fits-under}
+use Rattle.homes.specs.Homes.{homeIn}
+use Rattle.state.proofs.Ranges.{ranged}
+use Rattle.register.proofs.Settling.{shape-fits, put-stops, put-full, put-goes, writes-low, moved-low, place-known, more-low}
+use Rattle.register.proofs.put_open.Statement.{statement}
+use Rattle.register.proofs.put_open.Tie as tie
+
+-- where the plan writes
+low : (c : tie.After-plan2)
+    → (c .plan2 .given .0 .0 ≤ c .plan2 .given .0 .1 .1 .0) × (c .plan2 .given .0 .1 .1 .0 < 4096)
+    × (256 * (c .plan2 .given .0 .1 .1 .0 + 1) ≤ length (now (c .before .before .before .before .before .before .before .args .area)))
+low c =
+    let g = c .plan2 .given in
+    let o = c .before .before in
+    let b = o .before .before .before .before .before in
+    writes-low (b .args .state) (b .pre .0) _ (g .0 .0) (g .0 .1 .0) (g .0 .1 .1 .0) (g .0 .1 .1 .1 .0) (g .1) _ (b .pre .1) (o .plan-put .ensures .1 .0)
+
+-- the plan that was gone by
+abbrev gone : tie.After-one-more → tie.After-plan2
+gone c = c .before .before .before .before .before .before .before .before .before
+
+shape-requires : tie.Need-shape-requires
+shape-requires c κs = search needs
+
+cast-plan-put : tie.Need-cast-plan-put
+cast-plan-put c = search needs
+
+plan-put-requires : tie.Need-plan-put-requires
+plan-put-requires c κs =
+    let h = c .before .before in
+    let b = h .before .before in
+    (ranged (b .args .state) (b .pre .0) .cap-high, b .pre .1, h .shape .ensures .1, shape-fits (b .args .state) _ (h .shape .ensures .0) (b .pre .0))
+
+enum-known-plan : tie.Need-enum-known-plan
+enum-known-plan c = search needs
+
+enum-known-plan-2 : tie.Need-enum-known-plan-2
+enum-known-plan-2 c = search needs
+
+cast-if1 : tie.Need-cast-if1
+cast-if1 c = search needs
+
+mul-if1 : tie.Need-mul-if1
+mul-if1 c = search needs
+
+same-length : tie.Need-same-length
+same-length c = search needs
+
+returns : tie.Need-returns
+returns c =
+    let k = c .before .before .before .before in
+    let g = k .plan2 .given in
+    let o = k .before .before in
+    let h = o .before .before .before in
+    let a = h .before .before .args in
+    put-full (a .state) _ (h .shape .ensures .0) (now (a .area)) (a .key) (a .value) _ (o .plan-put .ensures .0 (a .value)) (g .0 .0) (g .0 .1 .0) (g .0 .1 .1 .0)
+    (g .0 .1 .1 .1 .0) (g .1) (c .if1 .taken)
+
+pour-requires : tie.Need-pour-requires
+pour-requires c κs =
+    let k = c .before .before .before .before .before in
+    let g = k .plan2 .given in
+    let o = k .before .before in
+    let h = o .before .before .before in
+    let b = h .before .before in
+    let w = low k in (
+      (w .0, w .1, w .2, h .shape .ensures .1),
+      place-known (b .args .state) (b .pre .0) _ (g .0 .0) (g .0 .1 .0) (g .0 .1 .1 .0) (g .0 .1 .1 .1 .0) (g .1)
+          (homeIn (h .shape .result)) (now (b .args .area)) (b .args .key) (o .plan-put .ensures .1 .1),
+    )
+
+one-more-requires : tie.Need-one-more-requires
+one-more-requires c κs =
+    let l = c .before .before .before .before in
+    let b = l .before .before .before .before .before .before .before .before .before .before .before in
+    more-low (b .args .state) (b .pre .0) (l .if1 .left)
+
+sub-t25 : tie.Need-sub-t25
+sub-t25 c = low (gone c) .0
+
+cast-t18 : tie.Need-cast-t18
+cast-t18 c = fits-under _ _ 4096 (moved-low _ _ (low (gone c) .1)) tt
+
+same-length-2 : tie.Need-same-length-2
+same-length-2 c = search needs
+
+returns-2 : tie.Need-returns-2
+returns-2 c =
+    let o = c .before .before .before in
+    let h = o .before .before .before in
+    let a = h .before .before .args in
+    put-stops (a .state) _ (h .shape .ensures .0) (now (a .area)) (a .key) (a .value) _ (o .plan-put .ensures .0 (a .value)) _ (c .before .plan .given .1)
+
+same-length-3 : tie.Need-same-length-3
+same-length-3 c = search needs
+
+returns-3 : tie.Need-returns-3
+returns-3 c =
+    let p = c .before .before .before in
+    let l = p .before .before in
+    let k = gone c in
+    let g = k .plan2 .given in
+    let o = k .before .before in
+    let h = o .before .before .before in
+    let a = h .before .before .args in
+    put-goes (a .state) _ (h .shape .ensures .0) (now (a .area)) (a .key) (a .value) _ (o .plan-put .ensures .0 (a .value)) (g .0 .0) (g .0 .1 .0) (g .0 .1 .1 .0)
+    (g .0 .1 .1 .1 .0) (g .1) (l .if1 .left) _ (p .pour .ensures) _ (c .one-more .ensures)
+
+pub put-open-spec : {M : Type 1} → statement M
+put-open-spec =
+    tie.close
+    (tie.spec
+    shape-requires
+    cast-plan-put
+    plan-put-requires
+    enum-known-plan
+    enum-known-plan-2
+    cast-if1
+    mul-if1
+    same-length
+    returns
+    pour-requires
+    one-more-requires
+    sub-t25
+    cast-t18
+    same-length-2
+    returns-2
+    same-length-3
+    returns-3)

@@ -1,0 +1,115 @@
+-- `register::remove_open` meets its contract: the plan decides, then the number of records.
+use Prim.Native.Nat.{_+_, _*_, _≤_, _<_}
+use lib.ListN.{length}
+use denote.Ref.{now}
+use borrow.Author.Needs.{needs, fits-under}
+use Rattle.state.proofs.Ranges.{ranged}
+use Rattle.register.proofs.Settling.{shape-fits, remove-stops, remove-none, remove-goes, writes-low, moved-low}
+use Rattle.register.proofs.remove_open.Statement.{statement}
+use Rattle.register.proofs.remove_open.Tie as tie
+
+-- where the plan writes
+low : (c : tie.After-plan2)
+    → (c .plan2 .given .0 .0 ≤ c .plan2 .given .0 .1 .1 .0) × (c .plan2 .given .0 .1 .1 .0 < 4096)
+    × (256 * (c .plan2 .given .0 .1 .1 .0 + 1) ≤ length (now (c .before .before .before .before .before .before .before .args .area)))
+low c =
+    let g = c .plan2 .given in
+    let o = c .before .before in
+    let b = o .before .before .before .before .before in
+    writes-low (b .args .state) (b .pre .0) _ (g .0 .0) (g .0 .1 .0) (g .0 .1 .1 .0) (g .0 .1 .1 .1 .0) (g .1) _ (b .pre .1) (o .plan-remove .ensures .1)
+
+-- the plan that was gone by
+abbrev gone : tie.After-one-less → tie.After-plan2
+gone c = c .before .before .before .before .before .before .before .before
+
+shape-requires : tie.Need-shape-requires
+shape-requires c κs = search needs
+
+cast-plan-remove : tie.Need-cast-plan-remove
+cast-plan-remove c = search needs
+
+plan-remove-requires : tie.Need-plan-remove-requires
+plan-remove-requires c κs =
+    let h = c .before .before in
+    let b = h .before .before in
+    (ranged (b .args .state) (b .pre .0) .cap-high, b .pre .1, h .shape .ensures .1, shape-fits (b .args .state) _ (h .shape .ensures .0) (b .pre .0))
+
+enum-known-plan : tie.Need-enum-known-plan
+enum-known-plan c = search needs
+
+enum-known-plan-2 : tie.Need-enum-known-plan-2
+enum-known-plan-2 c = search needs
+
+same-length : tie.Need-same-length
+same-length c = search needs
+
+returns : tie.Need-returns
+returns c =
+    let k = c .before .before .before in
+    let g = k .plan2 .given in
+    let o = k .before .before in
+    let h = o .before .before .before in
+    let a = h .before .before .args in
+    remove-none (a .state) _ (h .shape .ensures .0) (now (a .area)) (a .key) _ (o .plan-remove .ensures .0) (g .0 .0) (g .0 .1 .0) (g .0 .1 .1 .0)
+    (g .0 .1 .1 .1 .0) (g .1) (c .if1 .taken)
+
+draw-back-requires : tie.Need-draw-back-requires
+draw-back-requires c κs =
+    let k = c .before .before .before .before in
+    let h = k .before .before .before .before .before in
+    let w = low k in
+    (w .0, w .1, w .2, h .shape .ensures .1)
+
+one-less-requires : tie.Need-one-less-requires
+one-less-requires c κs = search needs
+
+sub-t22 : tie.Need-sub-t22
+sub-t22 c = low (gone c) .0
+
+cast-t23 : tie.Need-cast-t23
+cast-t23 c = fits-under _ _ 4096 (moved-low _ _ (low (gone c) .1)) tt
+
+same-length-2 : tie.Need-same-length-2
+same-length-2 c = search needs
+
+returns-2 : tie.Need-returns-2
+returns-2 c =
+    let o = c .before .before .before in
+    let h = o .before .before .before in
+    let a = h .before .before .args in
+    remove-stops (a .state) _ (h .shape .ensures .0) (now (a .area)) (a .key) _ (o .plan-remove .ensures .0) _ (c .before .plan .given .1)
+
+same-length-3 : tie.Need-same-length-3
+same-length-3 c = search needs
+
+returns-3 : tie.Need-returns-3
+returns-3 c =
+    let p = c .before .before .before in
+    let l = p .before .before in
+    let k = gone c in
+    let g = k .plan2 .given in
+    let o = k .before .before in
+    let h = o .before .before .before in
+    let a = h .before .before .args in
+    remove-goes (a .state) _ (h .shape .ensures .0) (now (a .area)) (a .key) _ (o .plan-remove .ensures .0) (g .0 .0) (g .0 .1 .0) (g .0 .1 .1 .0)
+    (g .0 .1 .1 .1 .0) (g .1) (l .if1 .left) _ (p .draw-back .ensures) _ (c .one-less .ensures)
+
+pub remove-open-spec : {M : Type 1} → statement M
+remove-open-spec =
+    tie.close
+    (tie.spec
+    shape-requires
+    cast-plan-remove
+    plan-remove-requires
+    enum-known-plan
+    enum-known-plan-2
+    same-length
+    returns
+    draw-back-requires
+    one-less-requires
+    sub-t22
+    cast-t23
+    same-length-2
+    returns-2
+    same-length-3
+    returns-3)

@@ -132,10 +132,6 @@ module _ (s : State) (h : inRange s ≡ true) (p : Plan) (f i last read : ℕ) (
   pub place-known : (home : ℕ → ℕ) (area : List ℕ) (k : ℕ) → placedIn home area k p → i ≡ ahead (rank home) (ranked (home k) k) (held area f)
   place-known home area k w = rw e at w
 
--- no more records move than there may be pages
-pub moved-low : (f last : ℕ) → last < 4096 → last - f < 4096
-moved-low f last l = omega arith
-
 -- a put where there is room
 pub more-low : (s : State) → inRange s ≡ true → (s .r ≡ 12 * s .cap → ⊥) → s .r < 49152
 more-low s h u = let r : Ranged s = ranged s h in omega arith

@@ -8,15 +8,16 @@ use walks::Plan;
 ghost use mathlib.Core.Path.{_≡_};
 ghost use mathlib.Core.Bool.{true};
 ghost use mathlib.Core.List.{[]};
-ghost use Prim.Native.Nat.{_*_, _≤_};
+ghost use Prim.Native.Nat.{_-_, _*_, _≤_, _<_};
 ghost use lib.ListN.{length, replicate};
 ghost use Rattle.pages.specs.Area.{areaFrom};
 ghost use Rattle.state.specs.State.{inRange};
+ghost use Rattle.state.specs.declared.Answer.the-variants.{Accepted};
 ghost use Rattle.walks.specs.Walks.{findAnswer};
 ghost use Rattle.walks.specs.Plans.{metIn};
 ghost use Rattle.register.specs.declared.Gate.the-variants.{Open};
 ghost use Rattle.register.specs.Gates.{gateOf, imageGate, growGate, OpenFor, OpenToGrow};
-ghost use Rattle.register.specs.Calls.{formatted, found, putOpen, stored, removeOpen, removed, checked, grownFile, grew};
+ghost use Rattle.register.specs.Calls.{done, formatted, found, putOpen, stored, removeOpen, removed, checked, grownFile, grew};
 
 // Whether a call may go on, or why not.
 pub enum Gate {
@@ -132,6 +133,22 @@ pub fn find(state: State, area: &[u8], key: u64) -> Done
     }
 }
 
+// What a put or a remove answers that wrote the pages from the first to the last: a record moved from each of them to its neighbour, but for one.
+fn wrote(next: State, first: usize, last: usize, read: u32) -> Done
+    requires { ⌜ (first ≤ last) × (last < 4096) ⌝ }
+    ensures { λ r. ⌜ r ≡ done next (Accepted 0 read (last - first)) ⌝ }
+{
+    let answer = Answer::Accepted {
+        value: 0,
+        read,
+        moved: (last - first) as u32,
+    };
+    Done {
+        state: next,
+        answer,
+    }
+}
+
 // A put past the gate.
 fn put_open(state: State, area: &mut [u8], key: u64, value: u64) -> Done
     requires { ⌜ (inRange state ≡ true) × (length (now area) ≡ 256 * state .cap) ⌝ }
@@ -156,15 +173,7 @@ fn put_open(state: State, area: &mut [u8], key: u64, value: u64) -> Done
             }
             walks::pour(area, shape, first, at, last, key, value);
             let next = state.one_more();
-            let answer = Answer::Accepted {
-                value: 0,
-                read,
-                moved: (last - first) as u32,
-            };
-            Done {
-                state: next,
-                answer,
-            }
+            wrote(next, first, last, read)
         }
     }
 }
@@ -205,15 +214,7 @@ fn remove_open(state: State, area: &mut [u8], key: u64) -> Done
             }
             walks::draw_back(area, shape, first, at, last);
             let next = state.one_less();
-            let answer = Answer::Accepted {
-                value: 0,
-                read,
-                moved: (last - first) as u32,
-            };
-            Done {
-                state: next,
-                answer,
-            }
+            wrote(next, first, last, read)
         }
     }
 }

@@ -2,10 +2,10 @@
 use Prim.Native.Nat.{_+_, _*_, _≤_, _<_}
 use lib.ListN.{length}
 use denote.Ref.{now}
-use borrow.Author.Needs.{needs, fits-under}
+use borrow.Author.Needs.{needs}
 use Rattle.homes.specs.Homes.{homeIn}
 use Rattle.state.proofs.Ranges.{ranged}
-use Rattle.register.proofs.Settling.{shape-fits, put-stops, put-full, put-goes, writes-low, moved-low, place-known, more-low}
+use Rattle.register.proofs.Settling.{shape-fits, put-stops, put-full, put-goes, writes-low, place-known, more-low}
 use Rattle.register.proofs.put_open.Statement.{statement}
 use Rattle.register.proofs.put_open.Tie as tie
 
@@ -79,11 +79,8 @@ one-more-requires c κs =
     let b = l .before .before .before .before .before .before .before .before .before .before .before in
     more-low (b .args .state) (b .pre .0) (l .if1 .left)
 
-sub-t25 : tie.Need-sub-t25
-sub-t25 c = low (gone c) .0
-
-cast-t18 : tie.Need-cast-t18
-cast-t18 c = fits-under _ _ 4096 (moved-low _ _ (low (gone c) .1)) tt
+wrote-requires : tie.Need-wrote-requires
+wrote-requires c κs = let w = low (gone c) in (w .0, w .1)
 
 same-length-2 : tie.Need-same-length-2
 same-length-2 c = search needs
@@ -99,7 +96,8 @@ same-length-3 : tie.Need-same-length-3
 same-length-3 c = search needs
 
 returns-3 : tie.Need-returns-3
-returns-3 c =
+returns-3 d =
+    let c = d .before in
     let p = c .before .before .before in
     let l = p .before .before in
     let k = gone c in
@@ -107,8 +105,8 @@ returns-3 c =
     let o = k .before .before in
     let h = o .before .before .before in
     let a = h .before .before .args in
-    put-goes (a .state) _ (h .shape .ensures .0) (now (a .area)) (a .key) (a .value) _ (o .plan-put .ensures .0 (a .value)) (g .0 .0) (g .0 .1 .0) (g .0 .1 .1 .0)
-    (g .0 .1 .1 .1 .0) (g .1) (l .if1 .left) _ (p .pour .ensures) _ (c .one-more .ensures)
+    rw (d .wrote .ensures) (put-goes (a .state) _ (h .shape .ensures .0) (now (a .area)) (a .key) (a .value) _ (o .plan-put .ensures .0 (a .value)) (g .0 .0) (g .0 .1 .0) (g .0 .1 .1 .0)
+    (g .0 .1 .1 .1 .0) (g .1) (l .if1 .left) _ (p .pour .ensures) _ (c .one-more .ensures))
 
 pub put-open-spec : {M : Type 1} → statement M
 put-open-spec =
@@ -125,8 +123,7 @@ put-open-spec =
     returns
     pour-requires
     one-more-requires
-    sub-t25
-    cast-t18
+    wrote-requires
     same-length-2
     returns-2
     same-length-3

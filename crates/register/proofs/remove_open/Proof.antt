@@ -2,9 +2,9 @@
 use Prim.Native.Nat.{_+_, _*_, _≤_, _<_}
 use lib.ListN.{length}
 use denote.Ref.{now}
-use borrow.Author.Needs.{needs, fits-under}
+use borrow.Author.Needs.{needs}
 use Rattle.state.proofs.Ranges.{ranged}
-use Rattle.register.proofs.Settling.{shape-fits, remove-stops, remove-none, remove-goes, writes-low, moved-low}
+use Rattle.register.proofs.Settling.{shape-fits, remove-stops, remove-none, remove-goes, writes-low}
 use Rattle.register.proofs.remove_open.Statement.{statement}
 use Rattle.register.proofs.remove_open.Tie as tie
 
@@ -63,11 +63,8 @@ draw-back-requires c κs =
 one-less-requires : tie.Need-one-less-requires
 one-less-requires c κs = search needs
 
-sub-t22 : tie.Need-sub-t22
-sub-t22 c = low (gone c) .0
-
-cast-t23 : tie.Need-cast-t23
-cast-t23 c = fits-under _ _ 4096 (moved-low _ _ (low (gone c) .1)) tt
+wrote-requires : tie.Need-wrote-requires
+wrote-requires c κs = let w = low (gone c) in (w .0, w .1)
 
 same-length-2 : tie.Need-same-length-2
 same-length-2 c = search needs
@@ -83,7 +80,8 @@ same-length-3 : tie.Need-same-length-3
 same-length-3 c = search needs
 
 returns-3 : tie.Need-returns-3
-returns-3 c =
+returns-3 d =
+    let c = d .before in
     let p = c .before .before .before in
     let l = p .before .before in
     let k = gone c in
@@ -91,8 +89,8 @@ returns-3 c =
     let o = k .before .before in
     let h = o .before .before .before in
     let a = h .before .before .args in
-    remove-goes (a .state) _ (h .shape .ensures .0) (now (a .area)) (a .key) _ (o .plan-remove .ensures .0) (g .0 .0) (g .0 .1 .0) (g .0 .1 .1 .0)
-    (g .0 .1 .1 .1 .0) (g .1) (l .if1 .left) _ (p .draw-back .ensures) _ (c .one-less .ensures)
+    rw (d .wrote .ensures) (remove-goes (a .state) _ (h .shape .ensures .0) (now (a .area)) (a .key) _ (o .plan-remove .ensures .0) (g .0 .0) (g .0 .1 .0) (g .0 .1 .1 .0)
+    (g .0 .1 .1 .1 .0) (g .1) (l .if1 .left) _ (p .draw-back .ensures) _ (c .one-less .ensures))
 
 pub remove-open-spec : {M : Type 1} → statement M
 remove-open-spec =
@@ -107,8 +105,7 @@ remove-open-spec =
     returns
     draw-back-requires
     one-less-requires
-    sub-t22
-    cast-t23
+    wrote-requires
     same-length-2
     returns-2
     same-length-3

@@ -1,8 +1,9 @@
 // The register: request number -> the commit it became, in a lent area of pages. Every call takes any numbers and any bytes, and answers.
+mod gates;
+
 use state::Answer;
 use state::Done;
 use state::State;
-use survey::Verdict;
 use walks::Met;
 use walks::Plan;
 ghost use mathlib.Core.Path.{_≡_};
@@ -16,31 +17,13 @@ ghost use Rattle.state.specs.declared.Answer.the-variants.{Accepted};
 ghost use Rattle.walks.specs.Walks.{findAnswer};
 ghost use Rattle.walks.specs.Plans.{metIn};
 ghost use Rattle.register.specs.declared.Gate.the-variants.{Open};
-ghost use Rattle.register.specs.Gates.{gateOf, imageGate, growGate, OpenFor, OpenToGrow};
+ghost use Rattle.register.specs.Gates.{OpenToGrow};
 ghost use Rattle.register.specs.Calls.{done, formatted, found, putOpen, stored, removeOpen, removed, checked, grownFile, grew};
 
 // Whether a call may go on, or why not.
 pub enum Gate {
     Open,
     Shut { why: Answer },
-}
-
-// The refusals that need no page: a number out of range, an area of another length.
-fn enter(state: State, length: usize) -> Gate
-    ensures { λ r. ⌜ r ≡ gateOf state length ⌝ }
-    ensures within { λ r. ⌜ OpenFor state length r ⌝ }
-{
-    if !state.in_range() {
-        return Gate::Shut {
-            why: Answer::OutOfRange,
-        };
-    }
-    if length != 256 * (state.cap as usize) {
-        return Gate::Shut {
-            why: Answer::WrongArea,
-        };
-    }
-    Gate::Open
 }
 
 // All pages empty.
@@ -68,7 +51,7 @@ pub fn format(state: State, n0: u16, n: u16, s: u16, cap: u16, area: &mut [u8]) 
         };
     }
     let fresh = State::new(n0, n, s, cap);
-    let gate = enter(fresh, area.len());
+    let gate = gates::enter(fresh, area.len());
     match gate {
         Gate::Shut { why } => Done { state, answer: why },
         Gate::Open => {
@@ -121,7 +104,7 @@ fn find_answer(met: Met) -> Answer
 pub fn find(state: State, area: &[u8], key: u64) -> Done
     ensures { λ r. ⌜ r ≡ found state (now (area .entry)) key ⌝ }
 {
-    let gate = enter(state, area.len());
+    let gate = gates::enter(state, area.len());
     match gate {
         Gate::Shut { why } => Done { state, answer: why },
         Gate::Open => {
@@ -156,7 +139,7 @@ fn put_open(state: State, area: &mut [u8], key: u64, value: u64) -> Done
     ensures { λ _. ⌜ now (area .exit) ≡ putOpen state (now (area .entry)) (key, value) .area ⌝ }
 {
     let shape = state.shape();
-    let plan = walks::plan_put(&area[..], state.cap as usize, shape, key);
+    let plan = walks::put::plan_put(&area[..], state.cap as usize, shape, key);
     match plan {
         Plan::Stop { why } => Done { state, answer: why },
         Plan::Go {
@@ -171,7 +154,7 @@ fn put_open(state: State, area: &mut [u8], key: u64, value: u64) -> Done
                     answer: Answer::NotImage { read },
                 };
             }
-            walks::pour(area, shape, first, at, last, key, value);
+            walks::put::pour(area, shape, first, at, last, key, value);
             let next = state.one_more();
             wrote(next, first, last, read)
         }
@@ -183,7 +166,7 @@ pub fn put(state: State, area: &mut [u8], key: u64, value: u64) -> Done
     ensures { λ r. ⌜ r ≡ stored state (now (area .entry)) (key, value) .done ⌝ }
     ensures { λ _. ⌜ now (area .exit) ≡ stored state (now (area .entry)) (key, value) .area ⌝ }
 {
-    let gate = enter(state, area.len());
+    let gate = gates::enter(state, area.len());
     match gate {
         Gate::Shut { why } => Done { state, answer: why },
         Gate::Open => put_open(state, area, key, value),
@@ -197,7 +180,7 @@ fn remove_open(state: State, area: &mut [u8], key: u64) -> Done
     ensures { λ _. ⌜ now (area .exit) ≡ removeOpen state (now (area .entry)) key .area ⌝ }
 {
     let shape = state.shape();
-    let plan = walks::plan_remove(&area[..], state.cap as usize, shape, key);
+    let plan = walks::remove::plan_remove(&area[..], state.cap as usize, shape, key);
     match plan {
         Plan::Stop { why } => Done { state, answer: why },
         Plan::Go {
@@ -212,7 +195,7 @@ fn remove_open(state: State, area: &mut [u8], key: u64) -> Done
                     answer: Answer::NotImage { read },
                 };
             }
-            walks::draw_back(area, shape, first, at, last);
+            walks::remove::draw_back(area, shape, first, at, last);
             let next = state.one_less();
             wrote(next, first, last, read)
         }
@@ -224,37 +207,10 @@ pub fn remove(state: State, area: &mut [u8], key: u64) -> Done
     ensures { λ r. ⌜ r ≡ removed state (now (area .entry)) key .done ⌝ }
     ensures { λ _. ⌜ now (area .exit) ≡ removed state (now (area .entry)) key .area ⌝ }
 {
-    let gate = enter(state, area.len());
+    let gate = gates::enter(state, area.len());
     match gate {
         Gate::Shut { why } => Done { state, answer: why },
         Gate::Open => remove_open(state, area, key),
-    }
-}
-
-// Whether the area is the image of the records that the state tells of.
-fn image_gate(state: State, area: &[u8]) -> Gate
-    requires { ⌜ (inRange state ≡ true) × (length (now area) ≡ 256 * state .cap) ⌝ }
-    ensures { λ r. ⌜ r ≡ imageGate state (now (area .entry)) ⌝ }
-{
-    let shape = state.shape();
-    let verdict = survey::survey(area, state.cap as usize, shape);
-    match verdict {
-        Verdict::Sick { page } => Gate::Shut {
-            why: Answer::Broken {
-                page: page as u16,
-                read: page as u32 + 1,
-            },
-        },
-        Verdict::Whole { image, records } => {
-            if image & (records == state.r) {
-                return Gate::Open;
-            }
-            Gate::Shut {
-                why: Answer::NotImage {
-                    read: state.cap as u32,
-                },
-            }
-        }
     }
 }
 
@@ -262,11 +218,11 @@ fn image_gate(state: State, area: &[u8]) -> Gate
 pub fn check(state: State, area: &[u8]) -> Done
     ensures { λ r. ⌜ r ≡ checked state (now (area .entry)) ⌝ }
 {
-    let gate = enter(state, area.len());
+    let gate = gates::enter(state, area.len());
     match gate {
         Gate::Shut { why } => Done { state, answer: why },
         Gate::Open => {
-            let image = image_gate(state, area);
+            let image = gates::image_gate(state, area);
             match image {
                 Gate::Shut { why } => Done { state, answer: why },
                 Gate::Open => {
@@ -278,28 +234,6 @@ pub fn check(state: State, area: &[u8]) -> Done
                     Done { state, answer }
                 }
             }
-        }
-    }
-}
-
-// Whether a growth may go on, with a row of n counts.
-fn grow_gate(state: State, area: &[u8], n: usize) -> Gate
-    ensures { λ r. ⌜ r ≡ growGate state (now (area .entry)) n ⌝ }
-    ensures within { λ r. ⌜ OpenToGrow state (now (area .entry)) n r ⌝ }
-{
-    let gate = enter(state, area.len());
-    match gate {
-        Gate::Shut { why } => Gate::Shut { why },
-        Gate::Open => {
-            if n != state.cap as usize {
-                return Gate::Shut {
-                    why: Answer::WrongRow,
-                };
-            }
-            if state.p == state.cap {
-                return Gate::Shut { why: Answer::AtCap };
-            }
-            image_gate(state, area)
         }
     }
 }
@@ -339,7 +273,7 @@ pub fn grow(state: State, area: &mut [u8], row: &mut [u32]) -> Done
     ensures { λ _. ⌜ now (area .exit) ≡ grew state (now (area .entry)) (now (row .entry)) .area ⌝ }
     ensures { λ _. ⌜ now (row .exit) ≡ grew state (now (area .entry)) (now (row .entry)) .row ⌝ }
 {
-    let gate = grow_gate(state, &area[..], row.len());
+    let gate = gates::grow_gate(state, &area[..], row.len());
     match gate {
         Gate::Shut { why } => Done { state, answer: why },
         Gate::Open => grow_open(state, area, row),

@@ -1,0 +1,78 @@
+-- `pages::open_row` meets its contract. The loop's invariant: without place i the row is what it was, but for its
+-- last number. The measure is the place.
+use mathlib.Core.Path.{_≡_, _∙_}
+use Prim.Native.Nat.{_≤_, _<_}
+use native.Mathlib.Omega.{arith}
+use lib.ListN.{length, take}
+use borrow.Author.Needs.{needs}
+use Rattle.pages.specs.Slots.{closed}
+use Rattle.pages.proofs.Rows.{closed-last, open-turn, open-done}
+use Rattle.pages.proofs.slots.open_row.Statement.{statement}
+use Rattle.pages.proofs.slots.open_row.Tie as tie
+
+abbrev Inv-loop : tie.InvT-loop
+Inv-loop at x out₀ i₀ out i = (at ≤ i) × (i < 12) × (length out ≡ 12) × (closed i out ≡ take 11 out₀)
+
+abbrev μ-loop : tie.MeasureT-loop
+μ-loop at x out₀ i₀ out i = i
+
+loop-holds : tie.Need-loop-holds Inv-loop μ-loop
+loop-holds c = (search needs, search needs, search needs, closed-last 11 (c .args .row) (search needs))
+
+sub-out : tie.Need-sub-out Inv-loop μ-loop
+sub-out c = search needs
+
+mul-out : tie.Need-mul-out Inv-loop μ-loop
+mul-out c = search needs
+
+array-read-out : tie.Need-array-read-out Inv-loop μ-loop
+array-read-out c = search needs
+
+mul-out-2 : tie.Need-mul-out-2 Inv-loop μ-loop
+mul-out-2 c = search needs
+
+array-write-out : tie.Need-array-write-out Inv-loop μ-loop
+array-write-out c = search needs
+
+sub-i : tie.Need-sub-i Inv-loop μ-loop
+sub-i c = search needs
+
+loop-less : tie.Need-loop-less Inv-loop μ-loop
+loop-less c = search needs
+
+loop-again : tie.Need-loop-again Inv-loop μ-loop
+loop-again c =
+    let l = c .before .loop in
+    (search needs, search needs, search needs, open-turn (l .i) (l .out) (omega arith) (omega arith) ∙ l .inv .3)
+
+mul-out-3 : tie.Need-mul-out-3 Inv-loop μ-loop
+mul-out-3 c = search needs
+
+array-write-out-2 : tie.Need-array-write-out-2 Inv-loop μ-loop
+array-write-out-2 c = search needs
+
+returns : tie.Need-returns Inv-loop μ-loop
+returns c =
+    let a = c .before .before .args in
+    let l = c .before .loop in
+    let z : l .i ≡ a .at = omega arith in
+    open-done (a .at) (a .x) (l .out) (a .row) (c .before .before .pre) (l .inv .2) (rw z at (l .inv .3))
+
+pub open-row-spec : {M : Type 1} → statement M
+open-row-spec =
+    tie.close
+    (tie.spec
+    Inv-loop
+    μ-loop
+    loop-holds
+    sub-out
+    mul-out
+    array-read-out
+    mul-out-2
+    array-write-out
+    sub-i
+    loop-less
+    loop-again
+    mul-out-3
+    array-write-out-2
+    returns)

@@ -1,0 +1,78 @@
+// What a call refuses before it does anything.
+use crate::Gate;
+use state::Answer;
+use state::State;
+use survey::Verdict;
+ghost use mathlib.Core.Path.{_≡_};
+ghost use mathlib.Core.Bool.{true};
+ghost use Prim.Native.Nat.{_-_, _*_};
+ghost use lib.ListN.{length};
+ghost use Rattle.state.specs.State.{inRange};
+ghost use Rattle.register.specs.Gates.{gateOf, imageGate, growGate, OpenFor, OpenToGrow};
+
+// The refusals that need no page: a number out of range, an area of another length.
+pub(crate) fn enter(state: State, length: usize) -> Gate
+    ensures { λ r. ⌜ r ≡ gateOf state length ⌝ }
+    ensures within { λ r. ⌜ OpenFor state length r ⌝ }
+{
+    if !state.in_range() {
+        return Gate::Shut {
+            why: Answer::OutOfRange,
+        };
+    }
+    if length != 256 * (state.cap as usize) {
+        return Gate::Shut {
+            why: Answer::WrongArea,
+        };
+    }
+    Gate::Open
+}
+
+// Whether the area is the image of the records that the state tells of.
+pub(crate) fn image_gate(state: State, area: &[u8]) -> Gate
+    requires { ⌜ (inRange state ≡ true) × (length (now area) ≡ 256 * state .cap) ⌝ }
+    ensures { λ r. ⌜ r ≡ imageGate state (now (area .entry)) ⌝ }
+{
+    let shape = state.shape();
+    let verdict = survey::survey(area, state.cap as usize, shape);
+    match verdict {
+        Verdict::Sick { page } => Gate::Shut {
+            why: Answer::Broken {
+                page: page as u16,
+                read: page as u32 + 1,
+            },
+        },
+        Verdict::Whole { image, records } => {
+            if image & (records == state.r) {
+                return Gate::Open;
+            }
+            Gate::Shut {
+                why: Answer::NotImage {
+                    read: state.cap as u32,
+                },
+            }
+        }
+    }
+}
+
+// Whether a growth may go on, with a row of n counts.
+pub(crate) fn grow_gate(state: State, area: &[u8], n: usize) -> Gate
+    ensures { λ r. ⌜ r ≡ growGate state (now (area .entry)) n ⌝ }
+    ensures within { λ r. ⌜ OpenToGrow state (now (area .entry)) n r ⌝ }
+{
+    let gate = enter(state, area.len());
+    match gate {
+        Gate::Shut { why } => Gate::Shut { why },
+        Gate::Open => {
+            if n != state.cap as usize {
+                return Gate::Shut {
+                    why: Answer::WrongRow,
+                };
+            }
+            if state.p == state.cap {
+                return Gate::Shut { why: Answer::AtCap };
+            }
+            image_gate(state, area)
+        }
+    }
+}

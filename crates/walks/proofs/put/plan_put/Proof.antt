@@ -1,0 +1,120 @@
+-- `walks::plan_put` meets its contract: the pages that the walk meets decide, and from an ending page that is full on the first page with room.
+use mathlib.Core.Path.{subst}
+use native.Mathlib.Omega.{arith}
+use borrow.Author.Needs.{needs}
+use denote.Ref.{now}
+use Rattle.homes.specs.Homes.{homeIn}
+use Rattle.walks.specs.declared.Met.the-variants.{Sick, Ends}
+use Rattle.walks.specs.Plans.{metIn}
+use Rattle.walks.proofs.PutPlan.{put-found, put-sick, put-past, put-at, put-here, put-on, put-placed}
+use Rattle.walks.proofs.put.plan_put.Statement.{statement}
+use Rattle.walks.proofs.put.plan_put.Tie as tie
+
+meet-requires : tie.Need-meet-requires
+meet-requires c κs = search needs
+
+enum-known-old : tie.Need-enum-known-old
+enum-known-old c = search needs
+
+enum-known-page : tie.Need-enum-known-page
+enum-known-page c = search needs
+
+-- where a broken page lies
+sick : (c : tie.After-known-told2)
+    → metIn (c .before .before .before .before .before .args .cap) (Sick (c .before .page .given .0 .0) (c .before .page .given .0 .1 .0))
+sick c = subst (metIn (c .before .before .before .before .before .args .cap)) (c .before .page .given .1) (c .before .before .before .meet .ensures .1)
+
+cast-t17 : tie.Need-cast-t17
+cast-t17 c =
+    let w = sick c in
+    omega (arith, w .0, c .before .before .before .before .before .pre .0)
+
+enum-known-read : tie.Need-enum-known-read
+enum-known-read c = search needs
+
+enum-known-page-2 : tie.Need-enum-known-page-2
+enum-known-page-2 c = search needs
+
+-- where an ending page lies
+ends : (c : tie.After-known-told4)
+    → metIn (c .before .before .before .before .before .args .cap)
+    (Ends (c .before .page2 .given .0 .0) (c .before .page2 .given .0 .1 .0) (c .before .page2 .given .0 .1 .1 .0) (c .before .page2 .given .0 .1 .1 .1 .0))
+ends c = subst (metIn (c .before .before .before .before .before .args .cap)) (c .before .page2 .given .1) (c .before .before .before .meet .ensures .1)
+
+returns : tie.Need-returns
+returns c =
+    let g = c .before .before .page2 .given in
+    let m = c .before .before .before .before .meet in
+    let a = c .before .before .before .before .before .before .args in
+    let w = ends (c .before) in (
+      put-here (homeIn (a .shape)) (now (a .area)) (a .key) (a .cap) (m .result) (m .ensures .0) (g .0 .0) (g .0 .1 .0) (g .0 .1 .1 .0) (g .0 .1 .1 .1 .0) (g .1)
+          (w .0) (w .3) (c .if1 .taken),
+      (
+        (omega arith, w .0, omega arith),
+        put-at (homeIn (a .shape)) (now (a .area)) (a .key) (a .cap) (m .result) (m .ensures .0)
+            (g .0 .0) (g .0 .1 .0) (g .0 .1 .1 .0) (g .0 .1 .1 .1 .0) (g .1) .place,
+      ),
+    )
+
+reach-requires : tie.Need-reach-requires
+reach-requires c κs =
+    let p = c .before .before .before .before .before .before .pre in
+    let w = ends (c .before) in
+    (p .0, p .1, p .2, w .0, omega arith, omega arith)
+
+returns-2 : tie.Need-returns-2
+returns-2 c =
+    let g = c .before .old .given in
+    let m = c .before .before .before .meet in
+    let a = c .before .before .before .before .before .args in (
+      put-found (homeIn (a .shape)) (now (a .area)) (a .key) (a .cap) (m .result) (m .ensures .0) (g .0 .0) (g .0 .1 .0) (g .0 .1 .1 .0) (g .0 .1 .1 .1 .0)
+          (g .0 .1 .1 .1 .1 .0) (g .1),
+      (tt, tt),
+    )
+
+returns-3 : tie.Need-returns-3
+returns-3 c =
+    let g = c .before .page .given in
+    let m = c .before .before .before .meet in
+    let a = c .before .before .before .before .before .args in
+    (put-sick (homeIn (a .shape)) (now (a .area)) (a .key) (a .cap) (m .result) (m .ensures .0) (g .0 .0) (g .0 .1 .0) (g .1), (tt, tt))
+
+returns-4 : tie.Need-returns-4
+returns-4 c =
+    let g = c .before .read .given in
+    let m = c .before .before .before .meet in
+    let a = c .before .before .before .before .before .args in
+    (put-past (homeIn (a .shape)) (now (a .area)) (a .key) (a .cap) (m .result) (m .ensures .0) (g .0 .0) (g .1), (tt, tt))
+
+returns-5 : tie.Need-returns-5
+returns-5 c =
+    let g = c .before .before .before .page2 .given in
+    let m = c .before .before .before .before .before .meet in
+    let a = c .before .before .before .before .before .before .before .args in
+    let w = ends (c .before .before) in
+    let r = c .reach in (
+      put-on (homeIn (a .shape)) (now (a .area)) (a .key) (a .cap) (m .result) (m .ensures .0) (g .0 .0) (g .0 .1 .0) (g .0 .1 .1 .0) (g .0 .1 .1 .1 .0) (g .1)
+          (w .0) (w .3) (c .before .if1 .left) (r .result) (r .ensures .0),
+      (
+        r .ensures .1,
+        put-placed (homeIn (a .shape)) (now (a .area)) (a .key) (a .cap)
+            (m .result) (m .ensures .0) (g .0 .0) (g .0 .1 .0) (g .0 .1 .1 .0) (g .0 .1 .1 .1 .0) (g .1) (r .result) (r .ensures .0),
+      ),
+    )
+
+pub plan-put-spec : {M : Type 1} → statement M
+plan-put-spec =
+    tie.close
+    (tie.spec
+    meet-requires
+    enum-known-old
+    enum-known-page
+    cast-t17
+    enum-known-read
+    enum-known-page-2
+    returns
+    reach-requires
+    returns-2
+    returns-3
+    returns-4
+    returns-5)

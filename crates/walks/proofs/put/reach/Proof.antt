@@ -1,0 +1,102 @@
+-- `walks::reach` meets its contract. The loop's invariant: what is left of the way is the whole of it.
+use mathlib.Core.Path.{_≡_, _∙_}
+use Prim.Native.Nat.{suc, _-_, _≤_, _<_}
+use native.Mathlib.Numerals.{add-one}
+use native.Mathlib.Omega.{arith}
+use borrow.Author.Needs.{needs}
+use borrow.Author.Tests.{not-true, not-false}
+use denote.Ref.{now}
+use Rattle.homes.specs.Homes.{homeIn}
+use Rattle.walks.proofs.Meeting.{Seen}
+use Rattle.walks.proofs.PutPlan.{reachLeft, reach-past, reach-sick, reach-here, reach-on}
+use Rattle.walks.proofs.put.reach.Statement.{statement}
+use Rattle.walks.proofs.put.reach.Tie as tie
+
+abbrev Inv-loop : tie.InvT-loop
+Inv-loop area cap shape first at seen read₀ a₀ read a =
+    (first < a) × (a ≤ cap) × (read ≤ a) × (reachLeft (homeIn shape) area cap first at a read ≡ reachLeft (homeIn shape) area cap first at (suc first) seen)
+
+abbrev μ-loop : tie.MeasureT-loop
+μ-loop area cap shape first at seen read₀ a₀ read a = cap - a
+
+-- the page is judged where the way is
+seen : (c : tie.After-judge-at Inv-loop μ-loop)
+    → Seen (homeIn (c .before .before .before .before .args .shape)) (now (c .before .before .before .before .args .area))
+    (c .before .before .before .before .args .cap) (c .before .before .loop .a) (c .judge-at .result)
+seen c = record { lies = c .before .loop-test .taken; is = c .judge-at .ensures }
+
+add-a : tie.Need-add-a Inv-loop μ-loop
+add-a c = search needs
+
+loop-holds : tie.Need-loop-holds Inv-loop μ-loop
+loop-holds c = (omega arith, omega arith, omega arith, rw add-one)
+
+judge-at-requires : tie.Need-judge-at-requires Inv-loop μ-loop
+judge-at-requires c κs = search needs
+
+add-read : tie.Need-add-read Inv-loop μ-loop
+add-read c = search needs
+
+cast-t12 : tie.Need-cast-t12 Inv-loop μ-loop
+cast-t12 c = search needs
+
+returns : tie.Need-returns Inv-loop μ-loop
+returns c =
+    let j = c .before .before in
+    let w = j .before .before in
+    let s = w .before .before in
+    (reach-sick (seen j) (s .args .first) (s .args .at) (w .loop .read) (not-true _ (c .if1 .taken)) ∙ w .loop .inv .3, tt)
+
+returns-2 : tie.Need-returns-2 Inv-loop μ-loop
+returns-2 c =
+    let j = c .before .before .before .before .before in
+    let w = j .before .before in
+    let s = w .before .before in (
+      reach-here (seen j) (s .args .first) (s .args .at) (w .loop .read) (not-false _ (c .before .before .before .if1 .left)) (c .if2 .taken) ∙ w .loop .inv .3,
+      (omega arith, omega arith, omega arith),
+    )
+
+add-a-2 : tie.Need-add-a-2 Inv-loop μ-loop
+add-a-2 c = search needs
+
+loop-less : tie.Need-loop-less Inv-loop μ-loop
+loop-less c = search needs
+
+loop-again : tie.Need-loop-again Inv-loop μ-loop
+loop-again c =
+    let j = c .before .before .before .before .before in
+    let w = j .before .before in
+    let s = w .before .before in (
+      omega arith,
+      omega arith,
+      omega arith,
+      reach-on (seen j) (s .args .first) (s .args .at) (w .loop .read) (not-false _
+          (c .before .before .before .if1 .left)) (c .if2 .left) ∙ w .loop .inv .3,
+    )
+
+returns-3 : tie.Need-returns-3 Inv-loop μ-loop
+returns-3 c =
+    let w = c .before in
+    let s = w .before .before in (
+      reach-past (homeIn (s .args .shape)) (now (s .args .area)) (s .args .cap) (s .args .first) (s .args .at) (w .loop .a) (w .loop .read) (c .loop-test .left)
+          ∙ w .loop .inv .3,
+      tt,
+    )
+
+pub reach-spec : {M : Type 1} → statement M
+reach-spec =
+    tie.close
+    (tie.spec
+    Inv-loop
+    μ-loop
+    add-a
+    loop-holds
+    judge-at-requires
+    add-read
+    cast-t12
+    returns
+    returns-2
+    add-a-2
+    loop-less
+    loop-again
+    returns-3)

@@ -1,0 +1,75 @@
+-- `walks::plan_remove` meets its contract: one law for each thing that the walk to the key may meet.
+use native.Mathlib.Omega.{arith}
+use borrow.Author.Needs.{needs}
+use Rattle.walks.proofs.Removing.{found-in, sick-in, remove-met, remove-short, remove-full}
+use Rattle.walks.proofs.remove.plan_remove.Statement.{statement}
+use Rattle.walks.proofs.remove.plan_remove.Tie as tie
+
+meet-requires : tie.Need-meet-requires
+meet-requires c κs = search needs
+
+enum-known-page : tie.Need-enum-known-page
+enum-known-page c = search needs
+
+returns : tie.Need-returns
+returns c =
+    let m = found-in _ _ _ _ _ _ _ (c .before .before .page .given .1) (c .before .before .before .before .meet .ensures .1) in (
+      remove-short _ _ _ _ _ (c .before .before .before .before .meet .ensures .0)
+          _ _ _ _ _ (c .before .before .page .given .1) (c .if1 .taken),
+      (omega arith, omega arith, omega arith),
+    )
+
+reach-back-requires : tie.Need-reach-back-requires
+reach-back-requires c κs =
+    let g = c .before .before .before .before .before .before in
+    let m = found-in _ _ _ _ _ _ _ (c .before .before .page .given .1) (c .before .before .before .before .meet .ensures .1) in
+    (g .pre .0, g .pre .1, g .pre .2, omega arith, omega arith, omega arith)
+
+enum-known-page-2 : tie.Need-enum-known-page-2
+enum-known-page-2 c = search needs
+
+cast-t16 : tie.Need-cast-t16
+cast-t16 c =
+    let m = sick-in _ _ _ _ (c .before .page2 .given .1) (c .before .before .before .meet .ensures .1) in
+    omega arith
+
+enum-known-read : tie.Need-enum-known-read
+enum-known-read c = search needs
+
+enum-known-read-2 : tie.Need-enum-known-read-2
+enum-known-read-2 c = search needs
+
+returns-2 : tie.Need-returns-2
+returns-2 c =
+    let w = c .before .before .before .before .before in
+    let m = found-in _ _ _ _ _ _ _ (c .before .before .before .page .given .1) (w .meet .ensures .1) in (
+      remove-full _ _ _ _ _ (w .meet .ensures .0)
+          _ _ _ _ _ (c .before .before .before .page .given .1) _ (c .before .if1 .left) (omega arith) (omega arith) (c .reach-back .ensures .0),
+      c .reach-back .ensures .1,
+    )
+
+returns-3 : tie.Need-returns-3
+returns-3 c = (remove-met _ _ _ _ _ (c .before .before .before .meet .ensures .0) _ (c .before .page2 .given .1), tt)
+
+returns-4 : tie.Need-returns-4
+returns-4 c = (remove-met _ _ _ _ _ (c .before .before .before .meet .ensures .0) _ (c .before .read .given .1), tt)
+
+returns-5 : tie.Need-returns-5
+returns-5 c = (remove-met _ _ _ _ _ (c .before .before .before .meet .ensures .0) _ (c .before .read2 .given .1), tt)
+
+pub plan-remove-spec : {M : Type 1} → statement M
+plan-remove-spec =
+    tie.close
+    (tie.spec
+    meet-requires
+    enum-known-page
+    returns
+    reach-back-requires
+    enum-known-page-2
+    cast-t16
+    enum-known-read
+    enum-known-read-2
+    returns-2
+    returns-3
+    returns-4
+    returns-5)

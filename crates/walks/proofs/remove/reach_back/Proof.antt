@@ -1,0 +1,120 @@
+-- `walks::reach_back` meets its contract. The invariant: the plan from page a on is the whole plan. One law for each way out.
+use mathlib.Core.Path.{_≡_, refl, _∙_}
+use Prim.Native.Nat.{_+_, _-_, _≤_, _<_}
+use native.Mathlib.Omega.{arith}
+use borrow.Author.Needs.{needs}
+use Rattle.homes.specs.Homes.{homeIn}
+use Rattle.walks.proofs.Back.{planFrom, plan-ends, plan-broken, plan-apart, plan-short, plan-full}
+use Rattle.walks.proofs.remove.reach_back.Statement.{statement}
+use Rattle.walks.proofs.remove.reach_back.Tie as tie
+
+abbrev Inv-loop : tie.InvT-loop
+Inv-loop area cap shape first at seen read₀ a₀ read a =
+    (first ≤ a) × (a < cap) × (read ≤ a + 1)
+    × (planFrom (homeIn shape) area cap first at a read ≡ planFrom (homeIn shape) area cap first at first seen)
+
+abbrev μ-loop : tie.MeasureT-loop
+μ-loop area cap shape first at seen read₀ a₀ read a = cap - a
+
+loop-holds : tie.Need-loop-holds Inv-loop μ-loop
+loop-holds c = (omega arith, omega arith, omega arith, refl)
+
+add-loop : tie.Need-add-loop Inv-loop μ-loop
+add-loop c = search needs
+
+add-judge-at : tie.Need-add-judge-at Inv-loop μ-loop
+add-judge-at c = search needs
+
+judge-at-requires : tie.Need-judge-at-requires Inv-loop μ-loop
+judge-at-requires c κs = search needs
+
+add-read : tie.Need-add-read Inv-loop μ-loop
+add-read c = search needs
+
+add-t14 : tie.Need-add-t14 Inv-loop μ-loop
+add-t14 c = search needs
+
+cast-t15 : tie.Need-cast-t15 Inv-loop μ-loop
+cast-t15 c = search needs
+
+returns : tie.Need-returns Inv-loop μ-loop
+returns c =
+    let g = c .before .before .before .before .before .before in
+    let w = c .before .before .before .before .loop in (
+      plan-broken (homeIn (g .args .shape)) (g .args .area .now) (g .args .cap) (g .args .first) (g .args .at) (w .a) (w .read)
+          (c .before .before .judge-at .result) (c .before .before .judge-at .ensures) (omega arith) (c .if1 .taken) ∙ w .inv .3,
+      tt,
+    )
+
+array-read-if2 : tie.Need-array-read-if2 Inv-loop μ-loop
+array-read-if2 c = search needs
+
+returns-2 : tie.Need-returns-2 Inv-loop μ-loop
+returns-2 c =
+    let g = c .before .before .before .before .before .before .before .before .before .before in
+    let w = c .before .before .before .before .before .before .before .before .loop in
+    let m = c .before .before .before .before .before .before in (
+      plan-apart (homeIn (g .args .shape)) (g .args .area .now) (g .args .cap) (g .args .first) (g .args .at) (w .a) (w .read)
+          (m .judge-at .result) (m .judge-at .ensures) (omega arith) (c .before .before .before .before .if1 .left) (c .if2 .taken) ∙ w .inv .3,
+      (omega arith, omega arith, omega arith),
+    )
+
+add-a : tie.Need-add-a Inv-loop μ-loop
+add-a c = search needs
+
+returns-3 : tie.Need-returns-3 Inv-loop μ-loop
+returns-3 c =
+    let g = c .before .before .before .before .before .before .before .before .before .before .before .before in
+    let w = c .before .before .before .before .before .before .before .before .before .before .loop in
+    let m = c .before .before .before .before .before .before .before .before in (
+      plan-short (homeIn (g .args .shape)) (g .args .area .now) (g .args .cap) (g .args .first) (g .args .at) (w .a) (w .read)
+          (m .judge-at .result) (m .judge-at .ensures) (omega arith) (c .before .before .before .before .before .before .if1 .left)
+          (c .before .before .if2 .left) (c .if3 .taken) ∙ w .inv .3,
+      (omega arith, omega arith, omega arith),
+    )
+
+loop-less : tie.Need-loop-less Inv-loop μ-loop
+loop-less c = search needs
+
+loop-again : tie.Need-loop-again Inv-loop μ-loop
+loop-again c =
+    let g = c .before .before .before .before .before .before .before .before .before .before .before .before in
+    let w = c .before .before .before .before .before .before .before .before .before .before .loop in
+    let m = c .before .before .before .before .before .before .before .before in (
+      omega arith,
+      omega arith,
+      omega arith,
+      plan-full (homeIn (g .args .shape)) (g .args .area .now) (g .args .cap) (g .args .first) (g .args .at) (w .a) (w .read)
+          (m .judge-at .result) (m .judge-at .ensures) (omega arith) (c .before .before .before .before .before .before .if1 .left)
+          (c .before .before .if2 .left) (c .if3 .left) ∙ w .inv .3,
+    )
+
+returns-4 : tie.Need-returns-4 Inv-loop μ-loop
+returns-4 c =
+    let g = c .before .before .before in
+    let w = c .before .loop in (
+      plan-ends (homeIn (g .args .shape)) (g .args .area .now) (g .args .cap) (g .args .first) (g .args .at) (w .a) (w .read) (omega arith) ∙ w .inv .3,
+      (omega arith, omega arith, omega arith),
+    )
+
+pub reach-back-spec : {M : Type 1} → statement M
+reach-back-spec =
+    tie.close
+    (tie.spec
+    Inv-loop
+    μ-loop
+    loop-holds
+    add-loop
+    add-judge-at
+    judge-at-requires
+    add-read
+    add-t14
+    cast-t15
+    returns
+    array-read-if2
+    returns-2
+    add-a
+    returns-3
+    loop-less
+    loop-again
+    returns-4)

@@ -1,0 +1,136 @@
+// A put in two phases: every page is judged and the pages to change are settled, and then they are written.
+use crate::Met;
+use crate::Plan;
+use homes::Shape;
+use pages::Page;
+use state::Answer;
+ghost use mathlib.Core.Path.{_≡_};
+ghost use mathlib.Core.Bool.{cond};
+ghost use Prim.Native.Nat.{ℕ, suc, _+_, _-_, _*_, _≤_, _<_};
+ghost use lib.ListN.{length};
+ghost use Rattle.homes.specs.Homes.{Ready, homeIn};
+ghost use Rattle.pages.specs.Page.{rank};
+ghost use Rattle.placing.specs.Lay.{ranked};
+ghost use Rattle.pages.specs.Slots.{recordsOf, ahead};
+ghost use Rattle.pages.specs.Area.{pagesFrom};
+ghost use Rattle.walks.specs.Walks.{putWalk, writes};
+ghost use Rattle.walks.specs.Plans.{poured, reached, planned, planIn, placedIn, held};
+
+// From a full page on to the first page that isn't full.
+fn reach(area: &[u8], cap: usize, shape: Shape, first: usize, at: usize, seen: u32) -> Plan
+    requires { ⌜ (cap ≤ 4096) × (length (now area) ≡ 256 * cap) × Ready shape × (first < cap) × (at ≤ 12) × (seen ≤ first + 1) ⌝ }
+    ensures { λ r. ⌜ r ≡ reached (homeIn shape) first at (suc first) seen (pagesFrom (homeIn shape) (now (area .entry)) (cap - suc first) (suc first)) ⌝ }
+    ensures within { λ r. ⌜ planIn cap r ⌝ }
+{
+    let mut read = seen;
+    let mut a = first + 1;
+    while a < cap {
+        let judged = pages::judge_at(area, a, shape);
+        read += 1;
+        if !judged.good {
+            return Plan::Stop {
+                why: Answer::Broken {
+                    page: a as u16,
+                    read,
+                },
+            };
+        }
+        let page = judged.page;
+        if page.count < 12 {
+            return Plan::Go {
+                first,
+                at,
+                last: a,
+                read,
+            };
+        }
+        a += 1;
+    }
+    Plan::Stop {
+        why: Answer::NoRoom { read },
+    }
+}
+
+// The first phase of a put.
+pub fn plan_put(area: &[u8], cap: usize, shape: Shape, key: u64) -> Plan
+    requires { ⌜ (cap ≤ 4096) × (length (now area) ≡ 256 * cap) × Ready shape × (shape .p ≤ cap) ⌝ }
+    ensures { λ r. ⌜ ((v : ℕ) → planned (λ n a i. poured (homeIn shape) (now (area .entry)) (suc n) a (key, v)) r ≡ putWalk (homeIn shape) (now (area .entry)) cap (key, v)) ⌝ }
+    ensures within { λ r. ⌜ planIn cap r × placedIn (homeIn shape) (now (area .entry)) key r ⌝ }
+{
+    match crate::meet(area, cap, shape, key) {
+        Met::Found {
+            page: _,
+            slot: _,
+            count: _,
+            value: old,
+            read,
+        } => Plan::Stop {
+            why: Answer::Held { value: old, read },
+        },
+        Met::Sick { page, read } => Plan::Stop {
+            why: Answer::Broken {
+                page: page as u16,
+                read,
+            },
+        },
+        Met::Past { read } => Plan::Stop {
+            why: Answer::NoRoom { read },
+        },
+        Met::Ends {
+            page,
+            at,
+            count,
+            read,
+        } => {
+            if count < 12 {
+                return Plan::Go {
+                    first: page,
+                    at,
+                    last: page,
+                    read,
+                };
+            }
+            reach(area, cap, shape, page, at, read)
+        }
+    }
+}
+
+// The place of a key on a page: known on the first one, sought from the front on those after it.
+fn place_on(page: Page, shape: Shape, known: bool, at: usize, key: u64) -> usize
+    requires { ⌜ (page .count ≤ 12) × Ready shape ⌝ }
+    ensures { λ r. ⌜ r ≡ cond known at (ahead (rank (homeIn shape)) (ranked (homeIn shape key) key) (recordsOf page)) ⌝ }
+{
+    if known {
+        return at;
+    }
+    pages::slots::place_ahead(page, shape, shape.home(key), key)
+}
+
+// The second phase of a put: a record goes to its place on each page, and the last of a full page goes on to the next. It is total on any bytes.
+pub fn pour(
+    area: &mut [u8],
+    shape: Shape,
+    first: usize,
+    at: usize,
+    last: usize,
+    key: u64,
+    value: u64,
+)
+    requires { ⌜ (first ≤ last) × (last < 4096) × (256 * (last + 1) ≤ length (now area)) × Ready shape ⌝ }
+    requires { ⌜ at ≡ ahead (rank (homeIn shape)) (ranked (homeIn shape key) key) (held (now area) first) ⌝ }
+    ensures { λ _. ⌜ now (area .exit) ≡ writes (now (area .entry)) (poured (homeIn shape) (now (area .entry)) (suc (last - first)) first (key, value)) ⌝ }
+{
+    let mut a = first;
+    let mut k = key;
+    let mut v = value;
+    while a <= last {
+        let page = pages::parse_at(&area[..], a);
+        let place = place_on(page, shape, a == first, at, k);
+        let pushed = pages::slots::push(page, place, k, v);
+        let next = pushed.page;
+        pages::store_at(area, a, next);
+        k = pushed.key;
+        v = pushed.value;
+        a += 1;
+    }
+}

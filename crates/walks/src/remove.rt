@@ -1,0 +1,151 @@
+// A remove in two phases, as a put goes.
+use crate::Met;
+use crate::Plan;
+use homes::Shape;
+use pages::Page;
+use state::Answer;
+ghost use mathlib.Core.Path.{_≡_};
+ghost use Prim.Native.Nat.{suc, _+_, _-_, _*_, _≤_, _<_};
+ghost use lib.ListN.{length};
+ghost use Rattle.homes.specs.Homes.{Ready, homeIn};
+ghost use Rattle.pages.specs.Page.{inMemory};
+ghost use Rattle.pages.specs.Slots.{recordsOf, closed};
+ghost use Rattle.pages.specs.Area.{pagesFrom};
+ghost use Rattle.walks.specs.Walks.{removeWalk, writes};
+ghost use Rattle.walks.specs.Plans.{backed, drawn, reachedBack, planned, planIn, firstOf};
+
+// From a full page on, page by page, while the next page's first record has a home no higher than the page before it.
+fn reach_back(area: &[u8], cap: usize, shape: Shape, first: usize, at: usize, seen: u32) -> Plan
+    requires { ⌜ (cap ≤ 4096) × (length (now area) ≡ 256 * cap) × Ready shape × (first < cap) × (at ≤ 12) × (seen ≤ first + 1) ⌝ }
+    ensures { λ r. ⌜ r ≡ reachedBack (homeIn shape) first at first seen (pagesFrom (homeIn shape) (now (area .entry)) (cap - suc first) (suc first)) ⌝ }
+    ensures within { λ r. ⌜ planIn cap r ⌝ }
+{
+    let mut read = seen;
+    let mut a = first;
+    while a + 1 < cap {
+        let judged = pages::judge_at(area, a + 1, shape);
+        read += 1;
+        if !judged.good {
+            return Plan::Stop {
+                why: Answer::Broken {
+                    page: (a + 1) as u16,
+                    read,
+                },
+            };
+        }
+        let page = judged.page;
+        let homes = judged.homes;
+        if (page.count == 0) | (a < homes[0] as usize) {
+            return Plan::Go {
+                first,
+                at,
+                last: a,
+                read,
+            };
+        }
+        a += 1;
+        if page.count < 12 {
+            return Plan::Go {
+                first,
+                at,
+                last: a,
+                read,
+            };
+        }
+    }
+    Plan::Go {
+        first,
+        at,
+        last: a,
+        read,
+    }
+}
+
+// The first phase of a remove.
+pub fn plan_remove(area: &[u8], cap: usize, shape: Shape, key: u64) -> Plan
+    requires { ⌜ (cap ≤ 4096) × (length (now area) ≡ 256 * cap) × Ready shape × (shape .p ≤ cap) ⌝ }
+    ensures { λ r. ⌜ planned (drawn (homeIn shape) (now (area .entry))) r ≡ removeWalk (homeIn shape) (now (area .entry)) cap key ⌝ }
+    ensures within { λ r. ⌜ planIn cap r ⌝ }
+{
+    match crate::meet(area, cap, shape, key) {
+        Met::Found {
+            page,
+            slot,
+            count,
+            value: _,
+            read,
+        } => {
+            if count < 12 {
+                return Plan::Go {
+                    first: page,
+                    at: slot,
+                    last: page,
+                    read,
+                };
+            }
+            reach_back(area, cap, shape, page, slot, read)
+        }
+        Met::Sick { page, read } => Plan::Stop {
+            why: Answer::Broken {
+                page: page as u16,
+                read,
+            },
+        },
+        Met::Ends {
+            page: _,
+            at: _,
+            count: _,
+            read,
+        } => Plan::Stop {
+            why: Answer::Absent { read },
+        },
+        Met::Past { read } => Plan::Stop {
+            why: Answer::Absent { read },
+        },
+    }
+}
+
+// A page with a slot closed up, if a record stands in it.
+fn close_up(page: Page, slot: usize) -> Page
+    requires { ⌜ (page .count ≤ 12) × (page ≡ inMemory (recordsOf page)) ⌝ }
+    ensures { λ r. ⌜ r ≡ inMemory (closed slot (recordsOf page)) ⌝ }
+{
+    if page.count <= slot {
+        return page;
+    }
+    pages::slots::take_out(page, slot)
+}
+
+// A page with the first record of the page after it in its place, sought from the back.
+fn take_back(page: Page, next: Page, shape: Shape) -> Page
+    requires { ⌜ (page .count ≤ 12) × (page ≡ inMemory (recordsOf page)) × (next ≡ inMemory (recordsOf next)) × Ready shape ⌝ }
+    ensures { λ r. ⌜ r ≡ inMemory (backed (homeIn shape) (firstOf (recordsOf next)) (recordsOf page)) ⌝ }
+{
+    let keys = next.keys;
+    let values = next.values;
+    let key = keys[0];
+    let place = pages::slots::place_back(page, shape, shape.home(key), key);
+    let pushed = pages::slots::push(page, place, key, values[0]);
+    pushed.page
+}
+
+// The second phase of a remove: the slots are closed up, and each page but the last takes the first record of the next. It is total on any bytes.
+pub fn draw_back(area: &mut [u8], shape: Shape, first: usize, at: usize, last: usize)
+    requires { ⌜ (first ≤ last) × (last < 4096) × (256 * (last + 1) ≤ length (now area)) × Ready shape ⌝ }
+    ensures { λ _. ⌜ now (area .exit) ≡ writes (now (area .entry)) (drawn (homeIn shape) (now (area .entry)) (last - first) first at) ⌝ }
+{
+    let mut slot = at;
+    let mut a = first;
+    while a < last {
+        let page = pages::parse_at(&area[..], a);
+        let next = pages::parse_at(&area[..], a + 1);
+        let closed = close_up(page, slot);
+        let full = take_back(closed, next, shape);
+        pages::store_at(area, a, full);
+        slot = 0;
+        a += 1;
+    }
+    let page = pages::parse_at(&area[..], last);
+    let closed = close_up(page, slot);
+    pages::store_at(area, last, closed);
+}

@@ -1,6 +1,6 @@
 // Where a key lives: its home page, from the numbers of the file and the key.
 ghost use mathlib.Core.Path.{_≡_};
-ghost use Prim.Native.Nat.{_+_, _-_, _*_, _≤_, _<_, min};
+ghost use Prim.Native.Nat.{_≤_, _<_, min};
 ghost use Rattle.homes.specs.Homes.{InRange, Ready, shapeOf, homeIn, newPage, moved};
 
 // The numbers of a file that its homes depend on: pages a group and groups at the start, sweeps, pages grown to.

@@ -2,7 +2,7 @@
 use homes::Shape;
 use libc::STDOUT_FILENO;
 ghost use mathlib.Core.Path.{_≡_};
-ghost use Prim.Native.Nat.{_+_, _*_, _≤_, _<_};
+ghost use Prim.Native.Nat.{_+_, _≤_, _<_};
 ghost use lib.ListN.{length};
 
 fn slot(part: &mut [u8], i: usize, kind: u16, key: u64, value: u64)

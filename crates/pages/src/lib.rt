@@ -232,6 +232,7 @@ pub fn store(part: &mut [u8], address: u32, page: Page)
     }
 }
 
+// The page at an address, judged.
 pub fn judge_at(area: &[u8], a: usize, shape: Shape) -> Judged
     requires { ⌜ (a < 4096) × (256 * (a + 1) ≤ length (now area)) × Ready shape ⌝ }
     ensures { λ r. ⌜ r ≡ judged (homeIn shape) (readPage (homeIn shape) a (partAt (now (area .entry)) a)) ⌝ }
@@ -240,6 +241,7 @@ pub fn judge_at(area: &[u8], a: usize, shape: Shape) -> Judged
     judge(&area[at..at + 256], a as u32, shape)
 }
 
+// What any bytes hold at the places of the records of the page at an address.
 pub fn parse_at(area: &[u8], a: usize) -> Page
     requires { ⌜ (a < 4096) × (256 * (a + 1) ≤ length (now area)) ⌝ }
     ensures { λ r. ⌜ r ≡ inMemory (recordsIn (partAt (now (area .entry)) a)) ⌝ }
@@ -248,7 +250,7 @@ pub fn parse_at(area: &[u8], a: usize) -> Page
     parse(&area[at..at + 256])
 }
 
-// "The writable middle part of the area is lent on to the page writer."
+// A page to its place in the area: the part that is its own is lent on.
 pub fn store_at(area: &mut [u8], a: usize, page: Page)
     requires { ⌜ (a < 4096) × (256 * (a + 1) ≤ length (now area)) × (page .count ≤ 12) × (page ≡ inMemory (recordsOf page)) ⌝ }
     ensures { λ _. ⌜ now (area .exit) ≡ withPage (now (area .entry)) a (recordsOf page) ⌝ }

@@ -5,7 +5,7 @@ use crate::Pushed;
 use homes::Shape;
 ghost use mathlib.Core.Path.{_≡_};
 ghost use mathlib.Core.List.{[], _∷_, _++_};
-ghost use Prim.Native.Nat.{_+_, _≤_, _<_};
+ghost use Prim.Native.Nat.{_≤_, _<_};
 ghost use lib.ListN.{take};
 ghost use Rattle.homes.specs.Homes.{Ready, homeIn};
 ghost use Rattle.pages.specs.Page.{rank, inMemory, judged};

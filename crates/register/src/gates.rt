@@ -5,7 +5,7 @@ use state::State;
 use survey::Verdict;
 ghost use mathlib.Core.Path.{_≡_};
 ghost use mathlib.Core.Bool.{true};
-ghost use Prim.Native.Nat.{_-_, _*_};
+ghost use Prim.Native.Nat.{_*_};
 ghost use lib.ListN.{length};
 ghost use Rattle.state.specs.State.{inRange};
 ghost use Rattle.register.specs.Gates.{gateOf, imageGate, growGate, OpenFor, OpenToGrow};

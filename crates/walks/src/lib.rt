@@ -3,10 +3,9 @@ pub mod put;
 pub mod remove;
 
 use homes::Shape;
-use pages::Page;
 use state::Answer;
 ghost use mathlib.Core.Path.{_≡_};
-ghost use Prim.Native.Nat.{_+_, _-_, _*_, _≤_, _<_};
+ghost use Prim.Native.Nat.{_*_, _≤_};
 ghost use lib.ListN.{length};
 ghost use Rattle.homes.specs.Homes.{Ready, homeIn};
 ghost use Rattle.walks.specs.Walks.{walk};

@@ -11,7 +11,7 @@ use lib.Seq.{take-at, drop-at, take-append-le, drop-append-le, take-append-add, 
 use Rattle.numbers.specs.Little.{written}
 use Rattle.numbers.proofs.Laws.{Bytes, bytes-take, bytes-drop, written-length, written-at, written-after}
 use Rattle.pages.specs.Page.{Record, pageBytes, readPage}
-use Rattle.pages.specs.Area.{partAt, pagesFrom, areaFrom, withPage}
+use Rattle.pages.specs.Area.{partAt, pagesFrom, heldFrom, areaFrom, withPage}
 use Rattle.pages.proofs.Write.{page-length}
 use Rattle.pages.proofs.RoundTrip.{read-bytes}
 
@@ -118,3 +118,12 @@ pages-from h area b (suc k) a (p ∷ ps) n e =
 pub area-pages : (h : ℕ → ℕ) (area : List ℕ) (n : ℕ) (ps : List (List Record)) → Bytes area → length area ≡ 256 * n → pagesFrom h area n 0 ≡ map some ps
     → area ≡ areaFrom 0 ps
 area-pages h area n ps b l e = pages-from h area b n 0 ps (omega arith) e
+
+-- n pages are n
+pub held-length : (area : List ℕ) (n a : ℕ) → length (heldFrom area n a) ≡ n
+held-length area zero a = refl
+held-length area (suc n) a = ap suc (held-length area n (suc a))
+
+pub pages-length : (h : ℕ → ℕ) (area : List ℕ) (n a : ℕ) → length (pagesFrom h area n a) ≡ n
+pages-length h area zero a = refl
+pages-length h area (suc n) a = ap suc (pages-length h area n (suc a))

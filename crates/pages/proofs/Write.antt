@@ -51,7 +51,7 @@ slot-used (x ∷ rs) ks vs zero n h = refl
 slot-used (x ∷ rs) ks vs (suc i) n h = slot-used rs ks vs i n (omega arith)
 
 -- zeros stand in each place
-zeros : (m i : ℕ) → _≡_ {A = ℕ} (getD (replicate m 0) i 0) 0
+pub zeros : (m i : ℕ) → _≡_ {A = ℕ} (getD (replicate m 0) i 0) 0
 zeros zero i = refl
 zeros (suc m) zero = refl
 zeros (suc m) (suc i) = zeros m i

@@ -39,14 +39,6 @@ rest-none l t n h = go (eqb t n) refl
     go false e = ne-eqb l 0 (λ z. eqb-false t n e (omega arith))
 
 module _ {R : Type 0} (home : R → ℕ) where
-  pub atHome-le : (a : ℕ) (s : List R) → atHome home a s ≤ length s
-  atHome-le a [] = omega arith
-  atHome-le a (x ∷ s) = go (eqb (home x) a) (atHome-le a s)
-    where
-      go : (t : Bool) → atHome home a s ≤ length s → one t + atHome home a s ≤ suc (length s)
-      go true ih = omega arith
-      go false ih = omega arith
-
   pub counts-length : (s : List R) (n a : ℕ) → length (counts home s n a) ≡ n
   counts-length s zero a = refl
   counts-length s (suc n) a = ap suc (counts-length s n (suc a))

@@ -1,7 +1,7 @@
 -- The way of a rebuild: entries packed at the top end, sorted there, and laid on the pages.
 use mathlib.Core.Path.{_≡_, refl, ap, _∙_}
 use mathlib.Core.List.{List, [], _++_, map, append-nil}
-use Prim.Native.Nat.{ℕ, zero, suc, _+_, _-_, _*_, _/_, _^_, _≤_, _<_}
+use Prim.Native.Nat.{ℕ, _+_, _-_, _*_, _/_, _^_, _≤_, _<_}
 use native.Mathlib.Omega.{arith}
 use mir.Syntax.{w8}
 use mir.Val as val
@@ -13,6 +13,7 @@ use Rattle.placing.specs.Lay.{sort, lay, taken}
 use Rattle.placing.specs.Rows.{strayed}
 use Rattle.placing.proofs.Order.{Sorted}
 use Rattle.placing.proofs.Perms.{perm-length, sort-perm}
+use Rattle.pages.proofs.Areas.{held-length}
 use Rattle.pages.specs.Page.{Record, key, homeFor}
 use Rattle.pages.specs.Area.{heldFrom, areaFrom}
 use Rattle.entries.specs.declared.Entry.{Entry}
@@ -34,10 +35,6 @@ pub record Gathered (h : ℕ → ℕ) (cap : ℕ) (l : List ℕ) (base : ℕ) (m
   pub set : RecordSet key (cat (heldFrom l cap 0) [])
   pub base-is : base ≡ 256 * cap - 20 * length (packed h cap l)
   pub bytes : m ≡ take base l ++ rowBytes (packed h cap l)
-
-held-length : (area : List ℕ) (n a : ℕ) → length (heldFrom area n a) ≡ n
-held-length area zero a = refl
-held-length area (suc n) a = ap suc (held-length area n (suc a))
 
 module _ (h : ℕ → ℕ) (cap : ℕ) (l : List ℕ) (base : ℕ) (m : List ℕ) (g : Gathered h cap l base m) where
   pub begins : base + 20 * length (packed h cap l) ≡ 256 * cap

@@ -5,7 +5,7 @@ use mathlib.Core.List.{List, [], _∷_, map, map-append, Permᴰ·symm}
 use Prim.Native.Nat.{ℕ, zero, suc, min}
 use native.Mathlib.Omega.{arith}
 use lib.Dec.{leb}
-use lib.ListN.{length, take, drop, length-map}
+use lib.ListN.{length, drop, length-map}
 use Rattle.placing.specs.Image.{All, cat, Distinct, RecordSet}
 use Rattle.placing.specs.Lay.{rankIn, ins, sort, upTo, lay, taken}
 use Rattle.placing.proofs.Lists.{all-map₂, all-append}
@@ -16,14 +16,10 @@ use Rattle.placing.proofs.Rank.{distinct-rank}
 use Rattle.pages.specs.Page.{Record, key, homeFor}
 use Rattle.entries.specs.declared.Entry.{Entry}
 use Rattle.entries.specs.Entries.{rank, home}
+use Rattle.pages.proofs.Rows.{map-take}
 use Rattle.rebuild.specs.Rebuild.{tagged, taggedFrom, recordIn, relaid}
 
 module _ {A B : Type 0} (f : A → B) where
-  map-take : (n : ℕ) (s : List A) → map f (take n s) ≡ take n (map f s)
-  map-take zero s = refl
-  map-take (suc n) [] = refl
-  map-take (suc n) (x ∷ s) = ap (λ (t : List B). f x ∷ t) (map-take n s)
-
   map-drop : (n : ℕ) (s : List A) → map f (drop n s) ≡ drop n (map f s)
   map-drop zero s = refl
   map-drop (suc n) [] = refl

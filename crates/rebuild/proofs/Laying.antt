@@ -1,19 +1,19 @@
 -- Sorted entries laid on the pages from below: a page ends at or below the first entry that is not yet read.
 use mathlib.Core.Path.{_≡_, refl, sym, ap, _∙_}
-use mathlib.Core.Bool.{Bool, true, false, cond}
+use mathlib.Core.Bool.{Bool, true, false, cond, not}
 use mathlib.Core.List.{List, [], _∷_, _++_, map, append-assoc, append-nil}
 use Prim.Native.Nat.{ℕ, zero, suc, _+_, _-_, _*_, _/_, _^_, _≤_, _<_, min}
 use native.Mathlib.Numerals.{add-one}
 use native.Mathlib.Omega.{arith}
 use borrow.Author.Tests.{leb-false}
-use lib.Dec.{leb}
+use lib.Dec.{leb, eqb}
 use lib.ListN.{length, take, drop, length-map, length-take, length-drop}
 use lib.Seq.{take-all, drop-drop}
 use Rattle.numbers.specs.Little.{written}
 use Rattle.numbers.proofs.Laws.{written-length, written-front, written-after}
 use Rattle.placing.specs.Image.{All}
 use Rattle.placing.specs.Lay.{one, upTo, lay, taken}
-use Rattle.placing.proofs.Lists.{all-map, upTo-none, none-of-length}
+use Rattle.placing.proofs.Lists.{all-map, upTo-none, none-of-length, count-le}
 use Rattle.placing.proofs.Order.{Sorted, sorted-drop}
 use Rattle.placing.proofs.Laid.{over, laid}
 use Rattle.placing.proofs.Taken.{packed-taken}
@@ -28,7 +28,7 @@ use Rattle.entries.specs.Entries.{entriesIn, rank, home}
 use Rattle.rebuild.specs.declared.Took.{Took}
 use Rattle.rebuild.specs.Rebuild.{recordIn, fitting, hops, hopsFrom, took}
 use Rattle.rebuild.proofs.Reading.{Whole, left-length, left-behind}
-use Rattle.rebuild.proofs.Take.{fitting-few, fitting-length, hops-few}
+use Rattle.rebuild.proofs.Take.{fitting-few, fitting-length}
 
 -- in a rank the home counts most
 home-first : (x y : Entry) → rank x ≤ rank y → home x ≤ home y
@@ -109,7 +109,7 @@ took-page : (a at : ℕ) (es : List Entry) (t : Took) → t ≡ took a at es →
 took-page a at es t e = ap (λ (u : Took). recordsOf (u .page)) e ∙ memory (map recordIn (take (fitting 12 a es) es))
 
 hops-taken : (a : ℕ) (es : List Entry) → hops a (take (fitting 12 a es) es) ≤ 12
-hops-taken a es = omega (arith, hops-few a (take (fitting 12 a es) es), length-take (fitting 12 a es) es, fitting-few 12 a es)
+hops-taken a es = omega (arith, count-le (λ e. not (eqb (e .from) a)) (take (fitting 12 a es) es), length-take (fitting 12 a es) es, fitting-few 12 a es)
 
 -- the area with page a written: what stands before its end, and the entries from beyond its end on
 with-front : (area : List ℕ) (a : ℕ) (p : List Record) → 256 * (a + 1) ≤ length area → take (256 * (a + 1)) (withPage area a p) ≡ take (256 * a) area ++ pageBytes a p

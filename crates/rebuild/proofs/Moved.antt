@@ -44,35 +44,35 @@ module _ {R : Type 0} (key : R → ℕ) where
       (λ y n k. ((λ q. n (sym q)), k)) t (h .0) (apart-flip s t (h .1))
 
   -- a page holds the keys of its records
-  there : (s : List R) → All (λ x. isThere key (seek key (key x) s) ≡ true) s
+  there : (s : List R) → All (λ x. isThere (seek key (key x) s) ≡ true) s
   there [] = tt
   there (y ∷ s) = (
     rw (eq-eqb (key y) (key y) refl),
-    all-map (λ x. isThere key (seek key (key x) s) ≡ true) (λ x. isThere key (seek key (key x) (y ∷ s)) ≡ true)
+    all-map (λ x. isThere (seek key (key x) s) ≡ true) (λ x. isThere (seek key (key x) (y ∷ s)) ≡ true)
         (λ x h. more (eqb (key y) (key x)) (seek key (key x) s) h) s (there s),
   )
     where
-      more : (u : Bool) (o : Option R) → isThere key o ≡ true → isThere key (cond u (some y) o) ≡ true
+      more : (u : Bool) (o : Option R) → isThere o ≡ true → isThere (cond u (some y) o) ≡ true
       more true o h = refl
       more false o h = h
 
 -- an entry's page, of pages from address a on, is the one that holds its key
 abbrev pub Came : ℕ → List (List Record) → Entry → Type 0
-Came a ps e = (i : ℕ) → isThere key (seek key (e .key) (page ps i)) ≡ eqb (e .from) (a + i)
+Came a ps e = (i : ℕ) → isThere (seek key (e .key) (page ps i)) ≡ eqb (e .from) (a + i)
 
 -- an entry of the first page
-came-first : (a : ℕ) (p : List Record) (ps : List (List Record)) (e : Entry) → e .from ≡ a → isThere key (seek key (e .key) p) ≡ true
+came-first : (a : ℕ) (p : List Record) (ps : List (List Record)) (e : Entry) → e .from ≡ a → isThere (seek key (e .key) p) ≡ true
     → All (λ y. key y ≡ e .key → ⊥) (cat ps []) → Came a (p ∷ ps) e
 came-first a p ps e f h n zero = h ∙ sym (eq-eqb (e .from) (a + 0) (omega arith))
 came-first a p ps e f h n (suc i) =
-    ap (λ (o : Option Record). isThere key o) (ne-seek key (e .key) (page ps i) (all-page (λ y. key y ≡ e .key → ⊥) ps i n))
+    ap (λ (o : Option Record). isThere o) (ne-seek key (e .key) (page ps i) (all-page (λ y. key y ≡ e .key → ⊥) ps i n))
     ∙ sym (ne-eqb (e .from) (a + suc i) (λ q. omega arith))
 
 -- an entry of a later page
 came-later : (a : ℕ) (p : List Record) (ps : List (List Record)) (e : Entry) → suc a ≤ e .from → All (λ x. key x ≡ e .key → ⊥) p
     → Came (suc a) ps e → Came a (p ∷ ps) e
 came-later a p ps e f n k zero =
-    ap (λ (o : Option Record). isThere key o) (ne-seek key (e .key) p n) ∙ sym (ne-eqb (e .from) (a + 0) (λ q. omega arith))
+    ap (λ (o : Option Record). isThere o) (ne-seek key (e .key) p n) ∙ sym (ne-eqb (e .from) (a + 0) (λ q. omega arith))
 came-later a p ps e f n k (suc i) = let q : suc a + i ≡ a + suc i = omega arith in rw (← q) (k i)
 
 module _ (h : ℕ → ℕ) where
@@ -85,7 +85,7 @@ module _ (h : ℕ → ℕ) where
   from-low a [] = tt
   from-low a (p ∷ ps) =
       all-append (λ e. a ≤ e .from) (tagged h a p) (taggedFrom h (suc a) ps)
-      (tagged-each (λ x. isThere key (seek key (key x) p) ≡ true) (λ e. a ≤ e .from) a (λ x t. omega arith) p (there key p))
+      (tagged-each (λ x. isThere (seek key (key x) p) ≡ true) (λ e. a ≤ e .from) a (λ x t. omega arith) p (there key p))
       (all-map (λ e. suc a ≤ e .from) (λ e. a ≤ e .from) (λ e l. omega arith) (taggedFrom h (suc a) ps) (from-low (suc a) ps))
 
   pub came : (a : ℕ) (ps : List (List Record)) → Distinct key (cat ps []) → All (Came a ps) (taggedFrom h a ps)
@@ -99,14 +99,14 @@ module _ (h : ℕ → ℕ) where
       rest = taggedFrom h (suc a) ps
 
       First : Record → Type 0
-      First x = (isThere key (seek key (key x) p) ≡ true) × All (λ y. key y ≡ key x → ⊥) (cat ps [])
+      First x = (isThere (seek key (key x) p) ≡ true) × All (λ y. key y ≡ key x → ⊥) (cat ps [])
 
       Later : Entry → Type 0
       Later e = (suc a ≤ e .from) × All (λ x. key x ≡ e .key → ⊥) p
 
       firsts : All First p
       firsts =
-          all-map₂ (λ x. isThere key (seek key (key x) p) ≡ true) (λ x. All (λ y. key y ≡ key x → ⊥) (cat ps [])) First (λ x t n. (t, n)) p (there key p)
+          all-map₂ (λ x. isThere (seek key (key x) p) ≡ true) (λ x. All (λ y. key y ≡ key x → ⊥) (cat ps [])) First (λ x t n. (t, n)) p (there key p)
           (apart-parts key p (cat ps []) d)
 
       laters : All Later rest
@@ -114,7 +114,7 @@ module _ (h : ℕ → ℕ) where
           all-map₂ (λ e. suc a ≤ e .from) (λ e. All (λ x. key x ≡ e .key → ⊥) p) Later (λ e l n. (l, n)) rest (from-low (suc a) ps)
           (all-records (λ y. All (λ x. key x ≡ key y → ⊥) p) rest (rw (pages-records h (suc a) ps) (apart-flip key p (cat ps []) (apart-parts key p (cat ps []) d))))
 
-hops-strays : (a : ℕ) (p : List Record) (q : List Entry) → All (λ e. isThere key (seek key (e .key) p) ≡ eqb (e .from) a) q
+hops-strays : (a : ℕ) (p : List Record) (q : List Entry) → All (λ e. isThere (seek key (e .key) p) ≡ eqb (e .from) a) q
     → hops a q ≡ strays key p (map recordIn q)
 hops-strays a p [] k = refl
 hops-strays a p (e ∷ q) k = rw (k .0, hops-strays a p q (k .1))
@@ -128,8 +128,8 @@ hops-strayed a (p ∷ ps) [] n k = refl
 hops-strayed a (p ∷ ps) (q ∷ qs) n k =
     rw (hops-strays a p q here, hops-strayed (suc a) ps qs (omega arith) after)
   where
-    here : All (λ e. isThere key (seek key (e .key) p) ≡ eqb (e .from) a) q
-    here = all-map (Came a (p ∷ ps)) (λ e. isThere key (seek key (e .key) p) ≡ eqb (e .from) a)
+    here : All (λ e. isThere (seek key (e .key) p) ≡ eqb (e .from) a) q
+    here = all-map (Came a (p ∷ ps)) (λ e. isThere (seek key (e .key) p) ≡ eqb (e .from) a)
         (λ e c. let z : a + 0 ≡ a = omega arith in rw z at (c 0)) q (k .0)
 
     after : All (All (Came (suc a) ps)) qs

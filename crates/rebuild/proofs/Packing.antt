@@ -12,12 +12,14 @@ use Rattle.pages.specs.declared.Page.{Page}
 use Rattle.pages.specs.Page.{Record, recordsIn, inMemory}
 use Rattle.pages.specs.Slots.{paired, recordsOf}
 use Rattle.pages.specs.Area.{partAt, heldFrom}
+use Rattle.pages.proofs.Memory.{page-count, page-records}
 use Rattle.pages.proofs.Read.{held-few}
+use Rattle.pages.proofs.Seeking.{paired-length}
 use Rattle.entries.specs.declared.Entry.{Entry}
 use Rattle.entries.specs.Entries.{entryBytes, rowBytes}
 use Rattle.entries.proofs.Rows.{row-length, row-append}
 use Rattle.rebuild.specs.Rebuild.{tagged, taggedFrom, packed}
-use Rattle.rebuild.proofs.Tags.{tagged-append, tagged-length, page-count, page-records, entries-few}
+use Rattle.rebuild.proofs.Tags.{tagged-append, tagged-length, entries-few}
 
 -- two writes, the second where it ends at the first, are one
 written-before : (l : List ℕ) (at : ℕ) (v w : List ℕ) → at + length v ≤ length l
@@ -40,10 +42,6 @@ paired-last zero ks vs = refl
 paired-last (suc n) ks vs =
     let q : 1 + n ≡ suc n = omega arith in
     rw (paired-last n (drop 1 ks) (drop 1 vs), getD-drop 1 ks n 0, getD-drop 1 vs n 0, q)
-
-paired-length : (n : ℕ) (ks vs : List ℕ) → length (paired n ks vs) ≡ n
-paired-length zero ks vs = refl
-paired-length (suc n) ks vs = ap suc (paired-length n (drop 1 ks) (drop 1 vs))
 
 -- the bytes of the entries of the first n records of a page's rows
 abbrev pub rows : (ℕ → ℕ) → (a n : ℕ) → List ℕ → List ℕ → List ℕ

@@ -1,5 +1,5 @@
 -- The entries of pages: how many they are, and that they fit.
-use mathlib.Core.Path.{_≡_, refl, ap, _∙_}
+use mathlib.Core.Path.{_≡_, refl, ap}
 use mathlib.Core.List.{List, [], _∷_, _++_}
 use Prim.Native.Nat.{ℕ, zero, suc, _*_, _^_, _≤_, _<_}
 use native.Mathlib.Omega.{arith}
@@ -9,9 +9,8 @@ use Rattle.homes.specs.Homes.{Ready, homeIn}
 use Rattle.homes.proofs.Homes.{home-below}
 use Rattle.pages.specs.declared.Page.{Page}
 use Rattle.pages.specs.Page.{Record, inMemory, recordsIn}
-use Rattle.pages.specs.Slots.{recordsOf}
 use Rattle.pages.specs.Area.{partAt, heldFrom}
-use Rattle.pages.proofs.Memory.{memory}
+use Rattle.pages.proofs.Memory.{page-count}
 use Rattle.pages.proofs.Read.{held-few}
 use Rattle.rebuild.specs.Rebuild.{tagged, taggedFrom}
 
@@ -23,14 +22,7 @@ pub tagged-length : (h : ℕ → ℕ) (a : ℕ) (p : List Record) → length (ta
 tagged-length h a [] = refl
 tagged-length h a (x ∷ p) = ap suc (tagged-length h a p)
 
--- a page in memory holds what was read
-pub page-count : (p : Page) (rs : List Record) → p ≡ inMemory rs → p .count ≡ length rs
-unfolding inMemory
-page-count p rs e = rw e
-
-pub page-records : (p : Page) (rs : List Record) → p ≡ inMemory rs → recordsOf p ≡ rs
-page-records p rs e = ap recordsOf e ∙ memory rs
-
+-- a page that is read holds twelve records at most
 pub page-few : (p : Page) (l : List ℕ) → p ≡ inMemory (recordsIn l) → p .count ≤ 12
 page-few p l e = omega (arith, page-count p (recordsIn l) e, held-few l)
 

@@ -39,15 +39,6 @@ fitting-length (suc b) a (e ∷ es) = go (leb (home e) a) (fitting-length b a es
     go true h = omega arith
     go false h = omega arith
 
--- nor do more come from other pages
-pub hops-few : (a : ℕ) (es : List Entry) → hops a es ≤ length es
-hops-few a [] = omega arith
-hops-few a (e ∷ es) = go (not (eqb (e .from) a)) (hops-few a es)
-  where
-    go : (t : Bool) → hops a es ≤ length es → one t + hops a es ≤ suc (length es)
-    go true h = omega arith
-    go false h = omega arith
-
 -- a page that holds n records in its rows, with the entries of a list stored behind them
 abbrev filled : (a : ℕ) (ks vs : List ℕ) (n at m : ℕ) → List Entry → Took
 filled a ks vs n at m es = record {

@@ -5,7 +5,7 @@ use mathlib.Core.List.{List, [], _∷_, _++_, map}
 use lib.ListN.{take}
 use lib.Dec.{leb, eqb}
 use Rattle.placing.specs.Image.{cat}
-use Rattle.placing.specs.Lay.{one, rankIn, sort, lay}
+use Rattle.placing.specs.Lay.{count, rankIn, sort, lay}
 use Rattle.pages.specs.Page.{Record, key, value, homeFor, inMemory}
 use Rattle.pages.specs.Area.{heldFrom}
 use Rattle.entries.specs.declared.Entry.{Entry}
@@ -38,8 +38,7 @@ fitting (suc b) a (e ∷ es) = cond (leb (home e) a) (suc (fitting b a es)) 0
 
 -- how many come from another page than a
 abbrev pub hops : ℕ → List Entry → ℕ
-hops a [] = 0
-hops a (e ∷ es) = one (not (eqb (e .from) a)) + hops a es
+hops a es = count (λ e. not (eqb (e .from) a)) es
 
 -- the same of pages, the first at address a
 abbrev pub hopsFrom : ℕ → List (List Entry) → ℕ

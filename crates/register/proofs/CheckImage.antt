@@ -1,16 +1,17 @@
 -- What check tells its user.
-use mathlib.Core.Path.{_≡_, refl, sym, ap, _∙_}
+use mathlib.Core.Path.{_≡_, refl, sym, _∙_}
 use mathlib.Core.Bool.{Bool, true, false, cond, _&&_}
 use mathlib.Core.Logic.{_↔_}
 use mathlib.Core.Option.{none, some}
 use mathlib.Core.List.{List, [], _∷_, map, Permᴰ·refl}
-use Prim.Native.Nat.{ℕ, zero, suc, _*_}
+use Prim.Native.Nat.{ℕ, suc, _*_}
 use native.Mathlib.Omega.{arith}
 use lib.Dec.{eqb}
 use lib.ListN.{length}
 use Rattle.numbers.proofs.Laws.{Bytes}
 use Rattle.placing.specs.Image.{cat, RecordSet, Image}
 use Rattle.placing.proofs.Perms.{perm-length}
+use Rattle.pages.proofs.Areas.{held-length}
 use Rattle.pages.specs.Page.{Record, key}
 use Rattle.pages.specs.Area.{pagesFrom, heldFrom}
 use Rattle.survey.specs.declared.Verdict.{Verdict}
@@ -53,10 +54,6 @@ same-pages (p ∷ ps) (q ∷ qs) e =
     let x : p ≡ q = cc in
     let t : map some ps ≡ map some qs = cc in
     rw (x, same-pages ps qs t)
-
-held-length : (area : List ℕ) (n a : ℕ) → length (heldFrom area n a) ≡ n
-held-length area zero a = refl
-held-length area (suc n) a = ap suc (held-length area n (suc a))
 
 -- an image of records is that of the records that stand on it
 of-own : {h : ℕ → ℕ} {n : ℕ} {rs : List Record} {ps : List (List Record)} → Image key h 12 n rs ps → Image key h 12 n (cat ps []) ps

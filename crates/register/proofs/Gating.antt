@@ -13,7 +13,8 @@ use Rattle.state.specs.State.{inRange}
 use Rattle.state.proofs.Ranges.{Ranged, ranged}
 use Rattle.register.specs.declared.Gate.{Gate}
 use Rattle.register.specs.declared.Gate.the-variants.{Open, Shut}
-use Rattle.register.specs.Gates.{gateOf, imageGate, growGate, OpenFor, OpenToGrow}
+use Rattle.register.specs.Gates.{gateOf, imageGate, growGate}
+use Rattle.register.specs.Past.{OpenFor, OpenToGrow}
 
 module _ (s : State) (n : ℕ) where
   -- a number out of range

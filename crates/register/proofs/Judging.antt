@@ -1,9 +1,9 @@
 -- The gate of the pages: what a survey tells decides.
-use mathlib.Core.Path.{_≡_, refl, sym, ap, _∙_}
+use mathlib.Core.Path.{_≡_, refl, sym, _∙_}
 use mathlib.Core.Bool.{Bool, true, false, cond, _&&_}
 use mathlib.Core.Option.{Option, none, some}
 use mathlib.Core.List.{List, [], _∷_}
-use Prim.Native.Nat.{ℕ, zero, suc, _+_, _<_}
+use Prim.Native.Nat.{ℕ, suc, _+_, _<_}
 use native.Mathlib.Numerals.{add-one}
 use native.Mathlib.Omega.{arith}
 use lib.Dec.{eqb}
@@ -13,6 +13,7 @@ use Rattle.homes.specs.declared.Shape.{Shape}
 use Rattle.homes.specs.Homes.{shapeOf, homeIn}
 use Rattle.numbers.proofs.Records.{and-left, and-right}
 use Rattle.placing.specs.Image.{cat}
+use Rattle.pages.proofs.Areas.{pages-length}
 use Rattle.pages.specs.Page.{Record}
 use Rattle.pages.specs.Area.{pagesFrom, heldFrom}
 use Rattle.survey.specs.declared.Verdict.{Verdict}
@@ -30,10 +31,6 @@ lowest-below a b [] e = absurd (let z : _≡_ {A = ℕ} 0 1 = cc in omega arith)
 lowest-below a b (none ∷ ps) e = let q : a ≡ b = cc in omega arith
 lowest-below a b (some p ∷ ps) e = omega (arith, lowest-below (suc a) b ps e)
 
-pages-length : (h : ℕ → ℕ) (area : List ℕ) (n a : ℕ) → length (pagesFrom h area n a) ≡ n
-pages-length h area zero a = refl
-pages-length h area (suc n) a = ap suc (pages-length h area n (suc a))
-
 -- so what a survey calls broken is a page of the area
 pub sick-below : (h : ℕ → ℕ) (area : List ℕ) (cap : ℕ) (v : Verdict) (a : ℕ) → v ≡ surveyed h area cap → v ≡ Sick a → a < cap
 unfolding surveyed
@@ -42,7 +39,7 @@ sick-below h area cap v a t e = go (lowestBroken 0 (pagesFrom h area cap 0)) ref
     whole : Verdict
     whole = Whole (isImage h (heldFrom area cap 0)) (length (cat (heldFrom area cap 0) []))
 
-    go : (o : Option ℕ) → lowestBroken 0 (pagesFrom h area cap 0) ≡ o → onBroken h o whole ≡ Sick a → a < cap
+    go : (o : Option ℕ) → lowestBroken 0 (pagesFrom h area cap 0) ≡ o → onBroken o whole ≡ Sick a → a < cap
     go none q k = absurd (let z : _≡_ {A = ℕ} 0 1 = cc in omega arith)
     go (some b) q k =
         let w : b ≡ a = cc in
@@ -89,7 +86,7 @@ open-sound s area e = look (lowestBroken 0 (pagesFrom h area (s .cap) 0)) refl e
     tests true q k = q
     tests false q k = absurd (let z : _≡_ {A = ℕ} 0 1 = cc in omega arith)
 
-    look : (o : Option ℕ) → lowestBroken 0 (pagesFrom h area (s .cap) 0) ≡ o → imageOf s (onBroken h o (Whole (isImage h held) records)) ≡ Open → Sound s area
+    look : (o : Option ℕ) → lowestBroken 0 (pagesFrom h area (s .cap) 0) ≡ o → imageOf s (onBroken o (Whole (isImage h held) records)) ≡ Open → Sound s area
     look (some a) q k = absurd (let z : _≡_ {A = ℕ} 0 1 = cc in omega arith)
     look none q k =
         let t : (isImage h held && eqb records (s .r)) ≡ true = tests (isImage h held && eqb records (s .r)) refl k in

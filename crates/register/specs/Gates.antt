@@ -1,7 +1,6 @@
 -- What a call refuses before it does anything (01, 'Refusal numbers'), in 01's order. What is quoted is 01's.
-use Prim.Native.Nat.{ℕ, suc, _*_, _<_}
-use mathlib.Core.Path.{_≡_}
-use mathlib.Core.Bool.{true, cond, _&&_}
+use Prim.Native.Nat.{ℕ, suc, _*_}
+use mathlib.Core.Bool.{cond, _&&_}
 use mathlib.Core.List.{List}
 use lib.ListN.{length}
 use lib.Dec.{eqb}
@@ -36,12 +35,3 @@ unfoldable pub growGate : State → List ℕ → (n : ℕ) → Gate
 growGate s area n =
     onGate (gateOf s (length area)) Shut
     (cond (eqb n (s .cap)) (cond (eqb (s .p) (s .cap)) (Shut AtCap) (imageGate s area)) (Shut WrongRow))
-
--- what is known past a gate
-abbrev pub OpenFor : State → ℕ → Gate → Type 0
-OpenFor s n Open = (inRange s ≡ true) × (n ≡ 256 * s .cap)
-OpenFor s n (Shut why) = Unit {0}
-
-abbrev pub OpenToGrow : State → List ℕ → ℕ → Gate → Type 0
-OpenToGrow s area n Open = (inRange s ≡ true) × (length area ≡ 256 * s .cap) × (n ≡ s .cap) × (s .p < s .cap) × (imageGate s area ≡ Open)
-OpenToGrow s area n (Shut why) = Unit {0}

@@ -8,7 +8,8 @@ ghost use mathlib.Core.Bool.{true};
 ghost use Prim.Native.Nat.{_*_};
 ghost use lib.ListN.{length};
 ghost use Rattle.state.specs.State.{inRange};
-ghost use Rattle.register.specs.Gates.{gateOf, imageGate, growGate, OpenFor, OpenToGrow};
+ghost use Rattle.register.specs.Gates.{gateOf, imageGate, growGate};
+ghost use Rattle.register.specs.Past.{OpenFor, OpenToGrow};
 
 // The refusals that need no page: a number out of range, an area of another length.
 pub(crate) fn enter(state: State, length: usize) -> Gate

@@ -17,7 +17,7 @@ ghost use Rattle.state.specs.declared.Answer.the-variants.{Accepted};
 ghost use Rattle.walks.specs.Walks.{findAnswer};
 ghost use Rattle.walks.specs.Plans.{metIn};
 ghost use Rattle.register.specs.declared.Gate.the-variants.{Open};
-ghost use Rattle.register.specs.Gates.{OpenToGrow};
+ghost use Rattle.register.specs.Past.{OpenToGrow};
 ghost use Rattle.register.specs.Calls.{done, formatted, found, putOpen, stored, removeOpen, removed, checked, grownFile, grew};
 
 // Whether a call may go on, or why not.

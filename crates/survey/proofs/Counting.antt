@@ -14,13 +14,15 @@ use borrow.Author.Fill.{fill-more}
 use Rattle.placing.specs.Image.{cat}
 use Rattle.placing.specs.Lay.{one}
 use Rattle.placing.specs.Rows.{atHome, counts, leftOver}
-use Rattle.placing.proofs.Rows.{atHome-le, counts-length, counts-at}
+use Rattle.placing.proofs.Rows.{counts-length, counts-at}
+use Rattle.placing.proofs.Lists.{count-le}
 use Rattle.pages.specs.declared.Page.{Page}
 use Rattle.pages.specs.Page.{Record, key, homeFor, recordsIn, inMemory}
 use Rattle.pages.specs.Slots.{paired, recordsOf}
 use Rattle.pages.specs.Area.{partAt, heldFrom}
 use Rattle.pages.proofs.Memory.{memory}
 use Rattle.pages.proofs.Read.{held-few}
+use Rattle.pages.proofs.Write.{zeros}
 use Rattle.pages.proofs.Seeking.{paired-length, paired-key}
 use Rattle.survey.specs.Looks.{tallied}
 
@@ -61,7 +63,7 @@ module _ (h : ℕ → ℕ) where
   tally-le rs row k = go (ltb k (length row)) refl
     where
       go : (u : Bool) → ltb k (length row) ≡ u → getD (tallied h rs row) k 0 ≤ getD row k 0 + length rs
-      go true e = omega (arith, tally-at rs row k (ltb-true k (length row) e), atHome-le (homeFor h) k rs)
+      go true e = omega (arith, tally-at rs row k (ltb-true k (length row) e), count-le (λ x. eqb (homeFor h x) k) rs)
       go false e = rw (List·getD-eq-default (tallied h rs row) 0 {n = k} (omega (arith, tally-length rs row, ltb-false k (length row) e))) (omega arith)
 
   -- from zeros the tally of all records is the row of counts
@@ -119,11 +121,6 @@ pub record Counted (h : ℕ → ℕ) (area : List ℕ) (cap : ℕ) (row : List �
   pub long : length row ≡ cap
   pub small : (k : ℕ) → getD row k 0 ≤ 12 * a
   pub rest : tallied h (cat (heldFrom area (cap - a) a) []) row ≡ counts (homeFor h) (cat (heldFrom area cap 0) []) cap 0
-
-zeros : (n k : ℕ) → _≡_ {A = ℕ} (getD (replicate n 0) k 0) 0
-zeros zero k = refl
-zeros (suc n) zero = refl
-zeros (suc n) (suc k) = zeros n k
 
 pub count-starts : (h : ℕ → ℕ) (area : List ℕ) (cap : ℕ) (row : List ℕ) → row ≡ replicate cap 0 → Counted h area cap row 0
 count-starts h area cap row e =

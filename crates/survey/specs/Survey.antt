@@ -18,6 +18,10 @@ lowestBroken a [] = none
 lowestBroken a (none ∷ ps) = some a
 lowestBroken a (some p ∷ ps) = lowestBroken (suc a) ps
 
+abbrev pub onBroken : Option ℕ → Verdict → Verdict
+onBroken (some a) whole = Sick a
+onBroken none whole = whole
+
 module _ (h : ℕ → ℕ) where
   -- after a page that isn't full, no record on page a has a lower home: the first one's tells it
   abbrev pub startsAtHome : (full : Bool) → ℕ → List Record → Bool
@@ -43,10 +47,6 @@ module _ (h : ℕ → ℕ) where
 
   unfoldable pub isImage : List (List Record) → Bool
   isImage ps = imageFrom true 0 0 ps
-
-  abbrev pub onBroken : Option ℕ → Verdict → Verdict
-  onBroken (some a) whole = Sick a
-  onBroken none whole = whole
 
   -- the lowest broken page; with none broken, whether the pages are an image, and of how many records
   unfoldable pub surveyed : List ℕ → (cap : ℕ) → Verdict

@@ -13,19 +13,11 @@ use Rattle.pages.specs.declared.Pushed.{Pushed}
 use Rattle.pages.specs.Page.{Record, key, rank, recordsIn, inMemory}
 use Rattle.pages.specs.Slots.{opened, closed, upToBack, recordsOf, pushed}
 use Rattle.pages.specs.Area.{partAt, withPage}
-use Rattle.pages.proofs.Memory.{memory}
-use Rattle.pages.proofs.Read.{held-few}
+use Rattle.pages.proofs.Memory.{page-count, page-records}
+use Rattle.pages.proofs.Read.{held-few, ready}
 use Rattle.pages.proofs.Areas.{with-length, part-other}
 use Rattle.walks.specs.Walks.{writes}
 use Rattle.walks.specs.Plans.{held, firstOf, backed, drawn}
-
--- a page in memory holds the records that it was made of
-page-count : (p : Page) (rs : List Record) → p ≡ inMemory rs → p .count ≡ length rs
-unfolding inMemory
-page-count p rs e = rw e
-
-page-records : (p : Page) (rs : List Record) → p ≡ inMemory rs → recordsOf p ≡ rs
-page-records p rs e = ap recordsOf e ∙ memory rs
 
 -- closing up a slot that holds no record changes nothing
 closed-past : (slot : ℕ) (rs : List Record) → length rs ≤ slot → closed slot rs ≡ rs
@@ -43,22 +35,19 @@ close-past p slot e l = rw (closed-past slot (recordsOf p) (omega (arith, page-c
 abbrev Kept : Page → Type 0
 Kept p = (p .count ≤ 12) × (p ≡ inMemory (recordsOf p))
 
-kept : (p : Page) (rs : List Record) → length rs ≤ 12 → p ≡ inMemory rs → Kept p
-kept p rs n e = (omega (arith, page-count p rs e), e ∙ ap inMemory (sym (page-records p rs e)))
-
 -- as it is read, closed up and filled
 pub read-kept : (p : Page) (l : List ℕ) → p ≡ inMemory (recordsIn l) → Kept p
-read-kept p l e = kept p (recordsIn l) (held-few l) e
+read-kept p l e = ready p (recordsIn l) e (held-few l)
 
 pub shut-kept : (p q : Page) (slot : ℕ) → Kept p → q ≡ inMemory (closed slot (recordsOf p)) → Kept q
 shut-kept p q slot k e =
-    kept q (closed slot (recordsOf p)) (omega (arith, closed-few slot (recordsOf p), page-count p (recordsOf p) (k .1))) e
+    ready q (closed slot (recordsOf p)) e (omega (arith, closed-few slot (recordsOf p), page-count p (recordsOf p) (k .1)))
 
 pub full-kept : (h : ℕ → ℕ) (next shut full : Page) → full ≡ inMemory (backed h (firstOf (recordsOf next)) (recordsOf shut)) → Kept full
 full-kept h next shut full e =
     let y : Record = firstOf (recordsOf next) in
     let s : List Record = recordsOf shut in
-    kept full (backed h y s) (omega (arith, length-take 12 (opened (upToBack (rankIn key h) (rankIn key h y) (0, 0) s (length s)) y s))) e
+    ready full (backed h y s) e (omega (arith, length-take 12 (opened (upToBack (rankIn key h) (rankIn key h y) (0, 0) s (length s)) y s)))
 
 -- a place from the back is one among the records
 back-le : {R : Type 0} (rank : R → ℕ) (r : ℕ) (d : R) (s : List R) (n : ℕ) → upToBack rank r d s n ≤ n

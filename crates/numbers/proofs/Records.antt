@@ -11,7 +11,7 @@ use lib.ListN.{length, take, drop, length-append}
 use lib.Seq.{take-add, drop-drop}
 use Rattle.numbers.specs.Little.{bytesOf, numberAt, written}
 use Rattle.numbers.specs.Fields.{Field, width, encode, matches}
-use Rattle.numbers.proofs.Laws.{Bytes, length-bytes, bytes-number, number-between, written-length, written-nil, written-written}
+use Rattle.numbers.proofs.Laws.{Bytes, bytes-of, bytes-append, length-bytes, bytes-number, number-between, written-length, written-nil, written-written}
 
 -- each number fits its width
 abbrev pub Fit : List Field → Type 0
@@ -28,6 +28,12 @@ pub length-encode : (fs : List Field) → length (encode fs) ≡ width fs
 unfolding encode
 length-encode [] = refl
 length-encode (f ∷ fs) = rw (length-append, length-bytes, length-encode fs)
+
+-- and they are bytes
+pub bytes-encode : (fs : List Field) → Bytes (encode fs)
+unfolding encode
+bytes-encode [] = λ k h. omega arith
+bytes-encode (f ∷ fs) = bytes-append (bytesOf (f .0) (f .1)) (encode fs) (bytes-of (f .0) (f .1)) (bytes-encode fs)
 
 -- the bytes of two lists of fields, one after the other
 pub encode-append : (fs gs : List Field) → encode (fs ++ gs) ≡ encode fs ++ encode gs

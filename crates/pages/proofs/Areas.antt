@@ -9,7 +9,7 @@ use native.Mathlib.Omega.{arith}
 use lib.ListN.{length, take, drop, getD, set, length-append, length-take, length-drop, take-append-drop, drop-of-length-le}
 use lib.Seq.{take-at, drop-at, take-append-le, drop-append-le, take-append-add, drop-append-add, length-take-le, drop-drop}
 use Rattle.numbers.specs.Little.{written}
-use Rattle.numbers.proofs.Laws.{Bytes, bytes-take, bytes-drop, written-length, written-at, written-after}
+use Rattle.numbers.proofs.Laws.{Bytes, bytes-take, bytes-drop, written-length, written-after}
 use Rattle.pages.specs.Page.{Record, pageBytes, readPage}
 use Rattle.pages.specs.Area.{partAt, pagesFrom, heldFrom, areaFrom, withPage}
 use Rattle.pages.proofs.Write.{page-length}
@@ -28,11 +28,6 @@ part-left s t b h =
 module _ (area : List ℕ) (a : ℕ) (p : List Record) (h : 256 * (a + 1) ≤ length area) where
   pub with-length : length (withPage area a p) ≡ length area
   with-length = written-length area (256 * a) (pageBytes a p) (omega (arith, page-length a p))
-
-  -- the page that is written is read
-  pub part-same : partAt (withPage area a p) a ≡ pageBytes a p
-  unfolding partAt
-  part-same = rw page-length at (written-at area (256 * a) (pageBytes a p) (omega arith))
 
   -- and every other page stays
   pub part-other : (b : ℕ) → (a ≡ b → ⊥) → partAt (withPage area a p) b ≡ partAt area b

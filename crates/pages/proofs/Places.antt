@@ -6,15 +6,15 @@ use mathlib.Core.List.{List, [], _∷_}
 use Prim.Native.Nat.{ℕ, zero, suc, _≤_, _<_, min}
 use native.Mathlib.Omega.{arith}
 use lib.Dec.{leb, ltb, leb·suc-suc}
-use lib.ListN.{length, take, getD}
-use borrow.Author.Tests.{leb-true, leb-false, ltb-true, ltb-false, lt-ltb, le-ltb, eq-eqb, ne-eqb}
+use lib.ListN.{length, getD}
+use borrow.Author.Tests.{leb-true, leb-false, ltb-true, ltb-false, lt-ltb, le-ltb}
 use Rattle.placing.specs.Image.{All}
 use Rattle.placing.specs.Lay.{ins}
-use Rattle.placing.specs.Walks.{seek, del, lastAfter}
+use Rattle.placing.specs.Walks.{seek, lastAfter}
 use Rattle.placing.proofs.Lists.{all-map}
 use Rattle.placing.proofs.Order.{Sorted}
-use Rattle.placing.proofs.Seek.{seek-ne, ne-seek}
-use Rattle.pages.specs.Slots.{opened, closed, ahead, upToBack}
+use Rattle.placing.proofs.Seek.{seek-ne}
+use Rattle.pages.specs.Slots.{opened, ahead, upToBack}
 
 all-at : {R : Type 0} (P : R → Type 0) (n : ℕ) (s : List R) (d : R) → n < length s → All P s → P (getD s n d)
 all-at P n [] d l h = absurd (omega arith)
@@ -96,12 +96,3 @@ module _ {R : Type 0} (rank : R → ℕ) where
   -- where r is not found, some do not stand before it exactly where the last stands after it
   pub ahead-all : (r : ℕ) (s : List R) → Sorted rank s → seek rank r s ≡ none → ltb (ahead rank r s) (length s) ≡ lastAfter rank r s
   ahead-all r s h e = ahead-last r s h (seek-ne rank r s e)
-
-  -- the slots closed up over the first at r are those with r taken out
-  pub del-closed : (r i : ℕ) (d : R) (s : List R) → i < length s → seek rank r (take i s) ≡ none → rank (getD s i d) ≡ r → del rank r s ≡ closed i s
-  unfolding closed
-  del-closed r i d [] l e q = absurd (omega arith)
-  del-closed r zero d (y ∷ s) l e q = rw (eq-eqb (rank y) r q)
-  del-closed r (suc i) d (y ∷ s) l e q =
-      let n = seek-ne rank r (y ∷ take i s) e in
-      rw (ne-eqb (rank y) r (n .0), del-closed r i d s (omega arith) (ne-seek rank r (take i s) (n .1)) q)

@@ -7,10 +7,10 @@ use native.Mathlib.Omega.{arith}
 use lib.ListN.{length, drop, getD, replicate}
 use lib.Seq.{drop-drop}
 use borrow.Rule.Slice.PartMut.{putMid}
-use Rattle.numbers.specs.Little.{bytesOf, written}
+use Rattle.numbers.specs.Little.{written}
 use Rattle.numbers.specs.Fields.{Field, width, encode}
-use Rattle.numbers.proofs.Laws.{Bytes, bytes-of, bytes-append, written-nil, written-all, written-written}
-use Rattle.numbers.proofs.Records.{length-encode, encode-append}
+use Rattle.numbers.proofs.Laws.{Bytes, written-nil, written-all, written-written}
+use Rattle.numbers.proofs.Records.{length-encode, encode-append, bytes-encode}
 use Rattle.pages.specs.Page.{Record, key, value, head, slot, slots, fields, pageBytes}
 use Rattle.pages.proofs.Held.{Held}
 
@@ -25,16 +25,10 @@ pub page-length : (address : ℕ) (rs : List Record) → length (pageBytes addre
 unfolding pageBytes
 page-length address rs = length-encode (fields address rs) ∙ omega (arith, slots-width 12 rs)
 
--- the bytes of fields are bytes
-encode-bytes : (fs : List Field) → Bytes (encode fs)
-unfolding encode
-encode-bytes [] = λ k h. absurd (omega arith)
-encode-bytes (f ∷ fs) = bytes-append (bytesOf (f .0) (f .1)) (encode fs) (bytes-of (f .0) (f .1)) (encode-bytes fs)
-
--- so are those of a page
+-- and they are bytes
 pub page-bytes : (address : ℕ) (rs : List Record) → Bytes (pageBytes address rs)
 unfolding pageBytes
-page-bytes address rs = encode-bytes (fields address rs)
+page-bytes address rs = bytes-encode (fields address rs)
 
 -- fields written behind others are written with them
 fields-on : (fs gs : List Field) (l : List ℕ) (at to : ℕ) → at + width fs ≡ to → to ≤ length l

@@ -9,9 +9,9 @@ use native.Mathlib.Omega.{arith}
 use lib.Dec.{eqb}
 use lib.ListN.{length}
 use Rattle.numbers.proofs.Laws.{Bytes}
-use Rattle.placing.specs.Image.{cat, RecordSet, Image}
+use Rattle.placing.specs.Image.{cat, Image}
 use Rattle.placing.proofs.Perms.{perm-length}
-use Rattle.pages.proofs.Areas.{held-length}
+use Rattle.pages.proofs.Areas.{area-pages, held-length}
 use Rattle.pages.specs.Page.{Record, key}
 use Rattle.pages.specs.Area.{pagesFrom, heldFrom}
 use Rattle.survey.specs.declared.Verdict.{Verdict}
@@ -23,22 +23,10 @@ use Rattle.state.specs.declared.Answer.the-variants.{Accepted, NotImage}
 use Rattle.state.specs.State.{inRange, homes}
 use Rattle.register.specs.declared.Gate.the-variants.{Open, Shut}
 use Rattle.register.specs.Gates.{onGate, gateOf, imageOf, imageGate}
+use Rattle.register.specs.OneImage.{AreaImage, ImageOfR}
 use Rattle.register.specs.Calls.{done, checked}
 use Rattle.register.proofs.Gating.{gate-open}
 use Rattle.register.proofs.Judging.{Sound, open-sound, sound-open}
-
--- "An area is the image of a record set when all pages pass the page rules", and the records lie as 01 says
-pub record AreaImage (s : State) (area : List ℕ) (rs : List Record) : Type 0 where
-  pub pages : List (List Record)
-  pub pass : pagesFrom (homes s) area (s .cap) 0 ≡ map some pages
-  pub image : Image key (homes s) 12 (s .cap) rs pages
-
--- "the area is the image of r records"
-pub record ImageOfR (s : State) (area : List ℕ) : Type 0 where
-  pub records : List Record
-  pub set : RecordSet key records
-  pub count : length records ≡ s .r
-  pub is : AreaImage s area records
 
 -- good pages have no broken one among them
 none-lowest : (a : ℕ) (ps : List (List Record)) → lowestBroken a (map some ps) ≡ none
@@ -90,12 +78,13 @@ module _ (s : State) (area : List ℕ) (b : Bytes area) (l : length area ≡ 256
         count = k .count;
         is = record {
           pages = ps;
+          bytes = area-pages (homes s) area (s .cap) ps b l (none-broken (homes s) area (s .cap) 0 (k .whole));
           pass = none-broken (homes s) area (s .cap) 0 (k .whole);
           image = image-test (homes s) ps (s .cap) (held-length area (s .cap) 0) g .0 (k .image);
         };
       }
 
-  image-sound : ImageOfR s area → Sound s area
+  pub image-sound : ImageOfR s area → Sound s area
   image-sound w =
       let ps : List (List Record) = heldFrom area (s .cap) 0 in
       let i : AreaImage s area (w .records) = w .is in

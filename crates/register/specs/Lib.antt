@@ -1,3 +1,4 @@
 pub mod Gates
 pub mod Past
 pub mod Calls
+pub mod OneImage

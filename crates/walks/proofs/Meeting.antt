@@ -131,7 +131,7 @@ module _ (p : Page) (k i : ℕ) where
       rw e
 
 -- a key that no slot holds is not found
-held-seek : (k i : ℕ) (rs : List Record) → heldAt k i rs ≡ none → seek key k rs ≡ none
+pub held-seek : (k i : ℕ) (rs : List Record) → heldAt k i rs ≡ none → seek key k rs ≡ none
 held-seek k i [] e = refl
 held-seek k i (x ∷ rs) e = go (eqb (key x) k) e (held-seek k (suc i) rs)
   where

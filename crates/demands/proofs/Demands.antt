@@ -1,0 +1,175 @@
+-- The demands, proved: of any file after a fresh history (`Fresh`).
+use mathlib.Core.Path.{_≡_, refl, sym, ap, _∙_}
+use mathlib.Core.Logic.{_↔_, _⊎_, ⊎-elim}
+use mathlib.Core.Option.{Option, none, some}
+use mathlib.Core.List.{List, _∷_}
+use Prim.Native.Nat.{ℕ, _<_}
+use native.Mathlib.Decide.{ℕ-discrete, decLt}
+use native.Mathlib.Omega.{arith}
+use lib.ListN.{length}
+use Rattle.placing.specs.Image.{Image, Room}
+use Rattle.placing.proofs.Images.{one-image}
+use Rattle.placing.proofs.Perms.{perm-length}
+use Rattle.placing.proofs.Seek.{clash}
+use Rattle.placing.specs.Rows.{counts}
+use Rattle.pages.specs.Page.{Record, key, homeFor}
+use Rattle.state.specs.State.{homes, grown}
+use Rattle.state.proofs.Ranges.{ranged}
+use Rattle.demands.specs.Histories.{Call, find, put, remove, grow, due, File, Left, left, numbersOf, refusal, Kept, stateOf, commitOf}
+use Rattle.demands.specs.Demands.{Fresh, Tells, Row, Found, Retried, Removed, Sound, TheImage, RoomPut, RoomGrow, Counted, Agree, AfterFresh, Demands}
+use Rattle.demands.proofs.OnImage.{on-clean}
+use Rattle.demands.proofs.Sets.{set-put, same-records}
+use Rattle.demands.proofs.Standing.{Stands, fileOf, find-held, find-absent, remove-absent, remove-held, put-held, put-full, put-new}
+use Rattle.demands.proofs.Unchanged.{total}
+use Rattle.demands.proofs.Steps.{Step, refused, accepted, said, plain-number, room-told, grow-other-row, grow-no-page, grow-no-room, grow-with-room, check-stands, due-stands, step, history}
+
+-- after a fresh history the file is the image of what is kept
+stands : (m : Kept) (f : File) → Fresh m f → (ps : List (List Record)) × ((f ≡ fileOf m ps) × Stands m ps)
+stands m f w = rw (w .keeps, w .leaves) at (history none (w .start) (w .calls) tt (w .fits))
+
+-- 01's numbers of calls that come to the same are the same
+number : {l r : Left} → l ≡ r → numbersOf (l .said) .refusal ≡ numbersOf (r .said) .refusal
+number e = ap (λ (t : Left). numbersOf (t .said) .refusal) e
+
+commit : {l r : Left} → l ≡ r → numbersOf (l .said) .value ≡ numbersOf (r .said) .value
+commit e = ap (λ (t : Left). numbersOf (t .said) .value) e
+
+-- one of two numbers is given, so each exactly in its own case
+either : (n a b : ℕ) {P : Type 0} → (a ≡ b → ⊥) → Dec P → (P → n ≡ b) → ((P → ⊥) → n ≡ a) → ((n ≡ a) ↔ (P → ⊥)) × ((n ≡ b) ↔ P)
+either n a b d (yes p) f g = ((λ e. absurd (d (sym e ∙ f p)), λ q. absurd (q p)), (λ e. p, f))
+either n a b d (no q) f g = ((λ e. q, g), (λ e. absurd (d (sym (g q) ∙ e)), f))
+
+-- a commit that is found is that of the record
+told : {o : Option ℕ} {u v : ℕ} → o ≡ some u → (u ≡ v) ↔ (o ≡ some v)
+told {o} {u} {v} e = (λ q. e ∙ ap some q, λ q. let t : some u ≡ some v = sym e ∙ q in cc)
+
+module _ (m : Kept) (ps : List (List Record)) (s : Stands m ps) where
+  abbrev f : File
+  f = fileOf m ps
+
+  found-stands : Found m f
+  found-stands k l = go (commitOf k (m .held)) refl
+    where
+      go : (o : Option ℕ) → commitOf k (m .held) ≡ o
+          → ((v : ℕ) → Tells f (find k) 0 v ↔ (commitOf k (m .held) ≡ some v)) × ((refusal f (find k) ≡ 5) ↔ (commitOf k (m .held) ≡ none))
+      go (some w) e =
+          let a = find-held s k l w e in
+          let n : refusal f (find k) ≡ 0 = number (a .left) in (
+            (λ v. (λ t. told e .0 (sym (commit (a .left)) ∙ t .1), λ q. (n, commit (a .left) ∙ told e .1 q))),
+            (λ z. absurd (omega arith), λ z. absurd (clash (sym z ∙ e))),
+          )
+      go none e =
+          let n : refusal f (find k) ≡ 5 = number (find-absent s k l e .1) in
+          ((λ v. (λ t. absurd (omega (arith, t .0)), λ q. absurd (clash (sym e ∙ q)))), (λ z. e, λ z. n))
+
+  retried-stands : Retried m f
+  retried-stands k v w l u = go (commitOf k (m .held)) refl
+    where
+      Same : Type 0
+      Same = Tells f (put k v) 6 w ↔ (commitOf k (m .held) ≡ some w)
+
+      other : commitOf k (m .held) ≡ none → (refusal f (put k v) ≡ 6 → ⊥) → Same
+      other e n = (λ t. absurd (n (t .0)), λ q. absurd (clash (sym e ∙ q)))
+
+      room : commitOf k (m .held) ≡ none → Dec (Room key (homes (stateOf m)) 12 (m .cap) ((k, v) ∷ m .held)) → Same
+      room e (yes r) = other e (λ z. omega (arith, number (put-new s k l v e u r .left)))
+      room e (no n) = other e (λ z. omega (arith, number (put-full s k l v e n .1)))
+
+      go : (o : Option ℕ) → commitOf k (m .held) ≡ o → Same
+      go (some c) e =
+          let a = put-held s k l v c e in
+          (λ t. told e .0 (sym (commit (a .1)) ∙ t .1), λ q. (number (a .1), commit (a .1) ∙ told e .1 q))
+      go none e = room e (room-told (homes (stateOf m)) (m .cap) ((k, v) ∷ m .held) (set-put k v (s .set) l e))
+
+  removed-stands : Removed m f
+  removed-stands k l = go (commitOf k (m .held)) refl
+    where
+      Same : Type 0
+      Same = ((refusal f (remove k) ≡ 0) ↔ (commitOf k (m .held) ≡ none → ⊥)) × ((refusal f (remove k) ≡ 5) ↔ (commitOf k (m .held) ≡ none))
+
+      go : (o : Option ℕ) → commitOf k (m .held) ≡ o → Same
+      go (some v) e =
+          let n : refusal f (remove k) ≡ 0 = number (remove-held s k l v e .left) in
+          ((λ z q. clash (sym q ∙ e), λ z. n), (λ z. absurd (omega arith), λ q. absurd (clash (sym q ∙ e))))
+      go none e =
+          let n : refusal f (remove k) ≡ 5 = number (remove-absent s k l e .1) in
+          ((λ z. absurd (omega arith), λ q. absurd (q e)), (λ z. e, λ z. n))
+
+  sound-stands : Sound m f
+  sound-stands = (λ c fits. go c (step s c fits), number (check-stands s .left))
+    where
+      go : (c : Call) → Step m ps c → (refusal f c ≡ 4 → ⊥) × (refusal f c ≡ 9 → ⊥)
+      go c (refused why row p e) =
+          let n = plain-number why p in
+          (λ z. n .1 (sym (number e) ∙ z), λ z. n .2 (sym (number e) ∙ z))
+      go c (accepted new v row k a) = (λ z. omega (arith, number (a .left)), λ z. omega (arith, number (a .left)))
+      go c (said u k e) = (λ z. omega (arith, number e), λ z. omega (arith, number e))
+
+  image-stands : TheImage m f
+  image-stands = record { set = s .set; image = record { pages = ps; bytes = refl; pass = on-clean s .pass; image = s .image } }
+
+  room-put-stands : RoomPut m f
+  room-put-stands k v l u e =
+      either (refusal f (put k v)) 7 0 (λ z. omega arith)
+      (room-told (homes (stateOf m)) (m .cap) ((k, v) ∷ m .held) (set-put k v (s .set) l e))
+      (λ r. number (put-new s k l v e u r .left))
+      (λ n. number (put-full s k l v e n .1))
+
+  room-grow-stands : RoomGrow m f
+  room-grow-stands row low l =
+      either (refusal f (grow row)) 7 0 (λ z. omega arith)
+      (room-told (homes (grown (stateOf m))) (m .cap) (m .held) (s .set))
+      (λ r. number (grow-with-room s row l low r .left))
+      (λ n. number (grow-no-room s row l low n))
+
+  row-stands : Row m f
+  row-stands row q = go (ℕ-discrete (length row) (m .cap)) (decLt (m .p) (m .cap)) (room-told (homes (grown (stateOf m))) (m .cap) (m .held) (s .set))
+    where
+      counted : List ℕ
+      counted = counts (homeFor (homes (grown (stateOf m)))) (m .held) (m .cap) 0
+
+      go : Dec (length row ≡ m .cap) → Dec (m .p < m .cap) → Dec (Room key (homes (grown (stateOf m))) 12 (m .cap) (m .held)) → left f (grow row) .row ≡ counted
+      go (no n) d r = let e = number (grow-other-row s row n) in absurd (⊎-elim (λ z. omega arith) (λ z. omega arith) q)
+      go (yes l) (no n) r =
+          let e = number (grow-no-page s row l (omega (arith, ranged (stateOf m) (s .range) .p-high))) in
+          absurd (⊎-elim (λ z. omega arith) (λ z. omega arith) q)
+      go (yes l) (yes low) (no n) = ap (λ (t : Left). t .row) (grow-no-room s row l low n)
+      go (yes l) (yes low) (yes r) = ap (λ (t : Left). t .row) (grow-with-room s row l low r .left)
+
+  counted-stands : Counted m f
+  counted-stands = record { state = refl; due = ap (λ (t : Left). t .said) (due-stands s) }
+
+-- what holds of every file that stands holds after every fresh history
+after-fresh : (P : Kept → File → Type 0) → ((m : Kept) (ps : List (List Record)) → Stands m ps → P m (fileOf m ps)) → AfterFresh P
+after-fresh P k m g w =
+    let t = stands m g w in
+    rw (t .1 .0) (k m (t .0) (t .1 .1))
+
+-- records in another order stand on the same pages
+same-pages : (a b : Kept) (ps qs : List (List Record)) → Agree a b → Stands a ps → Stands b qs → fileOf a ps ≡ fileOf b qs
+same-pages a b ps qs e s t =
+    let p = same-records (s .set) (t .set) (e .held) in
+    let i : Image key (homes (stateOf a)) 12 (a .cap) (b .held) qs = rw (e .n0, e .n, e .s, e .cap, e .p) (t .image) in
+    rw (one-image key (homes (stateOf a)) 12 (s .set) p (s .image) i, perm-length p, e .n0, e .n, e .s, e .cap, e .p)
+
+same : (a b : Kept) (g h : File) → Fresh a g → Fresh b h → Agree a b → g ≡ h
+same a b g h v w e =
+    let s = stands a g v in
+    let t = stands b h w in
+    s .1 .0 ∙ same-pages a b (s .0) (t .0) e (s .1 .1) (t .1 .1) ∙ sym (t .1 .0)
+
+pub demands : Demands
+demands =
+    record {
+      total = total;
+      row = after-fresh Row row-stands;
+      found = after-fresh Found found-stands;
+      retried = after-fresh Retried retried-stands;
+      removed = after-fresh Removed removed-stands;
+      sound = after-fresh Sound sound-stands;
+      image = after-fresh TheImage image-stands;
+      same = same;
+      room-put = after-fresh RoomPut room-put-stands;
+      room-grow = after-fresh RoomGrow room-grow-stands;
+      counted = after-fresh Counted counted-stands;
+    }

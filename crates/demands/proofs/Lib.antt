@@ -1,0 +1,16 @@
+pub mod Clean
+pub mod OnImage
+pub mod Stops
+pub mod Went
+pub mod FindWalk
+pub mod PutWalk
+pub mod RemoveWalk
+pub mod GrownImage
+pub mod Sets
+pub mod Standing
+pub mod Unchanged
+pub mod Answers
+pub mod Fresh
+pub mod Steps
+pub mod Demands
+pub mod Session

@@ -1,0 +1,44 @@
+-- A file that is the image of its records.
+use mathlib.Core.Path.{_≡_, ap, _∙_}
+use mathlib.Core.Bool.{true}
+use mathlib.Core.List.{List}
+use Prim.Native.Nat.{ℕ, _*_, _^_, _≤_, _<_}
+use native.Mathlib.Omega.{arith}
+use lib.ListN.{length}
+use Rattle.homes.proofs.Homes.{home-below}
+use Rattle.placing.specs.Image.{All, RecordSet, Image}
+use Rattle.pages.specs.Page.{Record, key, value}
+use Rattle.pages.specs.Area.{areaFrom}
+use Rattle.pages.proofs.Areas.{area-length}
+use Rattle.state.specs.declared.State.{State}
+use Rattle.state.specs.State.{inRange, homes}
+use Rattle.state.proofs.Ranges.{ranged, in-shape}
+use Rattle.register.specs.declared.Gate.the-variants.{Open}
+use Rattle.register.specs.Gates.{gateOf}
+use Rattle.register.proofs.Gating.{gate-open}
+use Rattle.demands.proofs.Clean.{Clean, image-clean}
+
+-- a state in range, and pages that are the image of as many records as it tells
+pub record OnImage (s : State) (rs : List Record) (ps : List (List Record)) : Type 0 where
+  pub range : inRange s ≡ true
+  pub set : RecordSet key rs
+  pub values : All (λ x. value x < 2 ^ 64) rs
+  pub count : length rs ≡ s .r
+  pub image : Image key (homes s) 12 (s .cap) rs ps
+
+module _ {s : State} {rs : List Record} {ps : List (List Record)} (w : OnImage s rs ps) where
+  -- its pages are read back
+  pub on-clean : Clean (homes s) (s .cap) ps
+  on-clean = image-clean (ranged s (w .range) .cap-high) (w .set) (w .values) (w .image)
+
+  -- as many as are lent
+  pub on-length : length (areaFrom 0 ps) ≡ 256 * s .cap
+  on-length = area-length 0 ps ∙ ap (λ (n : ℕ). 256 * n) (on-clean .many)
+
+  -- so no call refuses it before it looks at a page
+  pub on-gate : Open ≡ gateOf s (length (areaFrom 0 ps))
+  on-gate = gate-open s (length (areaFrom 0 ps)) (w .range) on-length
+
+  -- and a home is one of its pages
+  pub home-low : (k : ℕ) → homes s k ≤ s .cap
+  home-low k = omega (arith, home-below (s .n0) (s .n) (s .s) (s .p) k (in-shape s (w .range)), ranged s (w .range) .p-high)

@@ -1,0 +1,41 @@
+-- A history with every call in it, from bytes that are no file: so the demands speak of something.
+use mathlib.Core.Path.{refl}
+use mathlib.Core.List.{List, [], _∷_}
+use native.Mathlib.Omega.{arith}
+use lib.ListN.{replicate}
+use Rattle.numbers.specs.Little.{little, bytesOf, numberAt, written}
+use Rattle.numbers.specs.Fields.{encode}
+use Rattle.homes.specs.Homes.{draw, mover, swept, moved, nextGroups, steps, home}
+use Rattle.pages.specs.Page.{pageBytes, recordsIn, wellFormed, readPage}
+use Rattle.pages.specs.Slots.{closed}
+use Rattle.pages.specs.Area.{partAt}
+use Rattle.state.specs.State.{all, inRange}
+use Rattle.walks.specs.Walks.{walk, putWalk, removeWalk}
+use Rattle.survey.specs.Survey.{isImage, surveyed}
+use Rattle.rebuild.specs.Rebuild.{relaid}
+use Rattle.register.specs.Gates.{gateOf, imageGate, growGate}
+use Rattle.register.specs.Calls.{grownFile}
+use Rattle.demands.specs.Histories.{Call, format, find, put, remove, grow, check, due, File, left, after, Kept, without, commitOf, kept}
+use Rattle.demands.specs.Demands.{Fresh}
+
+abbrev start : File
+start = record { state = record { n0 = 0; n = 0; s = 0; p = 0; cap = 0; r = 0 }; area = replicate 512 255 }
+
+-- 01's whole session first; then a record more, a removal and one page more
+abbrev calls : List Call
+calls = format 1 1 1 2 ∷ put 5 9 ∷ find 5 ∷ put 7 1 ∷ remove 5 ∷ grow (0 ∷ 0 ∷ []) ∷ check ∷ due ∷ []
+
+-- it keeps one record, on two pages
+abbrev outcome : Kept
+outcome = record { n0 = 1; n = 1; s = 1; cap = 2; p = 2; held = (7, 1) ∷ [] }
+
+pub session : Fresh outcome (after start calls)
+unfolding draw mover swept moved nextGroups steps home little bytesOf numberAt written encode pageBytes recordsIn wellFormed readPage partAt closed all inRange walk putWalk removeWalk isImage surveyed gateOf imageGate growGate relaid grownFile left after without kept
+session =
+    record {
+      start = start;
+      calls = calls;
+      fits = (tt, ((omega arith, omega arith), (omega arith, ((omega arith, omega arith), (omega arith, (tt, (tt, (tt, tt))))))));
+      keeps = refl;
+      leaves = refl;
+    }

@@ -1,0 +1,210 @@
+-- What any call comes to on a file that stands, and so what every file after a fresh history is.
+use mathlib.Core.Path.{_≡_, refl}
+use mathlib.Core.Bool.{Bool, true, false, cond}
+use mathlib.Core.Option.{Option, none, some}
+use mathlib.Core.List.{List, [], _∷_}
+use Prim.Native.Nat.{ℕ, _+_, _*_, _^_, _<_}
+use native.Mathlib.Decide.{ℕ-discrete, decLt}
+use native.Mathlib.Omega.{arith}
+use lib.Dec.{ltb, eqb}
+use lib.ListN.{length, replicate}
+use borrow.Author.Tests.{ne-eqb}
+use Rattle.placing.specs.Image.{All, RecordSet, Room}
+use Rattle.placing.specs.Lay.{taken}
+use Rattle.placing.proofs.Images.{room-taken}
+use Rattle.pages.specs.Page.{Record, key, homeFor}
+use Rattle.pages.specs.Area.{areaFrom}
+use Rattle.state.specs.declared.Answer.{Answer}
+use Rattle.state.specs.declared.Answer.the-variants.{Accepted, OutOfRange, WrongArea, WrongRow, Broken, Absent, Held, NoRoom, AtCap, NotImage}
+use Rattle.state.specs.State.{homes, grown}
+use Rattle.state.specs.Answer.{numbers}
+use Rattle.state.proofs.Ranges.{ranged, grown-range}
+use Rattle.register.specs.Calls.{done, Growth, grew}
+use Rattle.demands.specs.Histories.{Call, format, find, put, remove, grow, check, due, Fits, File, says, Left, leaves, grewTo, left, after, numbersOf, refusal, Kept, stateOf, without, commitOf, keeps, kept}
+use Rattle.demands.proofs.GrownImage.{grownPages, grownRow, accepts, refuses, check-yes, grow-refused-row, grow-at-cap, grow-room, grow-full, grown-image}
+use Rattle.demands.proofs.Standing.{holding, Stands, fileOf, Refused, Accepts, find-held, find-absent, remove-absent, remove-held, put-held, put-full, put-new}
+use Rattle.demands.proofs.Sets.{set-put}
+use Rattle.demands.proofs.Fresh.{Begins, asked, began, outside, elsewhere, format-begins}
+
+-- with one page more
+abbrev pub paged : Kept → Kept
+paged m = record { n0 = m .n0; n = m .n; s = m .s; cap = m .cap; p = m .p + 1; held = m .held }
+
+-- the refusals that a file which stands can meet: all but 4 and 9
+abbrev pub Plain : Answer → Type 0
+Plain (Accepted value read moved) = ⊥
+Plain OutOfRange = Unit {0}
+Plain WrongArea = Unit {0}
+Plain WrongRow = Unit {0}
+Plain (Broken page read) = ⊥
+Plain (Absent read) = Unit {0}
+Plain (Held value read) = Unit {0}
+Plain (NoRoom read) = Unit {0}
+Plain AtCap = Unit {0}
+Plain (NotImage read) = ⊥
+
+pub plain-number : (why : Answer) → Plain why → (numbers why .refusal ≡ 0 → ⊥) × (numbers why .refusal ≡ 4 → ⊥) × (numbers why .refusal ≡ 9 → ⊥)
+plain-number (Accepted value read moved) p = absurd p
+plain-number OutOfRange p = (λ e. omega arith, λ e. omega arith, λ e. omega arith)
+plain-number WrongArea p = (λ e. omega arith, λ e. omega arith, λ e. omega arith)
+plain-number WrongRow p = (λ e. omega arith, λ e. omega arith, λ e. omega arith)
+plain-number (Broken page read) p = absurd p
+plain-number (Absent read) p = (λ e. omega arith, λ e. omega arith, λ e. omega arith)
+plain-number (Held value read) p = (λ e. omega arith, λ e. omega arith, λ e. omega arith)
+plain-number (NoRoom read) p = (λ e. omega arith, λ e. omega arith, λ e. omega arith)
+plain-number AtCap p = (λ e. omega arith, λ e. omega arith, λ e. omega arith)
+plain-number (NotImage read) p = absurd p
+
+-- what a call comes to on a file that stands
+pub data Step (m : Kept) (ps : List (List Record)) (c : Call) : Type 0 where
+  refused : (why : Answer) (row : List ℕ) → Plain why → Refused m ps c why row → Step m ps c
+  accepted : (new : Kept) (v : ℕ) (row : List ℕ) → keeps (some m) c ≡ some new → Accepts m new ps c v row → Step m ps c
+  said : (u : Bool) → keeps (some m) c ≡ some m → left (fileOf m ps) c ≡ record { said = says u; file = fileOf m ps; row = [] } → Step m ps c
+
+-- whether there is room can be told
+pub room-told : (h : ℕ → ℕ) (n : ℕ) (rs : List Record) → RecordSet key rs → Dec (Room key h 12 n rs)
+room-told h n rs f = go (ℕ-discrete (taken (homeFor h) 12 rs n) (length rs))
+  where
+    go : Dec (taken (homeFor h) 12 rs n ≡ length rs) → Dec (Room key h 12 n rs)
+    go (yes e) = yes (room-taken key h 12 n rs f .1 e)
+    go (no e) = no (λ r. e (room-taken key h 12 n rs f .0 r))
+
+module _ {m : Kept} {ps : List (List Record)} (s : Stands m ps) where
+  grow-leaves : (row : List ℕ) (g : Growth) → grew (stateOf m) (areaFrom 0 ps) row ≡ g → left (fileOf m ps) (grow row) ≡ grewTo g
+  unfolding left
+  grow-leaves row g e = rw e
+
+  -- a row of another length, and no page to grow to
+  pub grow-other-row : (row : List ℕ) → (length row ≡ m .cap → ⊥) → Refused m ps (grow row) WrongRow row
+  grow-other-row row f = grow-leaves row (refuses (stateOf m) ps row WrongRow) (grow-refused-row s row f)
+
+  pub grow-no-page : (row : List ℕ) → length row ≡ m .cap → m .p ≡ m .cap → Refused m ps (grow row) AtCap row
+  grow-no-page row l e = grow-leaves row (refuses (stateOf m) ps row AtCap) (grow-at-cap s row l e)
+
+  module _ (row : List ℕ) (l : length row ≡ m .cap) (low : m .p < m .cap) where
+    pub grow-no-room : (Room key (homes (grown (stateOf m))) 12 (m .cap) (m .held) → ⊥) → Refused m ps (grow row) (NoRoom (m .cap)) (grownRow (stateOf m) (m .held))
+    grow-no-room f = grow-leaves row (refuses (stateOf m) ps (grownRow (stateOf m) (m .held)) (NoRoom (m .cap))) (grow-full s row l low f)
+
+    pub grow-with-room : Room key (homes (grown (stateOf m))) 12 (m .cap) (m .held) → Accepts m (paged m) ps (grow row) 0 (grownRow (stateOf m) (m .held))
+    grow-with-room r =
+        record {
+          read = m .cap;
+          moved = _;
+          pages = grownPages (stateOf m) ps;
+          left = grow-leaves row (accepts (stateOf m) (m .held) ps) (grow-room s row l low r);
+          stands = record { range = grown-range (stateOf m) (s .range) low; set = s .set; values = s .values; count = refl; image = grown-image s r };
+        }
+
+  pub check-stands : Accepts m m ps check 0 []
+  unfolding left
+  check-stands = record { read = m .cap; moved = 0; pages = ps; left = rw (check-yes s); stands = s }
+
+  -- due asks for the load alone
+  pub due-stands : left (fileOf m ps) due ≡ record { said = says (ltb (48 * m .p) (5 * length (m .held))); file = fileOf m ps; row = [] }
+  unfolding left
+  due-stands = rw (s .range)
+
+  grow-step : (row : List ℕ) → Step m ps (grow row)
+  grow-step row = go (ℕ-discrete (length row) (m .cap)) (decLt (m .p) (m .cap)) (room-told (homes (grown (stateOf m))) (m .cap) (m .held) (s .set))
+    where
+      go : Dec (length row ≡ m .cap) → Dec (m .p < m .cap) → Dec (Room key (homes (grown (stateOf m))) 12 (m .cap) (m .held)) → Step m ps (grow row)
+      go (no f) d r = refused WrongRow row tt (grow-other-row row f)
+      go (yes l) (no f) r = refused AtCap row tt (grow-no-page row l (omega (arith, ranged (stateOf m) (s .range) .p-high)))
+      go (yes l) (yes low) (no f) = refused (NoRoom (m .cap)) (grownRow (stateOf m) (m .held)) tt (grow-no-room row l low f)
+      go (yes l) (yes low) (yes r) = accepted (paged m) 0 (grownRow (stateOf m) (m .held)) refl (grow-with-room row l low r)
+
+  find-step : (k : ℕ) → k < 2 ^ 64 → Step m ps (find k)
+  find-step k l = go (commitOf k (m .held)) refl
+    where
+      go : (o : Option ℕ) → commitOf k (m .held) ≡ o → Step m ps (find k)
+      go (some v) e = accepted m v [] refl (find-held s k l v e)
+      go none e = let w = find-absent s k l e in refused (Absent (w .0)) [] tt (w .1)
+
+  remove-step : (k : ℕ) → k < 2 ^ 64 → Step m ps (remove k)
+  remove-step k l = go (commitOf k (m .held)) refl
+    where
+      go : (o : Option ℕ) → commitOf k (m .held) ≡ o → Step m ps (remove k)
+      go (some v) e = accepted (holding m (without k (m .held))) 0 [] refl (remove-held s k l v e)
+      go none e = let w = remove-absent s k l e in refused (Absent (w .0)) [] tt (w .1)
+
+  put-step : (k v : ℕ) → k < 2 ^ 64 → v < 2 ^ 64 → Step m ps (put k v)
+  put-step k v l u = go (commitOf k (m .held)) refl
+    where
+      room : commitOf k (m .held) ≡ none → Dec (Room key (homes (stateOf m)) 12 (m .cap) ((k, v) ∷ m .held)) → Step m ps (put k v)
+      room e (yes r) = accepted (holding m ((k, v) ∷ m .held)) 0 [] refl (put-new s k l v e u r)
+      room e (no f) = let w = put-full s k l v e f in refused (NoRoom (w .0)) [] tt (w .1)
+
+      go : (o : Option ℕ) → commitOf k (m .held) ≡ o → Step m ps (put k v)
+      go (some w) e = let t = put-held s k l v w e in refused (Held w (t .0)) [] tt (t .1)
+      go none e = room e (room-told (homes (stateOf m)) (m .cap) ((k, v) ∷ m .held) (set-put k v (s .set) l e))
+
+  format-step : (n0 N q cap : ℕ) → Step m ps (format n0 N q cap)
+  format-step n0 N q cap = go (format-begins (fileOf m ps) n0 N q cap)
+    where
+      go : Begins (fileOf m ps) n0 N q cap (left (fileOf m ps) (format n0 N q cap)) → Step m ps (format n0 N q cap)
+      go (began e t) = accepted (asked n0 N q cap) 0 [] refl (record { read = 0; moved = 0; pages = replicate cap []; left = e; stands = t })
+      go (outside e) = refused OutOfRange [] tt e
+      go (elsewhere e) = refused WrongArea [] tt e
+
+  -- any call
+  pub step : (c : Call) → Fits c → Step m ps c
+  step (format n0 N q cap) f = format-step n0 N q cap
+  step (find k) f = find-step k f
+  step (put k v) f = put-step k v (f .0) (f .1)
+  step (remove k) f = remove-step k f
+  step (grow row) f = grow-step row
+  step check f = accepted m 0 [] refl check-stands
+  step due f = said (ltb (48 * m .p) (5 * length (m .held))) refl due-stands
+
+-- what is kept is what stands
+abbrev pub Known : Option Kept → File → Type 0
+Known none f = Unit {0}
+Known (some m) f = (ps : List (List Record)) × ((f ≡ fileOf m ps) × Stands m ps)
+
+-- nothing known stays so
+still : (l : Left) → Known (cond (eqb (numbersOf (l .said) .refusal) 0) none none) (l .file)
+still l = go (eqb (numbersOf (l .said) .refusal) 0)
+  where
+    go : (u : Bool) → Known (cond u none none) (l .file)
+    go true = tt
+    go false = tt
+
+-- after a call that comes to l
+abbrev Next : Option Kept → Call → Left → Type 0
+Next o c l = Known (cond (eqb (numbersOf (l .said) .refusal) 0) (keeps o c) o) (l .file)
+
+step-next : (m : Kept) (ps : List (List Record)) → Stands m ps → (c : Call) → Step m ps c → Next (some m) c (left (fileOf m ps) c)
+step-next m ps s c (refused why row p e) =
+    let t : Next (some m) c (leaves (done (stateOf m) why) (areaFrom 0 ps) row) = rw (ne-eqb (numbers why .refusal) 0 (plain-number why p .0)) (ps, (refl, s)) in
+    rw e t
+step-next m ps s c (accepted new v row k a) =
+    let t : Next (some m) c (leaves (done (stateOf new) (Accepted v (a .read) (a .moved))) (areaFrom 0 (a .pages)) row) = rw k (a .pages, (refl, a .stands)) in
+    rw (a .left) t
+step-next m ps s c (said u k e) =
+    let t : Next (some m) c (record { said = says u; file = fileOf m ps; row = [] }) = rw k (ps, (refl, s)) in
+    rw e t
+
+-- before a format is accepted nothing is known, and no other call makes anything known
+none-next : (f : File) (c : Call) → Next none c (left f c)
+none-next f (format n0 N s cap) = go (left f (format n0 N s cap)) (format-begins f n0 N s cap)
+  where
+    go : (l : Left) → Begins f n0 N s cap l → Next none (format n0 N s cap) l
+    go l (began e t) = rw e (replicate cap [], (refl, t))
+    go l (outside e) = rw e tt
+    go l (elsewhere e) = rw e tt
+none-next f (find k) = still (left f (find k))
+none-next f (put k v) = still (left f (put k v))
+none-next f (remove k) = still (left f (remove k))
+none-next f (grow row) = still (left f (grow row))
+none-next f check = still (left f check)
+none-next f due = still (left f due)
+
+-- so what a history keeps stands after it
+pub history : (o : Option Kept) (f : File) (cs : List Call) → Known o f → All Fits cs → Known (kept o f cs) (after f cs)
+unfolding kept after
+history o f [] k w = k
+history o f (c ∷ cs) k w = history _ _ cs (next o k) (w .1)
+  where
+    next : (o : Option Kept) → Known o f → Next o c (left f c)
+    next none k = none-next f c
+    next (some m) k = rw (k .1 .0) (step-next m (k .0) (k .1 .1) c (step (k .1 .1) c (w .0)))

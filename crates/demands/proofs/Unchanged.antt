@@ -1,0 +1,99 @@
+-- A refusal leaves the file, and all but 7 the row: on any bytes.
+use mathlib.Core.Path.{_≡_, refl}
+use mathlib.Core.Bool.{Bool, true, false, cond}
+use mathlib.Core.List.{List, []}
+use Prim.Native.Nat.{ℕ, _*_}
+use lib.Dec.{eqb}
+use lib.ListN.{length, replicate}
+use Rattle.placing.specs.Image.{cat}
+use Rattle.placing.specs.Lay.{taken}
+use Rattle.placing.specs.Rows.{counts, strayed}
+use Rattle.pages.specs.Page.{Record, key, homeFor}
+use Rattle.pages.specs.Area.{heldFrom, areaFrom}
+use Rattle.rebuild.specs.Rebuild.{relaid}
+use Rattle.state.specs.declared.State.{State}
+use Rattle.state.specs.declared.Answer.{Answer}
+use Rattle.state.specs.declared.Answer.the-variants.{Accepted, NoRoom}
+use Rattle.state.specs.State.{homes, fresh, oneMore, oneLess, grown}
+use Rattle.walks.specs.Walks.{Walked, went, stopped, walk, findAnswer, putWalk, removeWalk}
+use Rattle.register.specs.declared.Gate.{Gate}
+use Rattle.register.specs.declared.Gate.the-variants.{Open, Shut}
+use Rattle.register.specs.Gates.{onGate, gateOf, imageGate, growGate}
+use Rattle.register.specs.Calls.{done, Outcome, refused, settled, putOpen, removeOpen, grownFile}
+use Rattle.demands.specs.Histories.{format, find, put, remove, grow, check, due, File, Left, wrote, grewTo, leaves, left, numbersOf, refusal}
+use Rattle.demands.specs.Demands.{Total}
+
+-- the number of what was left
+abbrev number : Left → ℕ
+number l = numbersOf (l .said) .refusal
+
+-- a call leaves the file f unless it is accepted, and of the row what it was lent unless there was no room
+abbrev Leaves : File → Left → List ℕ → Type 0
+Leaves f l row = (number l ≡ 0 → ⊥) → (l .file ≡ f) × ((number l ≡ 7 → ⊥) → l .row ≡ row)
+
+module _ (f : File) where
+  -- past a gate, or not
+  gated : (g : Gate) (o : Outcome) → Leaves f (wrote o) [] → Leaves f (wrote (onGate g (refused (f .state) (f .area)) o)) []
+  gated Open o k = k
+  gated (Shut why) o k = λ n. (refl, λ s. refl)
+
+  looks : (g : Gate) (a : Answer) → Leaves f (leaves (onGate g (done (f .state)) (done (f .state) a)) (f .area) []) []
+  looks Open a = λ n. (refl, λ s. refl)
+  looks (Shut why) a = λ n. (refl, λ s. refl)
+
+  walked : (next : State) (wrong : Bool) (w : Walked) → Leaves f (wrote (settled (f .state) (f .area) next wrong w)) []
+  walked next wrong (stopped why) = λ n. (refl, λ s. refl)
+  walked next true (went pages read moved) = λ n. (refl, λ s. refl)
+  walked next false (went pages read moved) = λ n. absurd (n refl)
+
+  rebuilt : (g : Gate) (row : List ℕ) → Leaves f (grewTo (onGate g (λ why. record { done = done (f .state) why; area = f .area; row = row }) (grownFile (f .state) (f .area)))) row
+  unfolding grownFile
+  rebuilt (Shut why) row = λ n. (refl, λ s. refl)
+  rebuilt Open row = fits (eqb (taken (homeFor h) 12 held (s .cap)) (length held))
+    where
+      s : State
+      s = f .state
+
+      h : ℕ → ℕ
+      h = homes (grown s)
+
+      old : List (List Record)
+      old = heldFrom (f .area) (s .cap) 0
+
+      held : List Record
+      held = cat old []
+
+      new : List (List Record)
+      new = relaid h (s .cap) old
+
+      counted : List ℕ
+      counted = counts (homeFor h) held (s .cap) 0
+
+      fits : (u : Bool) → Leaves f (grewTo (cond u (record { done = done (grown s) (Accepted 0 (s .cap) (strayed key old new)); area = areaFrom 0 new; row = counted }) (record { done = done s (NoRoom (s .cap)); area = f .area; row = counted }))) row
+      fits true = λ n. absurd (n refl)
+      fits false = λ n. (refl, λ t. absurd (t refl))
+
+pub total : (f : File) → Total f
+unfolding left
+total f (format n0 N s cap) = formats (gateOf (fresh n0 N s cap) (length (f .area)))
+  where
+    new : Outcome
+    new = record { done = done (fresh n0 N s cap) (Accepted 0 0 0); area = areaFrom 0 (replicate cap []) }
+
+    formats : (g : Gate) → Leaves f (wrote (onGate g (refused (f .state) (f .area)) new)) []
+    formats g = gated f g new (λ n. absurd (n refl))
+total f (find k) = looks f (gateOf (f .state) (length (f .area))) (findAnswer (walk (homes (f .state)) (f .area) (f .state .cap) k))
+total f (put k v) =
+    let s = f .state in
+    gated f (gateOf s (length (f .area))) (putOpen s (f .area) (k, v))
+    (walked f (oneMore s) (eqb (s .r) (12 * s .cap)) (putWalk (homes s) (f .area) (s .cap) (k, v)))
+total f (remove k) =
+    let s = f .state in
+    gated f (gateOf s (length (f .area))) (removeOpen s (f .area) k) (walked f (oneLess s) (eqb (s .r) 0) (removeWalk (homes s) (f .area) (s .cap) k))
+total f (grow row) = rebuilt f (growGate (f .state) (f .area) (length row)) row
+total f check = checks (gateOf (f .state) (length (f .area))) (imageGate (f .state) (f .area))
+  where
+    checks : (g i : Gate) → Leaves f (leaves (onGate g (done (f .state)) (onGate i (done (f .state)) (done (f .state) (Accepted 0 (f .state .cap) 0)))) (f .area) []) []
+    checks Open i = looks f i (Accepted 0 (f .state .cap) 0)
+    checks (Shut why) i = λ n. (refl, λ s. refl)
+total f due = λ n. absurd (n refl)

@@ -1,0 +1,40 @@
+-- What it is for a walk to have gone well: it writes these pages.
+use mathlib.Core.Path.{_≡_, refl, ap, _∙_}
+use mathlib.Core.List.{List, [], _∷_, _++_}
+use Prim.Native.Nat.{ℕ}
+use native.Mathlib.Omega.{arith}
+use lib.ListN.{length, length-append}
+use lib.Seq.{set-at}
+use Rattle.pages.specs.Page.{Record}
+use Rattle.pages.specs.Area.{areaFrom, withPage}
+use Rattle.pages.proofs.Areas.{with-area}
+use Rattle.walks.specs.Walks.{Pages, Walked, went, wrote, writes}
+
+-- the walk makes of the pages ps the pages qs
+pub record Went (ps qs : List (List Record)) (w : Walked) : Type 0 where
+  pub pages : Pages
+  pub read : ℕ
+  pub moved : ℕ
+  pub goes : w ≡ went pages read moved
+  pub leaves : writes (areaFrom 0 ps) pages ≡ areaFrom 0 qs
+
+module _ (front : List (List Record)) (a : ℕ) (at : length front ≡ a) (was p : List Record) (qs : List (List Record)) where
+  -- a page written is another page there
+  page-written : withPage (areaFrom 0 (front ++ (was ∷ qs))) a p ≡ areaFrom 0 (front ++ (p ∷ qs))
+  page-written =
+      with-area a (front ++ (was ∷ qs)) p (omega (arith, length-append front (was ∷ qs))) ∙ ap (areaFrom 0) (set-at front was qs p a at)
+
+  -- so is the first of the pages that a walk writes
+  pub wrote-went : {new : List (List Record)} {w : Walked} → Went (front ++ (p ∷ qs)) new w → Went (front ++ (was ∷ qs)) new (wrote a p w)
+  wrote-went t =
+      record {
+        pages = (a, p) ∷ t .pages;
+        read = t .read;
+        moved = t .moved;
+        goes = ap (wrote a p) (t .goes);
+        leaves = rw page-written (t .leaves);
+      }
+
+  -- and the only one
+  pub one-went : (n m : ℕ) → Went (front ++ (was ∷ qs)) (front ++ (p ∷ qs)) (went ((a, p) ∷ []) n m)
+  one-went n m = record { pages = (a, p) ∷ []; read = n; moved = m; goes = refl; leaves = page-written }

@@ -14,7 +14,7 @@ use Rattle.state.specs.State.{inRange, homes, fresh}
 use Rattle.register.specs.declared.Gate.the-variants.{Open, Shut}
 use Rattle.register.specs.Gates.{onGate, gateOf}
 use Rattle.register.specs.Calls.{done, refused}
-use Rattle.demands.specs.Histories.{format, File, Left, leaves, wrote, left, Kept, stateOf}
+use Rattle.demands.specs.Histories.{begun, format, File, Left, leaves, wrote, left, stateOf}
 use Rattle.demands.proofs.Standing.{Stands}
 
 -- n empty pages hold nothing
@@ -41,16 +41,12 @@ blank-image h n =
       rising = rw (blank-cat n) tt;
     }
 
--- what a format asks for, with nothing held
-abbrev pub asked : (n0 N s cap : ℕ) → Kept
-asked n0 N s cap = record { n0 = n0; n = N; s = s; cap = cap; p = n0 * N; held = [] }
-
-blank-stands : (n0 N s cap : ℕ) → inRange (fresh n0 N s cap) ≡ true → Stands (asked n0 N s cap) (replicate cap [])
+blank-stands : (n0 N s cap : ℕ) → inRange (fresh n0 N s cap) ≡ true → Stands (begun n0 N s cap) (replicate cap [])
 blank-stands n0 N s cap r = record { range = r; set = record { keys = tt; once = tt }; values = tt; count = refl; image = blank-image (homes (fresh n0 N s cap)) cap }
 
 -- what a format comes to: it begins a file that stands, or is refused with 1 or 2
 pub data Begins (f : File) (n0 N s cap : ℕ) (l : Left) : Type 0 where
-  began : l ≡ leaves (done (stateOf (asked n0 N s cap)) (Accepted 0 0 0)) (areaFrom 0 (replicate cap [])) [] → Stands (asked n0 N s cap) (replicate cap []) → Begins f n0 N s cap l
+  began : l ≡ leaves (done (stateOf (begun n0 N s cap)) (Accepted 0 0 0)) (areaFrom 0 (replicate cap [])) [] → Stands (begun n0 N s cap) (replicate cap []) → Begins f n0 N s cap l
   outside : l ≡ leaves (done (f .state) OutOfRange) (f .area) [] → Begins f n0 N s cap l
   elsewhere : l ≡ leaves (done (f .state) WrongArea) (f .area) [] → Begins f n0 N s cap l
 

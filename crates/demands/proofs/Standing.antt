@@ -19,17 +19,13 @@ use Rattle.state.specs.State.{homes}
 use Rattle.state.proofs.Ranges.{more-range, less-range}
 use Rattle.walks.specs.Walks.{stopped, walk, findAnswer, putWalk, removeWalk}
 use Rattle.register.specs.Calls.{done}
-use Rattle.demands.specs.Histories.{Call, find, put, remove, File, leaves, left, Kept, stateOf, commitOf, without}
+use Rattle.demands.specs.Histories.{holding, Call, find, put, remove, File, leaves, left, Kept, stateOf, commitOf, without}
 use Rattle.demands.proofs.OnImage.{OnImage, on-clean, on-gate, home-low}
 use Rattle.demands.proofs.Went.{Went}
 use Rattle.demands.proofs.FindWalk.{FindGoes, find-clean}
 use Rattle.demands.proofs.PutWalk.{Poured, PutGoes, put-clean}
 use Rattle.demands.proofs.RemoveWalk.{RemoveGoes, remove-clean}
 use Rattle.demands.proofs.Sets.{seek-some, seek-none, without-del, all-without, set-without, set-put, without-length, room-few}
-
--- with other records
-abbrev pub holding : Kept → List Record → Kept
-holding m rs = record { n0 = m .n0; n = m .n; s = m .s; cap = m .cap; p = m .p; held = rs }
 
 -- the pages are the image of what is kept
 abbrev pub Stands : Kept → List (List Record) → Type 0

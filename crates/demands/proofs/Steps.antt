@@ -3,7 +3,7 @@ use mathlib.Core.Path.{_≡_, refl}
 use mathlib.Core.Bool.{Bool, true, false, cond}
 use mathlib.Core.Option.{Option, none, some}
 use mathlib.Core.List.{List, [], _∷_}
-use Prim.Native.Nat.{ℕ, _+_, _*_, _^_, _<_}
+use Prim.Native.Nat.{ℕ, _*_, _^_, _<_}
 use native.Mathlib.Decide.{ℕ-discrete, decLt}
 use native.Mathlib.Omega.{arith}
 use lib.Dec.{ltb, eqb}
@@ -20,15 +20,11 @@ use Rattle.state.specs.State.{homes, grown}
 use Rattle.state.specs.Answer.{numbers}
 use Rattle.state.proofs.Ranges.{ranged, grown-range}
 use Rattle.register.specs.Calls.{done, Growth, grew}
-use Rattle.demands.specs.Histories.{Call, format, find, put, remove, grow, check, due, Fits, File, says, Left, leaves, grewTo, left, after, numbersOf, refusal, Kept, stateOf, without, commitOf, keeps, kept}
+use Rattle.demands.specs.Histories.{begun, holding, paged, Call, format, find, put, remove, grow, check, due, Fits, File, says, Left, leaves, grewTo, left, after, numbersOf, refusal, Kept, stateOf, without, commitOf, keeps, kept}
 use Rattle.demands.proofs.GrownImage.{grownPages, grownRow, accepts, refuses, check-yes, grow-refused-row, grow-at-cap, grow-room, grow-full, grown-image}
-use Rattle.demands.proofs.Standing.{holding, Stands, fileOf, Refused, Accepts, find-held, find-absent, remove-absent, remove-held, put-held, put-full, put-new}
+use Rattle.demands.proofs.Standing.{Stands, fileOf, Refused, Accepts, find-held, find-absent, remove-absent, remove-held, put-held, put-full, put-new}
 use Rattle.demands.proofs.Sets.{set-put}
-use Rattle.demands.proofs.Fresh.{Begins, asked, began, outside, elsewhere, format-begins}
-
--- with one page more
-abbrev pub paged : Kept → Kept
-paged m = record { n0 = m .n0; n = m .n; s = m .s; cap = m .cap; p = m .p + 1; held = m .held }
+use Rattle.demands.proofs.Fresh.{Begins, began, outside, elsewhere, format-begins}
 
 -- the refusals that a file which stands can meet: all but 4 and 9
 abbrev pub Plain : Answer → Type 0
@@ -142,7 +138,7 @@ module _ {m : Kept} {ps : List (List Record)} (s : Stands m ps) where
   format-step n0 N q cap = go (format-begins (fileOf m ps) n0 N q cap)
     where
       go : Begins (fileOf m ps) n0 N q cap (left (fileOf m ps) (format n0 N q cap)) → Step m ps (format n0 N q cap)
-      go (began e t) = accepted (asked n0 N q cap) 0 [] refl (record { read = 0; moved = 0; pages = replicate cap []; left = e; stands = t })
+      go (began e t) = accepted (begun n0 N q cap) 0 [] refl (record { read = 0; moved = 0; pages = replicate cap []; left = e; stands = t })
       go (outside e) = refused OutOfRange [] tt e
       go (elsewhere e) = refused WrongArea [] tt e
 

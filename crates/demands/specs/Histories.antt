@@ -1,7 +1,7 @@
 -- Histories of calls: "From a fresh file, each call given the pages and state that the last one left" (demands 2 and 3), and what the accepted calls make of a file. What is quoted is the demands', or 01's where it says so.
 use Prim.Native.Nat.{ℕ, _+_, _*_, _^_, _<_}
 use mathlib.Core.Bool.{Bool, cond}
-use mathlib.Core.Option.{Option, none, some}
+use mathlib.Core.Option.{Option, none, some, Option·map}
 use mathlib.Core.List.{List, [], _∷_}
 use lib.ListN.{length}
 use lib.Dec.{eqb}
@@ -107,21 +107,25 @@ unfoldable pub commitOf : ℕ → List Record → Option ℕ
 commitOf k [] = none
 commitOf k (x ∷ rs) = cond (eqb (key x) k) (some (value x)) (commitOf k rs)
 
-abbrev pub onHeld : Option Kept → (List Record → List Record) → Option Kept
-onHeld none change = none
-onHeld (some m) change = some (record { n0 = m .n0; n = m .n; s = m .s; cap = m .cap; p = m .p; held = change (m .held) })
+-- just formatted: 01's "empty file, P = n0 x N"
+abbrev pub begun : (n0 N s cap : ℕ) → Kept
+begun n0 N s cap = record { n0 = n0; n = N; s = s; cap = cap; p = n0 * N; held = [] }
 
-abbrev pub onPages : Option Kept → Option Kept
-onPages none = none
-onPages (some m) = some (record { n0 = m .n0; n = m .n; s = m .s; cap = m .cap; p = m .p + 1; held = m .held })
+-- with other records
+abbrev pub holding : Kept → List Record → Kept
+holding m rs = record { n0 = m .n0; n = m .n; s = m .s; cap = m .cap; p = m .p; held = rs }
+
+-- with one page more
+abbrev pub paged : Kept → Kept
+paged m = record { n0 = m .n0; n = m .n; s = m .s; cap = m .cap; p = m .p + 1; held = m .held }
 
 -- what an accepted call makes of it. 01: an accepted format "begins a fresh file, and what was held before no longer counts"
 abbrev pub keeps : Option Kept → Call → Option Kept
-keeps o (format n0 N s cap) = some (record { n0 = n0; n = N; s = s; cap = cap; p = n0 * N; held = [] })
+keeps o (format n0 N s cap) = some (begun n0 N s cap)
 keeps o (find k) = o
-keeps o (put k v) = onHeld o (λ rs. (k, v) ∷ rs)
-keeps o (remove k) = onHeld o (without k)
-keeps o (grow row) = onPages o
+keeps o (put k v) = Option·map (λ m. holding m ((k, v) ∷ m .held)) o
+keeps o (remove k) = Option·map (λ m. holding m (without k (m .held))) o
+keeps o (grow row) = Option·map paged o
 keeps o check = o
 keeps o due = o
 

@@ -3,25 +3,22 @@ use mathlib.Core.Path.{_≡_, refl, sym, ap, _∙_}
 use mathlib.Core.Logic.{_↔_, _⊎_, ⊎-elim}
 use mathlib.Core.Option.{Option, none, some}
 use mathlib.Core.List.{List, _∷_}
-use Prim.Native.Nat.{ℕ, _<_}
-use native.Mathlib.Decide.{ℕ-discrete, decLt}
+use Prim.Native.Nat.{ℕ}
 use native.Mathlib.Omega.{arith}
-use lib.ListN.{length}
-use Rattle.placing.specs.Image.{Image, Room}
+use Rattle.placing.specs.Image.{Image}
+use Rattle.placing.specs.Rows.{counts}
 use Rattle.placing.proofs.Images.{one-image}
 use Rattle.placing.proofs.Perms.{perm-length}
 use Rattle.placing.proofs.Seek.{clash}
-use Rattle.placing.specs.Rows.{counts}
 use Rattle.pages.specs.Page.{Record, key, homeFor}
 use Rattle.state.specs.State.{homes, grown}
-use Rattle.state.proofs.Ranges.{ranged}
 use Rattle.demands.specs.Histories.{Call, find, put, remove, grow, due, File, Left, left, numbersOf, refusal, Kept, stateOf, commitOf}
 use Rattle.demands.specs.Demands.{Fresh, Tells, Row, Found, Retried, Removed, Sound, TheImage, RoomPut, RoomGrow, Counted, Agree, AfterFresh, Demands}
 use Rattle.demands.proofs.OnImage.{on-clean}
 use Rattle.demands.proofs.Sets.{set-put, same-records}
-use Rattle.demands.proofs.Standing.{Stands, fileOf, find-held, find-absent, remove-absent, remove-held, put-held, put-full, put-new}
+use Rattle.demands.proofs.Standing.{Stands, fileOf, find-held, find-absent, remove-absent, remove-held, put-full, put-new}
 use Rattle.demands.proofs.Unchanged.{total}
-use Rattle.demands.proofs.Steps.{Step, refused, accepted, said, plain-number, room-told, grow-other-row, grow-no-page, grow-no-room, grow-with-room, check-stands, due-stands, step, history}
+use Rattle.demands.proofs.Steps.{Step, refused, accepted, said, plain-number, Puts, was, turned-away, joined, Grows, other-row, at-cap, crowded, larger, room-told, grow-no-room, grow-with-room, put-comes, grow-comes, check-stands, due-stands, step, history}
 
 -- after a fresh history the file is the image of what is kept
 stands : (m : Kept) (f : File) → Fresh m f → (ps : List (List Record)) × ((f ≡ fileOf m ps) × Stands m ps)
@@ -63,7 +60,7 @@ module _ (m : Kept) (ps : List (List Record)) (s : Stands m ps) where
           ((λ v. (λ t. absurd (omega (arith, t .0)), λ q. absurd (clash (sym e ∙ q)))), (λ z. e, λ z. n))
 
   retried-stands : Retried m f
-  retried-stands k v w l u = go (commitOf k (m .held)) refl
+  retried-stands k v w l u = go (put-comes s k v l u)
     where
       Same : Type 0
       Same = Tells f (put k v) 6 w ↔ (commitOf k (m .held) ≡ some w)
@@ -71,15 +68,10 @@ module _ (m : Kept) (ps : List (List Record)) (s : Stands m ps) where
       other : commitOf k (m .held) ≡ none → (refusal f (put k v) ≡ 6 → ⊥) → Same
       other e n = (λ t. absurd (n (t .0)), λ q. absurd (clash (sym e ∙ q)))
 
-      room : commitOf k (m .held) ≡ none → Dec (Room key (homes (stateOf m)) 12 (m .cap) ((k, v) ∷ m .held)) → Same
-      room e (yes r) = other e (λ z. omega (arith, number (put-new s k l v e u r .left)))
-      room e (no n) = other e (λ z. omega (arith, number (put-full s k l v e n .1)))
-
-      go : (o : Option ℕ) → commitOf k (m .held) ≡ o → Same
-      go (some c) e =
-          let a = put-held s k l v c e in
-          (λ t. told e .0 (sym (commit (a .1)) ∙ t .1), λ q. (number (a .1), commit (a .1) ∙ told e .1 q))
-      go none e = room e (room-told (homes (stateOf m)) (m .cap) ((k, v) ∷ m .held) (set-put k v (s .set) l e))
+      go : Puts m ps k v → Same
+      go (was c n e a) = (λ t. told e .0 (sym (commit a) ∙ t .1), λ q. (number a, commit a ∙ told e .1 q))
+      go (turned-away n e a) = other e (λ z. omega (arith, number a))
+      go (joined e a) = other e (λ z. omega (arith, number (a .left)))
 
   removed-stands : Removed m f
   removed-stands k l = go (commitOf k (m .held)) refl
@@ -123,18 +115,13 @@ module _ (m : Kept) (ps : List (List Record)) (s : Stands m ps) where
       (λ n. number (grow-no-room s row l low n))
 
   row-stands : Row m f
-  row-stands row q = go (ℕ-discrete (length row) (m .cap)) (decLt (m .p) (m .cap)) (room-told (homes (grown (stateOf m))) (m .cap) (m .held) (s .set))
+  row-stands row q = go (grow-comes s row)
     where
-      counted : List ℕ
-      counted = counts (homeFor (homes (grown (stateOf m)))) (m .held) (m .cap) 0
-
-      go : Dec (length row ≡ m .cap) → Dec (m .p < m .cap) → Dec (Room key (homes (grown (stateOf m))) 12 (m .cap) (m .held)) → left f (grow row) .row ≡ counted
-      go (no n) d r = let e = number (grow-other-row s row n) in absurd (⊎-elim (λ z. omega arith) (λ z. omega arith) q)
-      go (yes l) (no n) r =
-          let e = number (grow-no-page s row l (omega (arith, ranged (stateOf m) (s .range) .p-high))) in
-          absurd (⊎-elim (λ z. omega arith) (λ z. omega arith) q)
-      go (yes l) (yes low) (no n) = ap (λ (t : Left). t .row) (grow-no-room s row l low n)
-      go (yes l) (yes low) (yes r) = ap (λ (t : Left). t .row) (grow-with-room s row l low r .left)
+      go : Grows m ps row → left f (grow row) .row ≡ counts (homeFor (homes (grown (stateOf m)))) (m .held) (m .cap) 0
+      go (other-row e) = let n = number e in absurd (⊎-elim (λ z. omega arith) (λ z. omega arith) q)
+      go (at-cap e) = let n = number e in absurd (⊎-elim (λ z. omega arith) (λ z. omega arith) q)
+      go (crowded e) = ap (λ (t : Left). t .row) e
+      go (larger a) = ap (λ (t : Left). t .row) (a .left)
 
   counted-stands : Counted m f
   counted-stands = record { state = refl; due = ap (λ (t : Left). t .said) (due-stands s) }
@@ -146,8 +133,8 @@ after-fresh P k m g w =
     rw (t .1 .0) (k m (t .0) (t .1 .1))
 
 -- records in another order stand on the same pages
-same-pages : (a b : Kept) (ps qs : List (List Record)) → Agree a b → Stands a ps → Stands b qs → fileOf a ps ≡ fileOf b qs
-same-pages a b ps qs e s t =
+same-stands : (a b : Kept) (ps qs : List (List Record)) → Agree a b → Stands a ps → Stands b qs → fileOf a ps ≡ fileOf b qs
+same-stands a b ps qs e s t =
     let p = same-records (s .set) (t .set) (e .held) in
     let i : Image key (homes (stateOf a)) 12 (a .cap) (b .held) qs = rw (e .n0, e .n, e .s, e .cap, e .p) (t .image) in
     rw (one-image key (homes (stateOf a)) 12 (s .set) p (s .image) i, perm-length p, e .n0, e .n, e .s, e .cap, e .p)
@@ -156,7 +143,7 @@ same : (a b : Kept) (g h : File) → Fresh a g → Fresh b h → Agree a b → g
 same a b g h v w e =
     let s = stands a g v in
     let t = stands b h w in
-    s .1 .0 ∙ same-pages a b (s .0) (t .0) e (s .1 .1) (t .1 .1) ∙ sym (t .1 .0)
+    s .1 .0 ∙ same-stands a b (s .0) (t .0) e (s .1 .1) (t .1 .1) ∙ sym (t .1 .0)
 
 pub demands : Demands
 demands =

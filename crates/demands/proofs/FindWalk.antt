@@ -73,14 +73,14 @@ module _ (h : ℕ → ℕ) (k : ℕ) (l : k < 2 ^ 64) where
         ∙ find-page (t .last) (t .rest)
 
   -- find finds what the walk meets
-  pub find-stops : (a n : ℕ) (qs : List (List Record)) (m : Met) → All (All Small) qs → Stops h k a n qs m → find rank 12 r qs ≡ recordOf k m
-  find-stops a n qs (Found b i c v m) s t = find-halt (t .halt) s ∙ rw (here-seek h k (t .halt .last) i v l (last-small (t .halt) s) (t .here))
-  find-stops a n qs (Sick b m) s t = absurd t
-  find-stops a n qs (Ends b i c m) s t = find-halt (t .halt) s ∙ rw (away-seek h k (t .halt .last) l (last-small (t .halt) s) (t .away), t .ends)
-  find-stops a n qs (Past m) s t = rw append-nil at (find-passed qs [] s t)
+  pub find-stops : (a : ℕ) (qs : List (List Record)) (m : Met) → All (All Small) qs → Stops h k a qs m → find rank 12 r qs ≡ recordOf k m
+  find-stops a qs (Found b i c v m) s t = find-halt (t .halt) s ∙ rw (here-seek h k (t .halt .last) i v l (last-small (t .halt) s) (t .here))
+  find-stops a qs (Sick b m) s t = absurd t
+  find-stops a qs (Ends b i c m) s t = find-halt (t .halt) s ∙ rw (away-seek h k (t .halt .last) l (last-small (t .halt) s) (t .away), t .ends)
+  find-stops a qs (Past m) s t = rw append-nil at (find-passed qs [] s t)
 
 -- the walk on good bytes ends as it does on the pages that they are
-pub walk-stops : {h : ℕ → ℕ} {n : ℕ} {ps : List (List Record)} → Clean h n ps → (k : ℕ) → h k ≤ n → Stops h k (h k) 0 (drop (h k) ps) (walk h (areaFrom 0 ps) n k)
+pub walk-stops : {h : ℕ → ℕ} {n : ℕ} {ps : List (List Record)} → Clean h n ps → (k : ℕ) → h k ≤ n → Stops h k (h k) (drop (h k) ps) (walk h (areaFrom 0 ps) n k)
 unfolding walk
 walk-stops {h} {ps = ps} c k g = rw (clean-from c (h k) g) (meets-stops h k (h k) 0 (drop (h k) ps))
 
@@ -95,9 +95,9 @@ pub find-clean : {h : ℕ → ℕ} {n : ℕ} {ps : List (List Record)} → Clean
 find-clean {h} {n} {ps} c k l g =
     let m = walk h (areaFrom 0 ps) n k in
     let t = walk-stops c k g in
-    rw (find-stops h k l (h k) 0 (drop (h k) ps) m (small-from c (h k)) t) (answers m t)
+    rw (find-stops h k l (h k) (drop (h k) ps) m (small-from c (h k)) t) (answers m t)
   where
-    answers : (m : Met) → Stops h k (h k) 0 (drop (h k) ps) m → FindGoes (recordOf k m) (findAnswer m)
+    answers : (m : Met) → Stops h k (h k) (drop (h k) ps) m → FindGoes (recordOf k m) (findAnswer m)
     answers (Found b i j v r) t = (r, refl)
     answers (Sick b r) t = absurd t
     answers (Ends b i j r) t = (r, refl)

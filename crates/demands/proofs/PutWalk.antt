@@ -104,7 +104,7 @@ module _ (h : ℕ → ℕ) where
           (carry-goes (front ++ way) b (r - 1) 0 at x (last ∷ rest)))
 
       -- each way in which the walk ends
-      put-stops : (front qs : List (List Record)) (a : ℕ) (m : Met) → length front ≡ a → Clean h n (front ++ qs) → Stops h (key x) a 0 qs m → Goes front qs m
+      put-stops : (front qs : List (List Record)) (a : ℕ) (m : Met) → length front ≡ a → Clean h n (front ++ qs) → Stops h (key x) a qs m → Goes front qs m
       put-stops front qs a (Found b i c v r) at clean t = (r, refl)
       put-stops front qs a (Sick b r) at clean t = absurd t
       put-stops front qs a (Ends b i c r) at clean t =
@@ -123,5 +123,5 @@ put-clean {h} {n} {ps} c x l g =
     let m = walk h (areaFrom 0 ps) n (key x) in
     let t = walk-stops c (key x) g in
     let at : length (take a ps) ≡ a = length-take-le a ps (omega (arith, c .many)) in
-    rw (find-stops h (key x) l a 0 (drop a ps) m (small-from c a) t)
+    rw (find-stops h (key x) l a (drop a ps) m (small-from c a) t)
     (rw (take-append-drop a ps) at (put-stops h x n (take a ps) (drop a ps) a m at (rw take-append-drop c) t))

@@ -158,7 +158,7 @@ module _ {h : ℕ → ℕ} {n : ℕ} {ps : List (List Record)} (c : Clean h n ps
         clean-from c (suc b) lies ∙ ap (λ (s : List (List Record)). map some (drop (suc b) s)) whole-file ∙ rw (e, drop-append-add before)
 
   -- what a remove comes to where the walk met this: a key that was met is taken out
-  met-goes : (met : Met) → Stops h k (h k) 0 (drop (h k) ps) met → RemoveGoes ps (recordOf k met) (removeIn key h 12 k ps) (removeMet h (areaFrom 0 ps) n met)
+  met-goes : (met : Met) → Stops h k (h k) (drop (h k) ps) met → RemoveGoes ps (recordOf k met) (removeIn key h 12 k ps) (removeMet h (areaFrom 0 ps) n met)
   met-goes (Found b i w v r) s =
       let t = s .halt in
       rw (remove-halt t, last-read t, rest-read t)
@@ -174,4 +174,4 @@ unfolding removeWalk
 remove-clean {h} {n} {ps} c k l g =
     let m = walk h (areaFrom 0 ps) n k in
     let t = walk-stops c k g in
-    rw (find-stops h k l (h k) 0 (drop (h k) ps) m (small-from c (h k)) t) (met-goes c k l g m t)
+    rw (find-stops h k l (h k) (drop (h k) ps) m (small-from c (h k)) t) (met-goes c k l g m t)

@@ -20,7 +20,7 @@ use Rattle.state.specs.State.{homes, grown}
 use Rattle.state.specs.Answer.{numbers}
 use Rattle.state.proofs.Ranges.{ranged, grown-range}
 use Rattle.register.specs.Calls.{done, Growth, grew}
-use Rattle.demands.specs.Histories.{begun, holding, paged, Call, format, find, put, remove, grow, check, due, Fits, File, says, Left, leaves, grewTo, left, after, numbersOf, refusal, Kept, stateOf, without, commitOf, keeps, kept}
+use Rattle.demands.specs.Histories.{Call, format, find, put, remove, grow, check, due, Fits, File, says, Left, leaves, grewTo, left, after, numbersOf, refusal, Kept, stateOf, without, commitOf, begun, holding, paged, keeps, kept}
 use Rattle.demands.proofs.GrownImage.{grownPages, grownRow, accepts, refuses, check-yes, grow-refused-row, grow-at-cap, grow-room, grow-full, grown-image}
 use Rattle.demands.proofs.Standing.{Stands, fileOf, Refused, Accepts, find-held, find-absent, remove-absent, remove-held, put-held, put-full, put-new}
 use Rattle.demands.proofs.Sets.{set-put}
@@ -57,6 +57,19 @@ pub data Step (m : Kept) (ps : List (List Record)) (c : Call) : Type 0 where
   accepted : (new : Kept) (v : ℕ) (row : List ℕ) → keeps (some m) c ≡ some new → Accepts m new ps c v row → Step m ps c
   said : (u : Bool) → keeps (some m) c ≡ some m → left (fileOf m ps) c ≡ record { said = says u; file = fileOf m ps; row = [] } → Step m ps c
 
+-- what a put comes to: its number was held, or there is no room, or it is new
+pub data Puts (m : Kept) (ps : List (List Record)) (k v : ℕ) : Type 0 where
+  was : (w n : ℕ) → commitOf k (m .held) ≡ some w → Refused m ps (put k v) (Held w n) [] → Puts m ps k v
+  turned-away : (n : ℕ) → commitOf k (m .held) ≡ none → Refused m ps (put k v) (NoRoom n) [] → Puts m ps k v
+  joined : commitOf k (m .held) ≡ none → Accepts m (holding m ((k, v) ∷ m .held)) ps (put k v) 0 [] → Puts m ps k v
+
+-- what a growth comes to
+pub data Grows (m : Kept) (ps : List (List Record)) (row : List ℕ) : Type 0 where
+  other-row : Refused m ps (grow row) WrongRow row → Grows m ps row
+  at-cap : Refused m ps (grow row) AtCap row → Grows m ps row
+  crowded : Refused m ps (grow row) (NoRoom (m .cap)) (grownRow (stateOf m) (m .held)) → Grows m ps row
+  larger : Accepts m (paged m) ps (grow row) 0 (grownRow (stateOf m) (m .held)) → Grows m ps row
+
 -- whether there is room can be told
 pub room-told : (h : ℕ → ℕ) (n : ℕ) (rs : List Record) → RecordSet key rs → Dec (Room key h 12 n rs)
 room-told h n rs f = go (ℕ-discrete (taken (homeFor h) 12 rs n) (length rs))
@@ -71,10 +84,10 @@ module _ {m : Kept} {ps : List (List Record)} (s : Stands m ps) where
   grow-leaves row g e = rw e
 
   -- a row of another length, and no page to grow to
-  pub grow-other-row : (row : List ℕ) → (length row ≡ m .cap → ⊥) → Refused m ps (grow row) WrongRow row
+  grow-other-row : (row : List ℕ) → (length row ≡ m .cap → ⊥) → Refused m ps (grow row) WrongRow row
   grow-other-row row f = grow-leaves row (refuses (stateOf m) ps row WrongRow) (grow-refused-row s row f)
 
-  pub grow-no-page : (row : List ℕ) → length row ≡ m .cap → m .p ≡ m .cap → Refused m ps (grow row) AtCap row
+  grow-no-page : (row : List ℕ) → length row ≡ m .cap → m .p ≡ m .cap → Refused m ps (grow row) AtCap row
   grow-no-page row l e = grow-leaves row (refuses (stateOf m) ps row AtCap) (grow-at-cap s row l e)
 
   module _ (row : List ℕ) (l : length row ≡ m .cap) (low : m .p < m .cap) where
@@ -100,14 +113,21 @@ module _ {m : Kept} {ps : List (List Record)} (s : Stands m ps) where
   unfolding left
   due-stands = rw (s .range)
 
-  grow-step : (row : List ℕ) → Step m ps (grow row)
-  grow-step row = go (ℕ-discrete (length row) (m .cap)) (decLt (m .p) (m .cap)) (room-told (homes (grown (stateOf m))) (m .cap) (m .held) (s .set))
+  -- a growth, by its row, the pages left and what there is room for
+  pub grow-comes : (row : List ℕ) → Grows m ps row
+  grow-comes row = go (ℕ-discrete (length row) (m .cap)) (decLt (m .p) (m .cap)) (room-told (homes (grown (stateOf m))) (m .cap) (m .held) (s .set))
     where
-      go : Dec (length row ≡ m .cap) → Dec (m .p < m .cap) → Dec (Room key (homes (grown (stateOf m))) 12 (m .cap) (m .held)) → Step m ps (grow row)
-      go (no f) d r = refused WrongRow row tt (grow-other-row row f)
-      go (yes l) (no f) r = refused AtCap row tt (grow-no-page row l (omega (arith, ranged (stateOf m) (s .range) .p-high)))
-      go (yes l) (yes low) (no f) = refused (NoRoom (m .cap)) (grownRow (stateOf m) (m .held)) tt (grow-no-room row l low f)
-      go (yes l) (yes low) (yes r) = accepted (paged m) 0 (grownRow (stateOf m) (m .held)) refl (grow-with-room row l low r)
+      go : Dec (length row ≡ m .cap) → Dec (m .p < m .cap) → Dec (Room key (homes (grown (stateOf m))) 12 (m .cap) (m .held)) → Grows m ps row
+      go (no f) d r = other-row (grow-other-row row f)
+      go (yes l) (no f) r = at-cap (grow-no-page row l (omega (arith, ranged (stateOf m) (s .range) .p-high)))
+      go (yes l) (yes low) (no f) = crowded (grow-no-room row l low f)
+      go (yes l) (yes low) (yes r) = larger (grow-with-room row l low r)
+
+  grow-step : (row : List ℕ) → Grows m ps row → Step m ps (grow row)
+  grow-step row (other-row a) = refused WrongRow row tt a
+  grow-step row (at-cap a) = refused AtCap row tt a
+  grow-step row (crowded a) = refused (NoRoom (m .cap)) (grownRow (stateOf m) (m .held)) tt a
+  grow-step row (larger a) = accepted (paged m) 0 (grownRow (stateOf m) (m .held)) refl a
 
   find-step : (k : ℕ) → k < 2 ^ 64 → Step m ps (find k)
   find-step k l = go (commitOf k (m .held)) refl
@@ -123,16 +143,22 @@ module _ {m : Kept} {ps : List (List Record)} (s : Stands m ps) where
       go (some v) e = accepted (holding m (without k (m .held))) 0 [] refl (remove-held s k l v e)
       go none e = let w = remove-absent s k l e in refused (Absent (w .0)) [] tt (w .1)
 
-  put-step : (k v : ℕ) → k < 2 ^ 64 → v < 2 ^ 64 → Step m ps (put k v)
-  put-step k v l u = go (commitOf k (m .held)) refl
+  -- a put, by what is held and by what there is room for
+  pub put-comes : (k v : ℕ) → k < 2 ^ 64 → v < 2 ^ 64 → Puts m ps k v
+  put-comes k v l u = go (commitOf k (m .held)) refl
     where
-      room : commitOf k (m .held) ≡ none → Dec (Room key (homes (stateOf m)) 12 (m .cap) ((k, v) ∷ m .held)) → Step m ps (put k v)
-      room e (yes r) = accepted (holding m ((k, v) ∷ m .held)) 0 [] refl (put-new s k l v e u r)
-      room e (no f) = let w = put-full s k l v e f in refused (NoRoom (w .0)) [] tt (w .1)
+      room : commitOf k (m .held) ≡ none → Dec (Room key (homes (stateOf m)) 12 (m .cap) ((k, v) ∷ m .held)) → Puts m ps k v
+      room e (yes r) = joined e (put-new s k l v e u r)
+      room e (no f) = let w = put-full s k l v e f in turned-away (w .0) e (w .1)
 
-      go : (o : Option ℕ) → commitOf k (m .held) ≡ o → Step m ps (put k v)
-      go (some w) e = let t = put-held s k l v w e in refused (Held w (t .0)) [] tt (t .1)
+      go : (o : Option ℕ) → commitOf k (m .held) ≡ o → Puts m ps k v
+      go (some w) e = let t = put-held s k l v w e in was w (t .0) e (t .1)
       go none e = room e (room-told (homes (stateOf m)) (m .cap) ((k, v) ∷ m .held) (set-put k v (s .set) l e))
+
+  put-step : (k v : ℕ) → Puts m ps k v → Step m ps (put k v)
+  put-step k v (was w n e a) = refused (Held w n) [] tt a
+  put-step k v (turned-away n e a) = refused (NoRoom n) [] tt a
+  put-step k v (joined e a) = accepted (holding m ((k, v) ∷ m .held)) 0 [] refl a
 
   format-step : (n0 N q cap : ℕ) → Step m ps (format n0 N q cap)
   format-step n0 N q cap = go (format-begins (fileOf m ps) n0 N q cap)
@@ -146,9 +172,9 @@ module _ {m : Kept} {ps : List (List Record)} (s : Stands m ps) where
   pub step : (c : Call) → Fits c → Step m ps c
   step (format n0 N q cap) f = format-step n0 N q cap
   step (find k) f = find-step k f
-  step (put k v) f = put-step k v (f .0) (f .1)
+  step (put k v) f = put-step k v (put-comes k v (f .0) (f .1))
   step (remove k) f = remove-step k f
-  step (grow row) f = grow-step row
+  step (grow row) f = grow-step row (grow-comes row)
   step check f = accepted m 0 [] refl check-stands
   step due f = said (ltb (48 * m .p) (5 * length (m .held))) refl due-stands
 

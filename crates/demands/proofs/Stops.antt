@@ -25,7 +25,7 @@ abbrev pub Small : Record → Type 0
 Small x = key x < 2 ^ 64
 
 -- a slot that holds the key shows its record
-pub held-record : (k i j v : ℕ) (p : List Record) → heldAt k i p ≡ some (j, v) → seek key k p ≡ some (k, v)
+held-record : (k i j v : ℕ) (p : List Record) → heldAt k i p ≡ some (j, v) → seek key k p ≡ some (k, v)
 held-record k i j v [] e = absurd (clash e)
 held-record k i j v (x ∷ p) e = go (eqb (key x) k) refl e (held-record k (suc i) j v p)
   where
@@ -58,18 +58,17 @@ module _ (h : ℕ → ℕ) (k : ℕ) where
     pub halt : Halt a b qs
     pub here : heldAt k 0 (halt .last) ≡ some (i, v)
 
-  pub record EndsAt (a b n r : ℕ) (qs : List (List Record)) : Type 0 where
+  pub record EndsAt (a b : ℕ) (qs : List (List Record)) : Type 0 where
     pub halt : Halt a b qs
     pub away : heldAt k 0 (halt .last) ≡ none
     pub ends : endsOn h k (halt .last) ≡ true
-    pub read : r ≡ suc (n + length (halt .front))
 
-  -- where the walk ends, on the pages from a on, n having been read before
-  abbrev pub Stops : (a n : ℕ) → List (List Record) → Met → Type 0
-  Stops a n qs (Found b i c v r) = FoundAt a b i v qs
-  Stops a n qs (Sick b r) = ⊥
-  Stops a n qs (Ends b i c r) = EndsAt a b n r qs
-  Stops a n qs (Past r) = All Passed qs
+  -- where the walk ends, on the pages from a on
+  abbrev pub Stops : (a : ℕ) → List (List Record) → Met → Type 0
+  Stops a qs (Found b i c v r) = FoundAt a b i v qs
+  Stops a qs (Sick b r) = ⊥
+  Stops a qs (Ends b i c r) = EndsAt a b qs
+  Stops a qs (Past r) = All Passed qs
 
   abbrev further : (a b : ℕ) (p : List Record) (qs : List (List Record)) → Passed p → Halt (suc a) b qs → Halt a b (p ∷ qs)
   further a b p qs s t =
@@ -85,25 +84,25 @@ module _ (h : ℕ → ℕ) (k : ℕ) where
   abbrev here-first : (a : ℕ) (p : List Record) (qs : List (List Record)) → Halt a a (p ∷ qs)
   here-first a p qs = record { front = []; last = p; rest = qs; whole = refl; passed = tt; at = omega arith }
 
-  on-stops : (a n : ℕ) (p : List Record) (qs : List (List Record)) (m : Met) → Passed p → Stops (suc a) (suc n) qs m → Stops a n (p ∷ qs) m
-  on-stops a n p qs (Found b i c v r) s t = record { halt = further a b p qs s (t .halt); here = t .here }
-  on-stops a n p qs (Sick b r) s t = t
-  on-stops a n p qs (Ends b i c r) s t = record { halt = further a b p qs s (t .halt); away = t .away; ends = t .ends; read = omega (arith, t .read) }
-  on-stops a n p qs (Past r) s t = (s, t)
+  on-stops : (a : ℕ) (p : List Record) (qs : List (List Record)) (m : Met) → Passed p → Stops (suc a) qs m → Stops a (p ∷ qs) m
+  on-stops a p qs (Found b i c v r) s t = record { halt = further a b p qs s (t .halt); here = t .here }
+  on-stops a p qs (Sick b r) s t = t
+  on-stops a p qs (Ends b i c r) s t = record { halt = further a b p qs s (t .halt); away = t .away; ends = t .ends }
+  on-stops a p qs (Past r) s t = (s, t)
 
   -- no good page is broken
-  pub meets-stops : (a n : ℕ) (qs : List (List Record)) → Stops a n qs (meets h k a n (map some qs))
+  pub meets-stops : (a n : ℕ) (qs : List (List Record)) → Stops a qs (meets h k a n (map some qs))
   meets-stops a n [] = tt
   meets-stops a n (p ∷ qs) = go (heldAt k 0 p) (endsOn h k p) refl refl (meets-stops (suc a) (suc n) qs)
     where
       on : Met
       on = meets h k (suc a) (suc n) (map some qs)
 
-      go : (o : Option (ℕ × ℕ)) (u : Bool) → heldAt k 0 p ≡ o → endsOn h k p ≡ u → Stops (suc a) (suc n) qs on
-          → Stops a n (p ∷ qs) (onHeld o (λ i v. Found a i (length p) v (suc n)) (cond u (Ends a (ahead (rankIn key h) (rankOf h k) p) (length p) (suc n)) on))
+      go : (o : Option (ℕ × ℕ)) (u : Bool) → heldAt k 0 p ≡ o → endsOn h k p ≡ u → Stops (suc a) qs on
+          → Stops a (p ∷ qs) (onHeld o (λ i v. Found a i (length p) v (suc n)) (cond u (Ends a (ahead (rankIn key h) (rankOf h k) p) (length p) (suc n)) on))
       go (some w) u e d t = record { halt = here-first a p qs; here = e }
-      go none true e d t = record { halt = here-first a p qs; away = e; ends = d; read = omega arith }
-      go none false e d t = on-stops a n p qs on (record { away = e; on = d }) t
+      go none true e d t = record { halt = here-first a p qs; away = e; ends = d }
+      go none false e d t = on-stops a p qs on (record { away = e; on = d }) t
 
   -- where a slot is not found the record isn't there, by its rank either
   pub away-seek : (p : List Record) → k < 2 ^ 64 → All Small p → heldAt k 0 p ≡ none → seek (rankIn key h) (rankOf h k) p ≡ none

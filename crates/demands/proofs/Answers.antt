@@ -2,7 +2,7 @@
 use mathlib.Core.Path.{refl, _∙⁻¹_}
 use mathlib.Core.List.{[]}
 use denote.Ref.{now}
-use Rattle.demands.specs.Histories.{says, leaves, left}
+use Rattle.register.specs.Files.{says, leaves, left}
 use Rattle.demands.specs.Answers.{Answers}
 
 pub answers : Answers

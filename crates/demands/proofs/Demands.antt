@@ -12,7 +12,8 @@ use Rattle.placing.proofs.Perms.{perm-length}
 use Rattle.placing.proofs.Seek.{clash}
 use Rattle.pages.specs.Page.{Record, key, homeFor}
 use Rattle.state.specs.State.{homes, grown}
-use Rattle.demands.specs.Histories.{Call, find, put, remove, grow, due, File, Left, left, numbersOf, refusal, Kept, stateOf, commitOf}
+use Rattle.register.specs.Files.{Call, find, put, remove, grow, due, File, Left, left, numbersOf}
+use Rattle.demands.specs.Histories.{refusal, Kept, stateOf, commitOf}
 use Rattle.demands.specs.Demands.{Fresh, Tells, Row, Found, Retried, Removed, Sound, TheImage, RoomPut, RoomGrow, Counted, Agree, AfterFresh, Demands}
 use Rattle.demands.proofs.OnImage.{on-clean}
 use Rattle.demands.proofs.Sets.{set-put, same-records}

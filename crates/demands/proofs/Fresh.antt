@@ -14,7 +14,8 @@ use Rattle.state.specs.State.{inRange, homes, fresh}
 use Rattle.register.specs.declared.Gate.the-variants.{Open, Shut}
 use Rattle.register.specs.Gates.{onGate, gateOf}
 use Rattle.register.specs.Calls.{done, refused}
-use Rattle.demands.specs.Histories.{format, File, Left, leaves, wrote, left, stateOf, begun}
+use Rattle.register.specs.Files.{format, File, Left, leaves, wrote, left}
+use Rattle.demands.specs.Histories.{stateOf, begun}
 use Rattle.demands.proofs.Standing.{Stands}
 
 -- n empty pages hold nothing

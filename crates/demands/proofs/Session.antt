@@ -15,7 +15,8 @@ use Rattle.survey.specs.Survey.{isImage, surveyed}
 use Rattle.rebuild.specs.Rebuild.{relaid}
 use Rattle.register.specs.Gates.{gateOf, imageGate, growGate}
 use Rattle.register.specs.Calls.{grownFile}
-use Rattle.demands.specs.Histories.{Call, format, find, put, remove, grow, check, due, File, left, after, Kept, without, kept}
+use Rattle.register.specs.Files.{Call, format, find, put, remove, grow, check, due, File, left}
+use Rattle.demands.specs.Histories.{after, Kept, without, kept}
 use Rattle.demands.specs.Demands.{Fresh}
 
 abbrev start : File

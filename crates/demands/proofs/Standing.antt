@@ -19,7 +19,8 @@ use Rattle.state.specs.State.{homes}
 use Rattle.state.proofs.Ranges.{more-range, less-range}
 use Rattle.walks.specs.Walks.{stopped, walk, findAnswer, putWalk, removeWalk}
 use Rattle.register.specs.Calls.{done}
-use Rattle.demands.specs.Histories.{Call, find, put, remove, File, leaves, left, Kept, stateOf, without, commitOf, holding}
+use Rattle.register.specs.Files.{Call, find, put, remove, File, leaves, left}
+use Rattle.demands.specs.Histories.{Kept, stateOf, without, commitOf, holding}
 use Rattle.demands.proofs.OnImage.{OnImage, on-clean, on-gate, home-low}
 use Rattle.demands.proofs.Went.{Went}
 use Rattle.demands.proofs.FindWalk.{FindGoes, find-clean}

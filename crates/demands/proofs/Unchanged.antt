@@ -20,7 +20,8 @@ use Rattle.register.specs.declared.Gate.{Gate}
 use Rattle.register.specs.declared.Gate.the-variants.{Open, Shut}
 use Rattle.register.specs.Gates.{onGate, gateOf, imageGate, growGate}
 use Rattle.register.specs.Calls.{done, Outcome, refused, settled, putOpen, removeOpen, grownFile}
-use Rattle.demands.specs.Histories.{format, find, put, remove, grow, check, due, File, Left, wrote, grewTo, leaves, left, numbersOf, refusal}
+use Rattle.register.specs.Files.{format, find, put, remove, grow, check, due, File, Left, wrote, grewTo, leaves, left, numbersOf}
+use Rattle.demands.specs.Histories.{refusal}
 use Rattle.demands.specs.Demands.{Total}
 
 -- the number of what was left

@@ -12,7 +12,7 @@ use Rattle.register.proofs.put as Put
 use Rattle.register.proofs.remove as Remove
 use Rattle.register.proofs.check as Check
 use Rattle.register.proofs.grow as Grow
-use Rattle.demands.specs.Histories.{format, find, put, remove, grow, check, due, says, Left, leaves, left}
+use Rattle.register.specs.Files.{format, find, put, remove, grow, check, due, says, Left, leaves, left}
 
 module _ (T : Ended) where
   -- what a call is given, what it returns, and what it leaves of that which was lent to be changed

@@ -11,7 +11,8 @@ use Rattle.placing.specs.Rows.{counts}
 use Rattle.pages.specs.Page.{key, homeFor}
 use Rattle.state.specs.State.{homes, grown}
 use Rattle.register.specs.OneImage.{AreaImage}
-use Rattle.demands.specs.Histories.{Call, format, find, put, remove, grow, check, due, Fits, File, says, left, after, numbersOf, refusal, Kept, stateOf, commitOf, kept}
+use Rattle.register.specs.Files.{Call, format, find, put, remove, grow, check, due, File, says, left, numbersOf}
+use Rattle.demands.specs.Histories.{Fits, after, refusal, Kept, stateOf, commitOf, kept}
 
 -- A file that a history left "from a fresh file": calls from any bytes and any state, a format among them accepted, with what they keep
 pub record Fresh (m : Kept) (f : File) : Type 0 where

@@ -1,4 +1,5 @@
 pub mod Gates
 pub mod Past
 pub mod Calls
+pub mod Files
 pub mod OneImage

@@ -3,7 +3,7 @@
 use mathlib.Core.Path.{_≡_, refl, sym, ap, _∙_}
 use mathlib.Core.Bool.{Bool}
 use Prim.Native.Nat.{ℕ, zero, suc, _+_, _-_, _*_, _%_, _≤_, _<_}
-use native.Mathlib.Nat.{mod-lt, zero-mod, mod-add-mod, mod-self, mod-eq-of-lt, mul-comm, mul-le-mul-right}
+use native.Mathlib.Nat.{mod-lt, zero-mod, mod-add-mod, mod-self, mod-eq-of-lt, mul-le-mul-right}
 use native.Mathlib.Numerals.{add-one}
 use native.Mathlib.Omega.{arith}
 use lib.Dec.{leb}
@@ -27,9 +27,9 @@ starts n0 N s P K hn hN =
     record { i = zero; draw-is = refl; np-is = omega (arith, zero-mod n0); G-low = hN; G-high = omega (arith, mul-le-mul-right N hn); rest = refl }
 
 -- The code's next draw is the next of 01's.
-pub draw-next : (K i d : ℕ) → d ≡ draw (seedOf K) i → d * 16807 % 2147483647 ≡ draw (seedOf K) (suc i)
+pub draw-next : (K i d next : ℕ) → d ≡ draw (seedOf K) i → next ≡ 16807 * d % 2147483647 → next ≡ draw (seedOf K) (suc i)
 unfolding draw
-draw-next K i d e = ap (λ (m : ℕ). m % 2147483647) (ap (λ (m : ℕ). m * 16807) e ∙ mul-comm (draw (seedOf K) i) 16807)
+draw-next K i d next e n = n ∙ ap (λ (m : ℕ). 16807 * m % 2147483647) e
 
 -- The code's test for a mover is 01's, at that draw.
 pub mover-is : (n0 K i d np : ℕ) → d ≡ draw (seedOf K) (suc i) → np ≡ n0 + i % n0 → leb (d * (np + 1)) 2147483647 ≡ mover n0 K (suc i)
@@ -60,27 +60,24 @@ stay n0 i G h =
     let q : suc i - 1 ≡ i = omega arith in
     rw (q, ne-eqb (i % n0) (n0 - 1) (λ e. omega arith))
 
-module _ (n0 N s P K G F a d np r : ℕ) (b : Before n0 N s P K G F a d np) (below : F < P) (low : 1 ≤ n0) (stepped : r ≡ moved P (leb (d * 16807 % 2147483647 * (np + 1)) 2147483647) (newPage s F G a) a) where
-  abbrev d′ : ℕ
-  d′ = d * 16807 % 2147483647
-
+module _ (n0 N s P K G F a d d′ np r : ℕ) (b : Before n0 N s P K G F a d np) (below : F < P) (low : 1 ≤ n0) (drawn : d′ ≡ 16807 * d % 2147483647) (stepped : r ≡ moved P (leb (d′ * (np + 1)) 2147483647) (newPage s F G a) a) where
   -- what is left to do after the step
   onward : steps (λ x F. mover n0 K x) (newPage s) n0 P (P - (F + G)) (suc (suc (b .i))) (F + G) (nextGroups n0 (suc (b .i)) G) r ≡ home n0 N s P K
   onward =
       let x = suc (b .i) in
-      let test : leb (d′ * (np + 1)) 2147483647 ≡ mover n0 K x = mover-is n0 K (b .i) d′ np (draw-next K (b .i) d (b .draw-is)) (b .np-is) in
+      let test : leb (d′ * (np + 1)) 2147483647 ≡ mover n0 K x = mover-is n0 K (b .i) d′ np (draw-next K (b .i) d d′ (b .draw-is) drawn) (b .np-is) in
       let goes : r ≡ moved P (mover n0 K x) (newPage s F G a) a = stepped ∙ ap (λ (m : Bool). moved P m (newPage s F G a) a) test in
       ap (steps (λ x F. mover n0 K x) (newPage s) n0 P (P - (F + G)) (suc x) (F + G) (nextGroups n0 x G)) goes
       ∙ sym (turn (λ x F. mover n0 K x) (newPage s) n0 P x F G a below (b .G-low))
       ∙ b .rest
 
   -- A turn at the end of a round, where np starts again and the groups double.
-  pub turn-over : np + 1 ≡ 2 * n0 → Before n0 N s P K (2 * G) (F + G) r (d * 16807 % 2147483647) n0
+  pub turn-over : np + 1 ≡ 2 * n0 → Before n0 N s P K (2 * G) (F + G) r d′ n0
   turn-over h =
       let last : b .i % n0 + 1 ≡ n0 = omega (arith, b .np-is) in
       record {
         i = suc (b .i);
-        draw-is = draw-next K (b .i) d (b .draw-is);
+        draw-is = draw-next K (b .i) d d′ (b .draw-is) drawn;
         np-is = omega (arith, round-over n0 (b .i) last);
         G-low = omega (arith, b .G-low);
         G-high = omega (arith, b .G-high);
@@ -88,13 +85,13 @@ module _ (n0 N s P K G F a d np r : ℕ) (b : Before n0 N s P K G F a d np) (bel
       }
 
   -- Any other turn.
-  pub turn-on : (np + 1 ≡ 2 * n0 → ⊥) → Before n0 N s P K G (F + G) r (d * 16807 % 2147483647) (np + 1)
+  pub turn-on : (np + 1 ≡ 2 * n0 → ⊥) → Before n0 N s P K G (F + G) r d′ (np + 1)
   turn-on h =
       let not : b .i % n0 + 1 ≡ n0 → ⊥ = λ e. h (omega (arith, b .np-is)) in
       let more : b .i % n0 + 1 < n0 = omega (arith, mod-lt (b .i) low, not) in
       record {
         i = suc (b .i);
-        draw-is = draw-next K (b .i) d (b .draw-is);
+        draw-is = draw-next K (b .i) d d′ (b .draw-is) drawn;
         np-is = omega (arith, b .np-is, round-on n0 (b .i) more);
         G-low = b .G-low;
         G-high = omega (arith, b .G-high);

@@ -1,6 +1,6 @@
 // Where a key lives: its home page, from the numbers of the file and the key.
 ghost use mathlib.Core.Path.{_≡_};
-ghost use Prim.Native.Nat.{_≤_, _<_, min};
+ghost use Prim.Native.Nat.{_*_, _%_, _≤_, _<_, min};
 ghost use Rattle.homes.specs.Homes.{InRange, Ready, shapeOf, homeIn, newPage, moved};
 
 // The numbers of a file that its homes depend on: pages a group and groups at the start, sweeps, pages grown to.
@@ -9,6 +9,15 @@ pub struct Shape {
     pub n: u64,
     pub s: u64,
     pub p: u64,
+}
+
+// The draw after a draw; after the seed, the first.
+pub fn next_draw(draw: u64) -> u64
+    requires { ⌜ draw < 2147483647 ⌝ }
+    ensures { λ r. ⌜ r ≡ 16807 * draw % 2147483647 ⌝ }
+    ensures within { λ r. ⌜ r < 2147483647 ⌝ }
+{
+    16807 * draw % 2147483647
 }
 
 fn least(a: u64, b: u64) -> u64
@@ -64,7 +73,7 @@ impl Shape {
         let mut draw = seed;
         let mut np = n0;
         while f < p {
-            draw = draw * 16807 % 2147483647;
+            draw = next_draw(draw);
             address = step(s, f, g, p, draw * (np + 1) <= 2147483647, address);
             f += g;
             np += 1;

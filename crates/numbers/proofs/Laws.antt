@@ -6,7 +6,7 @@ use native.Mathlib.Nat.{add-assoc, add-zero, zero-add, pow-suc}
 use native.Mathlib.Numerals.{add-one}
 use native.Mathlib.Omega.{arith}
 use lib.ListN.{length, take, drop, getD, set, length-append, length-take, length-drop, take-append-drop, List·getD-append}
-use lib.Seq.{drop-cons, drop-drop, drop-length, length-take-le, take-at, drop-at, take-append-seam, getD-take, getD-drop, set-split}
+use lib.Seq.{take-append-le, drop-append-le, drop-cons, drop-drop, drop-length, length-take-le, take-at, drop-at, take-append-seam, getD-take, getD-drop, set-split}
 use Rattle.numbers.specs.Little.{little, bytesOf, numberAt, written}
 
 -- each element is a byte
@@ -86,6 +86,13 @@ number-bound w l at h b = rw (length-part w l at h) at (little-bound (take w (dr
 pub number-cons : (w : ℕ) (l : List ℕ) (at : ℕ) → at < length l → numberAt (w + 1) l at ≡ getD l at 0 + 256 * numberAt w l (at + 1)
 unfolding numberAt little
 number-cons w l at h = rw (add-one w, drop-cons l at 0 h, add-one at)
+
+-- a number within bytes is the same with more behind them
+pub number-front : (w : ℕ) (l m : List ℕ) (at : ℕ) → at + w ≤ length l → numberAt w (l ++ m) at ≡ numberAt w l at
+unfolding numberAt
+number-front w l m at h =
+    let n : w ≤ length (drop at l) = omega (arith, length-drop at l) in
+    rw (drop-append-le at l m (omega arith), take-append-le w (drop at l) m n)
 
 -- the number whose bytes stand between others
 pub number-between : (w x : ℕ) (p q : List ℕ) (at : ℕ) → length p ≡ at → x < 256 ^ w → numberAt w (p ++ (bytesOf w x ++ q)) at ≡ x

@@ -4,7 +4,7 @@ use Rattle.state.specs.declared.Answer.{Answer}
 use Rattle.state.specs.declared.Answer.the-variants.{Accepted, OutOfRange, WrongArea, WrongRow, Broken, Absent, Held, NoRoom, AtCap, NotImage}
 use Rattle.state.specs.declared.Numbers.{Numbers}
 
-abbrev told : (refusal page value read moved : ℕ) → Numbers
+abbrev pub told : (refusal page value read moved : ℕ) → Numbers
 told refusal page value read moved = record { refusal = refusal; page = page; value = value; read = read; moved = moved }
 
 -- "page is 0 except for 4, value 0 except for 6, moved 0. For accepted calls page is 0"; "refusals 1, 2, 3, 8 .. read 0"

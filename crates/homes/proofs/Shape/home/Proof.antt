@@ -1,7 +1,7 @@
 -- `homes::Shape::home` meets its contract. The loop's invariant is `Before`: what is left to do leads home.
 -- The measure is what is left to the size p.
 use mathlib.Core.Path.{sym, _∙_}
-use Prim.Native.Nat.{ℕ, suc, _-_, _*_, _%_, _^_, _≤_, _<_}
+use Prim.Native.Nat.{ℕ, suc, _-_, _*_, _^_, _≤_, _<_}
 use native.Mathlib.Nat.{mod-lt, mul-pos, mul-le-mul-left}
 use native.Mathlib.Omega.{arith}
 use borrow.Author.Needs.{needs}
@@ -26,8 +26,8 @@ small c =
     (omega (arith, l .inv .draw-is, draw-below (at .args .key) (l .inv .i)), omega (arith, l .inv .np-is, mod-lt (l .inv .i) (at .pre .n0-low), at .pre .n0-high))
 
 -- a draw times np + 1 fits
-product-fits : (d m : ℕ) → m ≤ 8 → d % 2147483647 * m < 2 ^ 64
-product-fits d m h = omega (arith, mul-le-mul-left (d % 2147483647) h)
+product-fits : (d m : ℕ) → d < 2147483647 → m ≤ 8 → d * m < 2 ^ 64
+product-fits d m b h = omega (arith, mul-le-mul-left d h)
 
 add-seed : tie.Need-add-seed Inv-loop μ-loop
 add-seed c = search needs
@@ -43,14 +43,14 @@ loop-holds c =
     let self = c .args .self in
     starts (self .n0) (self .n) (self .s) (self .p) (c .args .key) (c .pre .n0-low) (c .pre .N-low)
 
-mul-draw : tie.Need-mul-draw Inv-loop μ-loop
-mul-draw c = omega (arith, small c)
+next-draw-requires : tie.Need-next-draw-requires Inv-loop μ-loop
+next-draw-requires c κs = small c .0
 
 add-step : tie.Need-add-step Inv-loop μ-loop
-add-step c = omega (arith, small c)
+add-step c = omega (arith, small (c .before))
 
 mul-step : tie.Need-mul-step Inv-loop μ-loop
-mul-step c = record { fits = product-fits _ _ (omega (arith, small c)) }
+mul-step c = record { fits = product-fits _ _ (c .next-draw .ensures .1) (omega (arith, small (c .before))) }
 
 step-requires : tie.Need-step-requires Inv-loop μ-loop
 step-requires c κs = search needs
@@ -59,7 +59,7 @@ add-f : tie.Need-add-f Inv-loop μ-loop
 add-f c = search needs
 
 add-np : tie.Need-add-np Inv-loop μ-loop
-add-np c = omega (arith, small (c .before))
+add-np c = omega (arith, small (c .before .before))
 
 mul-if1 : tie.Need-mul-if1 Inv-loop μ-loop
 mul-if1 c = search needs
@@ -72,20 +72,22 @@ loop-less c = search needs
 
 loop-again : tie.Need-loop-again Inv-loop μ-loop
 loop-again c =
-    let at = c .before .before .before in
+    let draw = c .before .before in
+    let at = draw .before .before in
     let self = at .before .args .self in
     let l = at .loop in
-    turn-over (self .n0) (self .n) (self .s) (self .p) (at .before .args .key) (l .g) (l .f) (l .address) (l .draw) (l .np) (c .before .step .result) (l .inv) (c .before .before .loop-test .taken) (at .before .pre .n0-low) (c .before .step .ensures) (c .if1 .taken)
+    turn-over (self .n0) (self .n) (self .s) (self .p) (at .before .args .key) (l .g) (l .f) (l .address) (l .draw) (draw .next-draw .result) (l .np) (c .before .step .result) (l .inv) (draw .before .loop-test .taken) (at .before .pre .n0-low) (draw .next-draw .ensures .0) (c .before .step .ensures) (c .if1 .taken)
 
 loop-less-2 : tie.Need-loop-less-2 Inv-loop μ-loop
 loop-less-2 c = search needs
 
 loop-again-2 : tie.Need-loop-again-2 Inv-loop μ-loop
 loop-again-2 c =
-    let at = c .before .before .before in
+    let draw = c .before .before in
+    let at = draw .before .before in
     let self = at .before .args .self in
     let l = at .loop in
-    turn-on (self .n0) (self .n) (self .s) (self .p) (at .before .args .key) (l .g) (l .f) (l .address) (l .draw) (l .np) (c .before .step .result) (l .inv) (c .before .before .loop-test .taken) (at .before .pre .n0-low) (c .before .step .ensures) (c .if1 .left)
+    turn-on (self .n0) (self .n) (self .s) (self .p) (at .before .args .key) (l .g) (l .f) (l .address) (l .draw) (draw .next-draw .result) (l .np) (c .before .step .result) (l .inv) (draw .before .loop-test .taken) (at .before .pre .n0-low) (draw .next-draw .ensures .0) (c .before .step .ensures) (c .if1 .left)
 
 returns : tie.Need-returns Inv-loop μ-loop
 returns c =
@@ -104,7 +106,7 @@ home-spec =
     mul-f
     rem-address
     loop-holds
-    mul-draw
+    next-draw-requires
     add-step
     mul-step
     step-requires

@@ -1,0 +1,7 @@
+pub mod Reading
+pub mod Replying
+pub mod ToTheByte
+pub mod Lending
+pub mod Carrying
+pub mod Turning
+pub mod Parts

@@ -1,0 +1,120 @@
+-- A command is read from the bytes of its layout, and from no others.
+use mathlib.Core.Path.{_≡_, refl, sym, _∙_}
+use mathlib.Core.Bool.{Bool, true, false, cond}
+use mathlib.Core.List.{List, [], _∷_, _++_}
+use Prim.Native.Nat.{ℕ, _+_, _≤_}
+use native.Mathlib.Omega.{arith}
+use lib.Dec.{eqb, ltb}
+use lib.ListN.{length, take, length-append}
+use borrow.Author.Tests.{eq-eqb, eqb-true, ltb-false}
+use Rattle.numbers.specs.Little.{numberAt}
+use Rattle.numbers.specs.Fields.{Field, width, encode, matches}
+use Rattle.numbers.proofs.Laws.{Bytes}
+use Rattle.numbers.proofs.Records.{Fit, length-encode, match-first, match-rest, matches-sound, matches-complete}
+use Rattle.commands.specs.declared.Kind.{Kind}
+use Rattle.commands.specs.declared.Kind.the-variants as kind
+use Rattle.commands.specs.declared.Form.{Form}
+use Rattle.commands.specs.declared.Form.the-variants as form
+use Rattle.commands.specs.declared.Command.{Command}
+use Rattle.commands.specs.declared.Command.the-variants.{Format, Put, Find, Remove, Grow, Check}
+use Rattle.commands.specs.declared.Item.{Item}
+use Rattle.commands.specs.declared.Item.the-variants.{Asks, Unknown, Cut}
+use Rattle.commands.specs.Records.{lengthOf, formOf, commandOf, formed, firstOf, layoutOf}
+use Rattle.commands.proofs.Reading.{numberOf, head-low, known-form, Of, of-number, whole}
+
+-- the numbers from an offset on are those of the fields
+abbrev Says : List ℕ → ℕ → List Field → Type 0
+Says l at [] = Unit
+Says l at (f ∷ fs) = (numberAt (f .0) l at ≡ f .1) × Says l (at + f .0) fs
+
+-- so they are where the fields match
+says : (fs : List Field) (l : List ℕ) (at : ℕ) → matches l at fs ≡ true → Says l at fs
+says [] l at m = tt
+says (f ∷ fs) l at m = (match-first (f .0) (f .1) fs l at m, says fs l (at + f .0) (match-rest (f .0) (f .1) fs l at m))
+
+-- and there the fields match
+match : (fs : List Field) (l : List ℕ) (at : ℕ) → Says l at fs → matches l at fs ≡ true
+match [] l at s = refl
+match (f ∷ fs) l at s = rw (eq-eqb (numberAt (f .0) l at) (f .1) (s .0)) (match fs l (at + f .0) (s .1))
+
+-- bytes tell a command: its kind's length and number, and its own numbers
+record Tells (l : List ℕ) (c : Command) : Type 0 where
+  what : Kind
+  first : numberAt 2 l 0 ≡ lengthOf what
+  second : numberAt 2 l 2 ≡ numberOf what
+  body : c ≡ commandOf what l
+
+-- so they do where they say the fields of its layout
+tells : (l : List ℕ) (c : Command) → Says l 0 (layoutOf c) → Tells l c
+tells l (Format n0 N s cap) t = record { what = kind.Format; first = t .0; second = t .1 .0; body = cc }
+tells l (Put k v) t = record { what = kind.Put; first = t .0; second = t .1 .0; body = cc }
+tells l (Find k) t = record { what = kind.Find; first = t .0; second = t .1 .0; body = cc }
+tells l (Remove k) t = record { what = kind.Remove; first = t .0; second = t .1 .0; body = cc }
+tells l Grow t = record { what = kind.Grow; first = t .0; second = t .1 .0; body = refl }
+tells l Check t = record { what = kind.Check; first = t .0; second = t .1 .0; body = refl }
+
+-- and where they have a kind's length and number, they say the fields of what is read with it
+kind-says : (k : Kind) (l : List ℕ) → numberAt 2 l 0 ≡ lengthOf k → numberAt 2 l 2 ≡ numberOf k → Says l 0 (layoutOf (commandOf k l))
+kind-says kind.Format l f s = (f, (s, (refl, (refl, (refl, (refl, tt))))))
+kind-says kind.Put l f s = (f, (s, (refl, (refl, tt))))
+kind-says kind.Find l f s = (f, (s, (refl, tt)))
+kind-says kind.Remove l f s = (f, (s, (refl, tt)))
+kind-says kind.Grow l f s = (f, (s, tt))
+kind-says kind.Check l f s = (f, (s, tt))
+
+-- which take as many bytes as the kind's length says
+kind-width : (k : Kind) (l : List ℕ) → width (layoutOf (commandOf k l)) ≡ lengthOf k
+kind-width kind.Format l = refl
+kind-width kind.Put l = refl
+kind-width kind.Find l = refl
+kind-width kind.Remove l = refl
+kind-width kind.Grow l = refl
+kind-width kind.Check l = refl
+
+-- so a command takes as many as the length of the kind that is told
+told-width : (l : List ℕ) (c : Command) (t : Tells l c) → width (layoutOf c) ≡ lengthOf (t .what)
+told-width l c t = rw (t .body) (kind-width (t .what) l)
+
+-- a command's bytes at the start of an input are read as the command
+pub reads : (c : Command) (rest : List ℕ) → Fit (layoutOf c) → firstOf (encode (layoutOf c) ++ rest) ≡ Asks c (width (layoutOf c))
+reads c rest fit =
+    let l : List ℕ = encode (layoutOf c) ++ rest in
+    let t : Tells l c = tells l c (says (layoutOf c) l 0 (matches-complete (layoutOf c) [] rest 0 refl fit)) in
+    let w : width (layoutOf c) ≡ lengthOf (t .what) = told-width l c t in
+    let n : length l ≡ width (layoutOf c) + length rest = rw (length-append, length-encode) in
+    let f : formOf (numberAt 2 l 2) ≡ form.Known (t .what) (lengthOf (t .what)) = sym (known-form (t .what) (numberAt 2 l 2) (t .second)) in
+    rw w (sym (whole l (omega (arith, head-low (t .what))) refl refl f refl (t .first) (omega arith) c (t .body)))
+
+module _ (c : Command) (n : ℕ) where
+  -- an input that asks for a command is not cut off
+  not-cut : (t : Bool) (i : Item) → cond t Cut i ≡ Asks c n → (t ≡ false) × (i ≡ Asks c n)
+  not-cut true i e = (cc, cc)
+  not-cut false i e = (refl, e)
+
+  -- nor is its kind unknown, or its length wrong
+  not-unknown : (t : Bool) (i : Item) → cond t i Unknown ≡ Asks c n → (t ≡ true) × (i ≡ Asks c n)
+  not-unknown true i e = (refl, e)
+  not-unknown false i e = (cc, cc)
+
+  -- so it tells the command, and its record lies within the input
+  asks-told : (l : List ℕ) (f : Form) → Of (numberAt 2 l 2) f → formed l f ≡ Asks c n → (t : Tells l c) × (n ≡ lengthOf (t .what)) × (n ≤ length l)
+  asks-told l form.Unknown h e = let z : _≡_ {A = ℕ} 0 1 = cc in absurd (omega arith)
+  asks-told l (form.Known k m) h e =
+      let u = not-unknown (eqb (numberAt 2 l 0) m) _ e in
+      let v = not-cut (ltb (length l) m) _ (u .1) in
+      let w = h k m refl in
+      let d : m ≡ n = cc in (
+        record { what = k; first = eqb-true (numberAt 2 l 0) m (u .0) ∙ w .1; second = w .0; body = cc },
+        sym d ∙ w .1,
+        omega (arith, ltb-false (length l) m (v .0)),
+      )
+
+-- what is read as a command are the command's bytes
+pub read-only : (l : List ℕ) (c : Command) (n : ℕ) → Bytes l → firstOf l ≡ Asks c n → (n ≡ width (layoutOf c)) × (take n l ≡ encode (layoutOf c))
+unfolding firstOf
+read-only l c n b e =
+    let w = asks-told c n l (formOf (numberAt 2 l 2)) (of-number (numberAt 2 l 2)) (not-cut c n (ltb (length l) 4) _ e .1) in
+    let t : Tells l c = w .0 in
+    let q : width (layoutOf c) ≡ n = told-width l c t ∙ sym (w .1) in
+    let m : matches l 0 (layoutOf c) ≡ true = match (layoutOf c) l 0 (rw (t .body) (kind-says (t .what) l (t .first) (t .second))) in
+    (sym q, rw q at (matches-sound (layoutOf c) l 0 b (omega (arith, w .2)) m))

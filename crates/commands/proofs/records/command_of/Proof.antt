@@ -1,0 +1,92 @@
+-- `commands::records::command_of` meets its contract: the record is as long as its kind's, so each number lies in it.
+use native.Mathlib.Omega.{arith}
+use borrow.Author.Needs.{needs}
+use Rattle.commands.specs.declared.Kind.the-variants as kind
+use Rattle.commands.proofs.Reading.{long}
+use Rattle.commands.proofs.records.command_of.Statement.{statement}
+use Rattle.commands.proofs.records.command_of.Tie as tie
+
+enum-told : tie.Need-enum-told
+enum-told c = search needs
+
+get-u16-requires : tie.Need-get-u16-requires
+get-u16-requires c κs = omega (arith, long _ _ kind.Format (c .before .before .before .pre) (c .enum-told .given .1))
+
+get-u16-requires-2 : tie.Need-get-u16-requires-2
+get-u16-requires-2 c κs = omega (arith, long _ _ kind.Format (c .before .before .before .before .pre) (c .before .enum-told .given .1))
+
+get-u16-requires-3 : tie.Need-get-u16-requires-3
+get-u16-requires-3 c κs = omega (arith, long _ _ kind.Format (c .before .before .before .before .before .pre) (c .before .before .enum-told .given .1))
+
+get-u16-requires-4 : tie.Need-get-u16-requires-4
+get-u16-requires-4 c κs = long _ _ kind.Format (c .before .before .before .before .before .before .pre) (c .before .before .before .enum-told .given .1)
+
+enum-told-2 : tie.Need-enum-told-2
+enum-told-2 c = search needs
+
+get-u64-requires : tie.Need-get-u64-requires
+get-u64-requires c κs = omega (arith, long _ _ kind.Put (c .before .before .before .pre) (c .enum-told2 .given .1))
+
+get-u64-requires-2 : tie.Need-get-u64-requires-2
+get-u64-requires-2 c κs = long _ _ kind.Put (c .before .before .before .before .pre) (c .before .enum-told2 .given .1)
+
+enum-told-3 : tie.Need-enum-told-3
+enum-told-3 c = search needs
+
+get-u64-requires-3 : tie.Need-get-u64-requires-3
+get-u64-requires-3 c κs = long _ _ kind.Find (c .before .before .before .pre) (c .enum-told3 .given .1)
+
+enum-told-4 : tie.Need-enum-told-4
+enum-told-4 c = search needs
+
+get-u64-requires-4 : tie.Need-get-u64-requires-4
+get-u64-requires-4 c κs = long _ _ kind.Remove (c .before .before .before .pre) (c .enum-told4 .given .1)
+
+enum-told-5 : tie.Need-enum-told-5
+enum-told-5 c = search needs
+
+enum-told-6 : tie.Need-enum-told-6
+enum-told-6 c = search needs
+
+returns : tie.Need-returns
+returns c = cc
+
+returns-2 : tie.Need-returns-2
+returns-2 c = cc
+
+returns-3 : tie.Need-returns-3
+returns-3 c = cc
+
+returns-4 : tie.Need-returns-4
+returns-4 c = cc
+
+returns-5 : tie.Need-returns-5
+returns-5 c = search needs
+
+returns-6 : tie.Need-returns-6
+returns-6 c = search needs
+
+pub command-of-spec : {M : Type 1} → statement M
+command-of-spec =
+    tie.close
+    (tie.spec
+    enum-told
+    get-u16-requires
+    get-u16-requires-2
+    get-u16-requires-3
+    get-u16-requires-4
+    enum-told-2
+    get-u64-requires
+    get-u64-requires-2
+    enum-told-3
+    get-u64-requires-3
+    enum-told-4
+    get-u64-requires-4
+    enum-told-5
+    enum-told-6
+    returns
+    returns-2
+    returns-3
+    returns-4
+    returns-5
+    returns-6)

@@ -1,0 +1,80 @@
+-- `commands::records::reply` meets its contract: its fields, stored one after the other, are all of the reply's bytes.
+use mathlib.Core.Path.{_≡_}
+use mathlib.Core.Logic.{⊎-elim}
+use native.Mathlib.Omega.{arith}
+use borrow.Author.Needs.{needs}
+use Rattle.state.specs.State.{isDue}
+use Rattle.commands.specs.Records.{bit}
+use Rattle.commands.proofs.Replying.{reply-stored}
+use Rattle.commands.proofs.records.reply.Statement.{statement}
+use Rattle.commands.proofs.records.reply.Tie as tie
+
+due-requires : tie.Need-due-requires
+due-requires c κs = search needs
+
+put-u16-requires : tie.Need-put-u16-requires
+put-u16-requires c κs = search needs
+
+put-u16-requires-2 : tie.Need-put-u16-requires-2
+put-u16-requires-2 c κs = search needs
+
+put-u16-requires-3 : tie.Need-put-u16-requires-3
+put-u16-requires-3 c κs = search needs
+
+put-u16-requires-4 : tie.Need-put-u16-requires-4
+put-u16-requires-4 c κs = search needs
+
+put-u64-requires : tie.Need-put-u64-requires
+put-u64-requires c κs = search needs
+
+put-u32-requires : tie.Need-put-u32-requires
+put-u32-requires c κs = search needs
+
+put-u32-requires-2 : tie.Need-put-u32-requires-2
+put-u32-requires-2 c κs = search needs
+
+put-u16-requires-5 : tie.Need-put-u16-requires-5
+put-u16-requires-5 c κs = search needs
+
+-- `omega` enters too few records from `c` to find the length that it began with
+put-u16-requires-6 : tie.Need-put-u16-requires-6
+put-u16-requires-6 c κs =
+    let f = c .before .before .before .before .before .before .before .before .before .before .before .before .before .before .before .before .before .before in
+    omega arith
+
+same-length : tie.Need-same-length
+same-length c = search needs
+
+returns : tie.Need-returns
+returns c =
+    let p₉ = c .before .before in
+    let p₈ = p₉ .before .before .before .before in
+    let p₇ = p₈ .before .before .before .before in
+    let p₆ = p₇ .before .before .before .before in
+    let p₅ = p₆ .before .before .before .before in
+    let p₄ = p₅ .before .before .before .before in
+    let p₃ = p₄ .before .before .before .before in
+    let p₂ = p₃ .before .before .before .before in
+    let p₁ = p₂ .before .before .before .before in
+    let j = p₁ .before .before in
+    let s = j .before .before .before in
+    let d : j .if1 .due ≡ bit (isDue (s .args .state)) = ⊎-elim (λ w. cc) (λ w. cc) (j .if1 .came) in
+    reply-stored (s .args .told) (s .args .state) _ (s .pre) d (p₁ .put-u16 .ensures) (p₂ .put-u162 .ensures) (p₃ .put-u163 .ensures) (p₄ .put-u164 .ensures)
+    (p₅ .put-u64 .ensures) (p₆ .put-u32 .ensures) (p₇ .put-u322 .ensures) (p₈ .put-u165 .ensures) (p₉ .put-u166 .ensures)
+
+pub reply-spec : {M : Type 1} → statement M
+reply-spec =
+    tie.close
+    (tie.spec
+    due-requires
+    put-u16-requires
+    put-u16-requires-2
+    put-u16-requires-3
+    put-u16-requires-4
+    put-u64-requires
+    put-u32-requires
+    put-u32-requires-2
+    put-u16-requires-5
+    put-u16-requires-6
+    same-length
+    returns)

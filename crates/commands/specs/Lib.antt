@@ -1,0 +1,4 @@
+pub mod Records
+pub mod Carry
+pub mod Log
+pub mod Within

@@ -1,0 +1,77 @@
+-- The log's records to the byte (01, 'The log program'). What is quoted is 01's.
+use Prim.Native.Nat.{ℕ}
+use mathlib.Core.Bool.{Bool, cond}
+use mathlib.Core.List.{List, [], _∷_}
+use lib.ListN.{length}
+use lib.Dec.{eqb, ltb}
+use Rattle.numbers.specs.Little.{numberAt}
+use Rattle.numbers.specs.Fields.{Field}
+use Rattle.state.specs.declared.State.{State}
+use Rattle.state.specs.declared.Numbers.{Numbers}
+use Rattle.state.specs.State.{isDue}
+use Rattle.commands.specs.declared.Kind.{Kind}
+use Rattle.commands.specs.declared.Kind.the-variants as kind
+use Rattle.commands.specs.declared.Form.{Form}
+use Rattle.commands.specs.declared.Form.the-variants as form
+use Rattle.commands.specs.declared.Command.{Command}
+use Rattle.commands.specs.declared.Command.the-variants.{Format, Put, Find, Remove, Grow, Check}
+use Rattle.commands.specs.declared.Item.{Item}
+use Rattle.commands.specs.declared.Item.the-variants.{Asks, Unknown, Cut}
+
+-- "257 format: n0, N, s, cap (2 bytes each), length 12. 258 put: key, value, length 20. 259 find and 260 remove: key, length 12. 261 grow and 262 check: length 4."
+abbrev pub lengthOf : Kind → ℕ
+lengthOf kind.Format = 12
+lengthOf kind.Put = 20
+lengthOf kind.Find = 12
+lengthOf kind.Remove = 12
+lengthOf kind.Grow = 4
+lengthOf kind.Check = 4
+
+abbrev known : Kind → Form
+known k = form.Known k (lengthOf k)
+
+-- "Kinds 257 to 262 are commands, 513 is a reply, all others are unknown; a reply is unknown as input."
+unfoldable pub formOf : ℕ → Form
+formOf k =
+    cond (eqb k 257) (known kind.Format)
+    (cond (eqb k 258) (known kind.Put)
+    (cond (eqb k 259) (known kind.Find)
+    (cond (eqb k 260) (known kind.Remove)
+    (cond (eqb k 261) (known kind.Grow)
+    (cond (eqb k 262) (known kind.Check) form.Unknown)))))
+
+-- the command of a record, whose body follows four bytes of length and kind
+abbrev pub commandOf : Kind → List ℕ → Command
+commandOf kind.Format l = Format (numberAt 2 l 4) (numberAt 2 l 6) (numberAt 2 l 8) (numberAt 2 l 10)
+commandOf kind.Put l = Put (numberAt 8 l 4) (numberAt 8 l 12)
+commandOf kind.Find l = Find (numberAt 8 l 4)
+commandOf kind.Remove l = Remove (numberAt 8 l 4)
+commandOf kind.Grow l = Grow
+commandOf kind.Check l = Check
+
+-- "then 10, then the body (11)": 10 is "unknown kind, or length wrong for it"
+abbrev pub formed : List ℕ → Form → Item
+formed l form.Unknown = Unknown
+formed l (form.Known k n) = cond (eqb (numberAt 2 l 0) n) (cond (ltb (length l) n) Cut (Asks (commandOf k l) n)) Unknown
+
+-- the first record of an input: "the four head bytes (11 if fewer)", then what they ask for. "Length covers the whole record."
+unfoldable pub firstOf : List ℕ → Item
+firstOf l = cond (ltb (length l) 4) Cut (formed l (formOf (numberAt 2 l 2)))
+
+-- the bytes of a command's record: length and kind, "length first", then its numbers. `reads` and `read-only` say that a command is read from these bytes and from no others.
+abbrev pub layoutOf : Command → List Field
+layoutOf (Format n0 N s cap) = (2, 12) ∷ (2, 257) ∷ (2, n0) ∷ (2, N) ∷ (2, s) ∷ (2, cap) ∷ []
+layoutOf (Put k v) = (2, 20) ∷ (2, 258) ∷ (8, k) ∷ (8, v) ∷ []
+layoutOf (Find k) = (2, 12) ∷ (2, 259) ∷ (8, k) ∷ []
+layoutOf (Remove k) = (2, 12) ∷ (2, 260) ∷ (8, k) ∷ []
+layoutOf Grow = (2, 4) ∷ (2, 261) ∷ []
+layoutOf Check = (2, 4) ∷ (2, 262) ∷ []
+
+abbrev pub bit : Bool → ℕ
+bit u = cond u 1 0
+
+-- "Reply, length 28: length, kind, refusal, page (2 each), value (8), pages read, moved (4 each), P, due as 0 or 1 (2 each, both of the state after the command ..)"
+abbrev pub replyOf : Numbers → State → List Field
+replyOf n s =
+    (2, 28) ∷ (2, 513) ∷ (2, n .refusal) ∷ (2, n .page) ∷ (8, n .value) ∷ (4, n .read) ∷ (4, n .moved) ∷ (2, s .p)
+    ∷ (2, bit (isDue s)) ∷ []

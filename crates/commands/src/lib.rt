@@ -1,0 +1,173 @@
+// The log: commands read from bytes, carried out on a state and lent pages, and answered in bytes.
+pub mod carry;
+pub mod records;
+
+use state::Numbers;
+use state::State;
+ghost use mathlib.Core.Path.{_≡_};
+ghost use Prim.Native.Nat.{_/_};
+ghost use lib.ListN.{length};
+ghost use Rattle.numbers.specs.Little.{written};
+ghost use Rattle.commands.specs.Carry.{site};
+ghost use Rattle.commands.specs.Log.{turn, log, bytesOfAll, ranOf};
+ghost use Rattle.commands.specs.Within.{stepOf, siteAfter, replyAfter, Takes, RanIn};
+
+// What a kind stands for.
+pub enum Kind {
+    Format,
+    Put,
+    Find,
+    Remove,
+    Grow,
+    Check,
+}
+
+// A kind's command, and the length of its record.
+pub enum Form {
+    Known { kind: Kind, length: u16 },
+    Unknown,
+}
+
+// A command with its numbers.
+pub enum Command {
+    Format { n0: u16, n: u16, s: u16, cap: u16 },
+    Put { key: u64, value: u64 },
+    Find { key: u64 },
+    Remove { key: u64 },
+    Grow,
+    Check,
+}
+
+// The first record of an input: a command and how many bytes it takes, no command, or cut off.
+pub enum Item {
+    Asks { command: Command, length: usize },
+    Unknown,
+    Cut,
+}
+
+// The state after a command, and the numbers of its reply.
+pub struct Told {
+    pub state: State,
+    pub numbers: Numbers,
+}
+
+// What comes of one record: nothing yet, a reply that is the last, or a reply after which the log goes on.
+pub enum Step {
+    Waits,
+    Stops,
+    Goes { state: State, length: usize },
+}
+
+// How far a log went: the state after it, the bytes taken and given, and whether it has stopped.
+pub struct Ran {
+    pub state: State,
+    pub taken: usize,
+    pub given: usize,
+    pub stopped: bool,
+}
+
+// The first record of the input carried out, and its reply written.
+fn serve_one(
+    state: State,
+    space: &mut [u8],
+    row: &mut [u32],
+    input: &[u8],
+    last: bool,
+    part: &mut [u8],
+) -> Step
+    requires { ⌜ length (now part) ≡ 28 ⌝ }
+    ensures { λ r. ⌜ r ≡ stepOf (turn last (site state (now (space .entry)) (now (row .entry))) (now (input .entry))) ⌝ }
+    ensures { λ _. ⌜ now (space .exit) ≡ siteAfter (site state (now (space .entry)) (now (row .entry))) (turn last (site state (now (space .entry)) (now (row .entry))) (now (input .entry))) .space ⌝ }
+    ensures { λ _. ⌜ now (row .exit) ≡ siteAfter (site state (now (space .entry)) (now (row .entry))) (turn last (site state (now (space .entry)) (now (row .entry))) (now (input .entry))) .row ⌝ }
+    ensures { λ _. ⌜ now (part .exit) ≡ replyAfter (site state (now (space .entry)) (now (row .entry))) (now (part .entry)) (turn last (site state (now (space .entry)) (now (row .entry))) (now (input .entry))) ⌝ }
+    ensures within { λ r. ⌜ Takes (length (now (input .entry))) r ⌝ }
+{
+    if input.len() == 0 {
+        return Step::Waits;
+    }
+    let item = records::first(input);
+    match item {
+        Item::Asks { command, length } => {
+            let told = carry::carry_out(state, space, row, command);
+            let after = told.state;
+            let numbers = told.numbers;
+            records::reply(part, numbers, after);
+            Step::Goes {
+                state: after,
+                length,
+            }
+        }
+        Item::Unknown => {
+            records::reply(part, carry::refused(10), state);
+            Step::Stops
+        }
+        Item::Cut => {
+            if !last {
+                return Step::Waits;
+            }
+            records::reply(part, carry::refused(11), state);
+            Step::Stops
+        }
+    }
+}
+
+// A log, as far as its input and the room for its replies go. The input may come in parts: `last` says that none follows, and what was not taken goes before the next.
+pub fn log(
+    state: State,
+    space: &mut [u8],
+    row: &mut [u32],
+    input: &[u8],
+    last: bool,
+    replies: &mut [u8],
+) -> Ran
+    ensures { λ r. ⌜ r ≡ ranOf (log last (length (now (replies .entry)) / 28) (site state (now (space .entry)) (now (row .entry))) (now (input .entry))) ⌝ }
+    ensures { λ _. ⌜ now (space .exit) ≡ log last (length (now (replies .entry)) / 28) (site state (now (space .entry)) (now (row .entry))) (now (input .entry)) .site .space ⌝ }
+    ensures { λ _. ⌜ now (row .exit) ≡ log last (length (now (replies .entry)) / 28) (site state (now (space .entry)) (now (row .entry))) (now (input .entry)) .site .row ⌝ }
+    ensures { λ _. ⌜ now (replies .exit) ≡ written (now (replies .entry)) 0 (bytesOfAll (log last (length (now (replies .entry)) / 28) (site state (now (space .entry)) (now (row .entry))) (now (input .entry)) .replies)) ⌝ }
+    ensures within { λ r. ⌜ RanIn (length (now (input .entry))) (length (now (replies .entry))) r ⌝ }
+{
+    let room = replies.len() / 28;
+    let mut after = state;
+    let mut taken = 0;
+    let mut told = 0;
+    while told < room {
+        let at = 28 * told;
+        let step = serve_one(
+            after,
+            space,
+            row,
+            &input[taken..],
+            last,
+            &mut replies[at..at + 28],
+        );
+        match step {
+            Step::Waits => {
+                return Ran {
+                    state: after,
+                    taken,
+                    given: at,
+                    stopped: false,
+                };
+            }
+            Step::Stops => {
+                return Ran {
+                    state: after,
+                    taken,
+                    given: at + 28,
+                    stopped: true,
+                };
+            }
+            Step::Goes { state, length } => {
+                after = state;
+                taken += length;
+                told += 1;
+            }
+        }
+    }
+    Ran {
+        state: after,
+        taken,
+        given: 28 * told,
+        stopped: false,
+    }
+}

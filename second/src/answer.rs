@@ -1,0 +1,58 @@
+//! What a call answers.
+
+use crate::state::State;
+
+pub const OUT_OF_RANGE: u16 = 1;
+pub const WRONG_AREA: u16 = 2;
+pub const WRONG_ROW: u16 = 3;
+pub const BROKEN: u16 = 4;
+pub const ABSENT: u16 = 5;
+pub const HELD: u16 = 6;
+pub const NO_ROOM: u16 = 7;
+pub const GROWN_OUT: u16 = 8;
+pub const NOT_THE_IMAGE: u16 = 9;
+pub const BAD_RECORD: u16 = 10;
+pub const CUT_OFF: u16 = 11;
+pub const TOO_MANY_PAGES: u16 = 12;
+
+/// The answer with the state after the call. Refusal 0 means accepted.
+#[derive(Clone, Copy, Debug, PartialEq, Eq)]
+pub struct Answer {
+    pub refusal: u16,
+    pub page: u16,
+    pub value: u64,
+    pub read: u32,
+    pub moved: u32,
+    pub state: State,
+}
+
+impl Answer {
+    /// Accepted, leaving this state; "page is 0, and value is 0 for all but
+    /// find".
+    pub fn accepted(state: State, read: usize) -> Answer {
+        Answer {
+            refusal: 0,
+            page: 0,
+            value: 0,
+            read: read as u32,
+            moved: 0,
+            state,
+        }
+    }
+
+    /// Refused: "a refusal leaves area and state unchanged".
+    pub fn refused(state: State, refusal: u16, read: usize) -> Answer {
+        Answer {
+            refusal,
+            ..Answer::accepted(state, read)
+        }
+    }
+
+    /// Refused for a broken page, the only refusal that tells a page.
+    pub fn broken(state: State, page: usize, read: usize) -> Answer {
+        Answer {
+            page: page as u16,
+            ..Answer::refused(state, BROKEN, read)
+        }
+    }
+}

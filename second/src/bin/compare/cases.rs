@@ -1,0 +1,188 @@
+//! Single raw calls on files of all kinds, right and wrong.
+
+use crate::breaks::break_page;
+use crate::chains::chain;
+use crate::files::{image, parameters, File};
+use crate::loose::{loosen, scatter, wrong_count};
+use crate::random::Random;
+use crate::sink::Sink;
+use crate::wrong::{wrong_format, wrong_length, wrong_row, wrong_state};
+use second::page::PAGE_BYTES;
+use second::raw::Case;
+
+/// Generates one scene: a file and some calls on it.
+pub fn scene(random: &mut Random, sink: &mut Sink) -> Result<(), String> {
+    match random.index(40) {
+        0..=2 => chain(random, sink),
+        3..=8 => {
+            let mut file = image(random);
+            several(random, &mut file, sink)
+        }
+        9..=11 => out_of_range(random, sink),
+        12..=14 => lengths(random, sink),
+        15..=21 => broken(random, sink),
+        22..=27 => loosened(random, sink),
+        28..=33 => scattered(random, sink),
+        34..=35 => mismatched(random, sink),
+        36 => noise(random, sink),
+        _ => formats(random, sink),
+    }
+}
+
+/// A call on a file, with a row of the right length for grow.
+pub fn some_call(random: &mut Random, file: &mut File) -> Case {
+    let kind = random.pick(&[256, 258, 258, 258, 259, 259, 260, 260, 260, 261, 261, 262]);
+    call_of(random, file, kind)
+}
+
+fn call_of(random: &mut Random, file: &mut File, kind: u16) -> Case {
+    let entries = if kind == 261 {
+        usize::from(file.state.cap)
+    } else {
+        random.index(3)
+    };
+    let row = (0..entries).map(|_| random.next() as u32).collect();
+    let (a, b) = match kind {
+        258 => (file.some_key(random), random.value()),
+        259 | 260 => (file.some_key(random), 0),
+        _ => (0, 0),
+    };
+    Case {
+        kind,
+        state: file.state,
+        a,
+        b,
+        area: file.area.clone(),
+        row,
+    }
+}
+
+fn several(random: &mut Random, file: &mut File, sink: &mut Sink) -> Result<(), String> {
+    for _ in 0..random.within(2, 8) {
+        let case = some_call(random, file);
+        sink.ask(case)?;
+    }
+    Ok(())
+}
+
+/// Calls with a state number out of range, low or high.
+fn out_of_range(random: &mut Random, sink: &mut Sink) -> Result<(), String> {
+    let mut file = image(random);
+    for _ in 0..6 {
+        let mut case = some_call(random, &mut file);
+        case.state = wrong_state(random, file.state);
+        sink.ask(case)?;
+    }
+    Ok(())
+}
+
+/// Areas and rows of wrong lengths.
+fn lengths(random: &mut Random, sink: &mut Sink) -> Result<(), String> {
+    let mut file = image(random);
+    for _ in 0..4 {
+        let mut case = some_call(random, &mut file);
+        wrong_length(random, &mut case.area);
+        sink.ask(case)?;
+        let mut case = call_of(random, &mut file, 261);
+        wrong_row(random, &mut case.row);
+        sink.ask(case)?;
+    }
+    Ok(())
+}
+
+/// An image with one broken page or two, asked for keys that meet it or not.
+fn broken(random: &mut Random, sink: &mut Sink) -> Result<(), String> {
+    let mut file = image(random);
+    if random.one_in(4) {
+        scatter(random, &mut file);
+    }
+    for _ in 0..if random.one_in(3) { 2 } else { 1 } {
+        let address = random.index(usize::from(file.state.cap));
+        break_page(random, file.state, &mut file.area, address);
+    }
+    several(random, &mut file, sink)
+}
+
+fn loosened(random: &mut Random, sink: &mut Sink) -> Result<(), String> {
+    let mut file = image(random);
+    loosen(random, &mut file);
+    several(random, &mut file, sink)
+}
+
+fn scattered(random: &mut Random, sink: &mut Sink) -> Result<(), String> {
+    let mut file = image(random);
+    scatter(random, &mut file);
+    several(random, &mut file, sink)?;
+    // A broken page among scattered ones meets shifts that images never ask.
+    let address = random.index(usize::from(file.state.cap));
+    break_page(random, file.state, &mut file.area, address);
+    several(random, &mut file, sink)
+}
+
+/// r at 0 or at 12 x cap, or elsewhere, with pages that hold another number.
+fn mismatched(random: &mut Random, sink: &mut Sink) -> Result<(), String> {
+    let mut file = image(random);
+    for _ in 0..3 {
+        wrong_count(random, &mut file.state);
+        let kind = random.pick(&[258, 260, 261, 262]);
+        let case = call_of(random, &mut file, kind);
+        sink.ask(case)?;
+        file.state.records = 0;
+        let case = call_of(random, &mut file, 260);
+        sink.ask(case)?;
+        file.state.records = file.state.most_records() as u32;
+        let case = call_of(random, &mut file, 258);
+        sink.ask(case)?;
+    }
+    Ok(())
+}
+
+/// Random bytes, whole areas or single stretches of them.
+fn noise(random: &mut Random, sink: &mut Sink) -> Result<(), String> {
+    let mut file = image(random);
+    if random.one_in(2) {
+        file.area = random.bytes(PAGE_BYTES * usize::from(file.state.cap));
+    } else {
+        let start = random.index(file.area.len());
+        let end = (start + random.index(40)).min(file.area.len());
+        let stretch = random.bytes(end - start);
+        file.area[start..end].copy_from_slice(&stretch);
+    }
+    several(random, &mut file, sink)
+}
+
+/// Formats over any state and any bytes, with numbers right and wrong.
+fn formats(random: &mut Random, sink: &mut Sink) -> Result<(), String> {
+    for _ in 0..4 {
+        let asked = parameters(random);
+        let before = wrong_state(random, asked);
+        let numbers = if random.one_in(3) {
+            [asked.n0, asked.groups, asked.sweeps, asked.cap]
+        } else {
+            wrong_format(random, asked)
+        };
+        let mut area = random.bytes(asked.area_bytes());
+        if random.one_in(4) {
+            wrong_length(random, &mut area);
+        }
+        let row = vec![random.next() as u32; random.index(3)];
+        let state = if random.one_in(2) { asked } else { before };
+        sink.ask(Case {
+            kind: 257,
+            state,
+            a: four_numbers(numbers),
+            b: 0,
+            area,
+            row,
+        })?;
+    }
+    Ok(())
+}
+
+/// The four numbers of a format as one, two bytes each, lowest first.
+pub fn four_numbers(numbers: [u16; 4]) -> u64 {
+    numbers
+        .iter()
+        .rev()
+        .fold(0, |all, &number| all << 16 | u64::from(number))
+}

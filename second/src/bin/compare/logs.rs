@@ -1,0 +1,270 @@
+//! Logs: sessions of commands, right and wrong, whole and cut off.
+
+use crate::files::parameters_for;
+use crate::keys::{extreme, Keys};
+use crate::random::Random;
+use second::state::State;
+
+/// Heads that the program has to refuse with 10: kinds and lengths.
+const WRONG_HEADS: [(u16, u16); 34] = [
+    (0, 4),
+    (4, 0),
+    (1, 12),
+    (12, 1),
+    (4, 256),
+    (4, 255),
+    (4, 263),
+    (12, 263),
+    (28, 513),
+    (4, 513),
+    (4, 65535),
+    (0, 257),
+    (3, 257),
+    (4, 257),
+    (11, 257),
+    (13, 257),
+    (20, 257),
+    (0, 258),
+    (3, 258),
+    (12, 258),
+    (19, 258),
+    (21, 258),
+    (11, 259),
+    (13, 259),
+    (20, 259),
+    (11, 260),
+    (13, 260),
+    (0, 261),
+    (3, 261),
+    (5, 261),
+    (3, 262),
+    (5, 262),
+    (65535, 262),
+    (12, 262),
+];
+
+fn command(kind: u16, body: &[u64]) -> Vec<u8> {
+    let mut bytes = Vec::new();
+    bytes.extend((4 + 8 * body.len() as u16).to_le_bytes());
+    bytes.extend(kind.to_le_bytes());
+    bytes.extend(body.iter().flat_map(|number| number.to_le_bytes()));
+    bytes
+}
+
+fn format(numbers: [u16; 4]) -> Vec<u8> {
+    let mut bytes = vec![12, 0, 1, 1];
+    bytes.extend(numbers.iter().flat_map(|number| number.to_le_bytes()));
+    bytes
+}
+
+/// The log of this number.
+pub fn log(seed: u64, number: u64) -> Vec<u8> {
+    let mut random = Random::new(seed, number ^ (1 << 60));
+    let round = (number / 20) as usize;
+    if number % 200 == 7 {
+        return long(&mut random, round / 10);
+    }
+    match number % 20 {
+        0 => cut_off(round),
+        1 => wrong_head(&mut random, round),
+        2 => odd_formats(&mut random),
+        3 => noise(&mut random),
+        4 => before_a_format(&mut random),
+        5 => large(&mut random),
+        _ => sensible(&mut random),
+    }
+}
+
+/// One log with every kind of command, cut off at one byte after the other,
+/// the empty and the whole one among them.
+fn cut_off(round: usize) -> Vec<u8> {
+    let mut whole = format([1, 1, 1, 2]);
+    whole.extend(command(258, &[5, 9]));
+    whole.extend(command(261, &[]));
+    whole.extend(command(259, &[5]));
+    whole.extend(command(262, &[]));
+    whole.extend(format([1, 1, 1, 129]));
+    whole.extend(command(260, &[5]));
+    whole.extend(command(258, &[u64::MAX, 0]));
+    whole.extend(command(262, &[]));
+    whole.truncate(round % (whole.len() + 1));
+    whole
+}
+
+/// A wrong head after some right commands, with or without bytes after it.
+fn wrong_head(random: &mut Random, round: usize) -> Vec<u8> {
+    let mut bytes = if random.one_in(4) {
+        Vec::new()
+    } else {
+        session(random, 4, 6)
+    };
+    let (length, kind) = WRONG_HEADS[round % WRONG_HEADS.len()];
+    bytes.extend(length.to_le_bytes());
+    bytes.extend(kind.to_le_bytes());
+    let after = random.index(30);
+    bytes.extend(random.bytes(after));
+    bytes.extend(command(262, &[]));
+    bytes
+}
+
+/// Formats of all sizes, some refused, with calls between them.
+fn odd_formats(random: &mut Random) -> Vec<u8> {
+    let mut bytes = Vec::new();
+    for _ in 0..random.within(1, 12) {
+        let cap = random.pick(&[0, 1, 2, 3, 64, 127, 128, 129, 130, 4096, 4097, 65535]);
+        let n0 = random.pick(&[1, 1, 1, 2, 4, 0, 5]);
+        let groups = random.pick(&[1, 1, 2, 32, 64, 0, 65]);
+        let sweeps = random.pick(&[1, 1, 8, 3, 0, 9]);
+        bytes.extend(format([n0, groups, sweeps, cap]));
+        for _ in 0..random.index(4) {
+            let key = random.within(0, 9);
+            bytes.extend(some_command(random, key));
+        }
+    }
+    bytes
+}
+
+fn some_command(random: &mut Random, key: u64) -> Vec<u8> {
+    match random.index(6) {
+        0 | 1 => command(258, &[key, random.value()]),
+        2 => command(259, &[key]),
+        3 => command(260, &[key]),
+        4 => command(261, &[]),
+        _ => command(262, &[]),
+    }
+}
+
+/// Random bytes, or right commands with a changed byte among them.
+fn noise(random: &mut Random) -> Vec<u8> {
+    if random.one_in(3) {
+        let length = random.index(60);
+        return random.bytes(length);
+    }
+    let mut bytes = session(random, 3, 20);
+    let at = random.index(bytes.len());
+    bytes[at] ^= 1 << random.index(8);
+    bytes
+}
+
+fn before_a_format(random: &mut Random) -> Vec<u8> {
+    let mut bytes = Vec::new();
+    for _ in 0..random.within(0, 8) {
+        let key = extreme(random);
+        bytes.extend(some_command(random, key));
+    }
+    if random.one_in(2) {
+        bytes.extend(session(random, 2, 10));
+    }
+    bytes
+}
+
+fn large(random: &mut Random) -> Vec<u8> {
+    let cap = random.pick(&[60, 100, 127, 128]);
+    let commands = random.within(20, 250);
+    session(random, cap, commands)
+}
+
+/// Logs of a few thousand commands; every eighth of them on many pages.
+fn long(random: &mut Random, round: usize) -> Vec<u8> {
+    let cap = if round.is_multiple_of(8) {
+        128
+    } else {
+        random.within(4, 30)
+    };
+    let commands = random.within(2000, 4000);
+    session(random, cap, commands)
+}
+
+fn sensible(random: &mut Random) -> Vec<u8> {
+    let most = random.pick(&[2, 4, 8, 16]);
+    let cap = random.within(1, most);
+    let commands = random.within(1, 120);
+    let mut bytes = session(random, cap, commands);
+    if random.one_in(5) {
+        let length = random.index(bytes.len() + 1);
+        bytes.truncate(length);
+    }
+    bytes
+}
+
+/// A format and commands after it: phases of filling, growing, emptying and
+/// mixed ones, as many as the number of commands lasts for.
+fn session(random: &mut Random, cap: u64, commands: u64) -> Vec<u8> {
+    let mut state = parameters_for(random, cap as u16);
+    state.pages = state.n0 * state.groups;
+    let mut bytes = format([state.n0, state.groups, state.sweeps, state.cap]);
+    let mut phase = Phase {
+        keys: Keys::new(random, state),
+        state,
+        put: Vec::new(),
+        weights: [0; 5],
+    };
+    for left in (0..commands).rev() {
+        if left == commands - 1 || random.one_in(40) {
+            phase.weights = random.pick(&PHASES);
+        }
+        bytes.extend(phase.command(random));
+    }
+    bytes
+}
+
+/// How often, of a hundred, each phase puts, finds, removes, grows, checks.
+const PHASES: [[u64; 5]; 5] = [
+    [88, 4, 2, 4, 2],
+    [70, 5, 3, 20, 2],
+    [8, 4, 82, 2, 4],
+    [40, 15, 30, 10, 5],
+    [40, 2, 2, 54, 2],
+];
+
+struct Phase {
+    state: State,
+    keys: Keys,
+    put: Vec<u64>,
+    weights: [u64; 5],
+}
+
+impl Phase {
+    fn command(&mut self, random: &mut Random) -> Vec<u8> {
+        let mut ticket = random.within(0, 99);
+        let mut chosen = 0;
+        while chosen < 4 && ticket >= self.weights[chosen] {
+            ticket -= self.weights[chosen];
+            chosen += 1;
+        }
+        match chosen {
+            0 => self.put(random),
+            1 => command(259, &[self.key(random)]),
+            2 => command(260, &[self.forget(random)]),
+            3 => command(261, &[]),
+            _ => command(262, &[]),
+        }
+    }
+
+    fn put(&mut self, random: &mut Random) -> Vec<u8> {
+        let again = random.one_in(10);
+        let key = if again {
+            self.key(random)
+        } else {
+            self.keys.draw(random, self.state)
+        };
+        self.put.push(key);
+        command(258, &[key, random.value()])
+    }
+
+    /// A key that was put, or another one.
+    fn key(&mut self, random: &mut Random) -> u64 {
+        if self.put.is_empty() || random.one_in(5) {
+            return self.keys.draw(random, self.state);
+        }
+        random.pick(&self.put)
+    }
+
+    fn forget(&mut self, random: &mut Random) -> u64 {
+        if self.put.is_empty() || random.one_in(10) {
+            return self.key(random);
+        }
+        let at = random.index(self.put.len());
+        self.put.swap_remove(at)
+    }
+}

@@ -1,0 +1,147 @@
+//! `compare [--bin DIR] [--differ DIR] SEED CALLS LOGS -- PREFIX..`
+//!
+//! Generates raw calls and logs from a seed, answers them itself, has them
+//! answered by the programs `raw_calls` and `register_log` in DIR, started
+//! with the prefix, and compares every byte.
+
+mod breaks;
+mod cases;
+mod chains;
+mod endings;
+mod files;
+mod keys;
+mod launch;
+mod log_run;
+mod logs;
+mod loose;
+mod random;
+mod raw_run;
+mod show;
+mod sink;
+mod table;
+mod wrong;
+
+use launch::Launcher;
+use show::Stop;
+use std::path::PathBuf;
+use std::process::ExitCode;
+use table::{name, Table, LOG_PAIRS, RAW_PAIRS};
+
+/// From so many raw calls or logs on, every possible pair has to come.
+const ENOUGH_CALLS: u64 = 20_000;
+const ENOUGH_LOGS: u64 = 500;
+
+struct Options {
+    seed: u64,
+    calls: u64,
+    logs: u64,
+    differ: PathBuf,
+    launcher: Launcher,
+}
+
+/// Reads the words of the command line; None where they don't fit.
+fn options(words: &[String]) -> Option<Options> {
+    let end = words
+        .iter()
+        .position(|word| word == "--")
+        .unwrap_or(words.len());
+    let prefix = words.get(end + 1..).unwrap_or_default().to_vec();
+    let mut folder = PathBuf::from(".");
+    let mut differ = PathBuf::from("target/differ");
+    let mut numbers = Vec::new();
+    let mut left = words[..end].iter();
+    while let Some(word) = left.next() {
+        match word.as_str() {
+            "--bin" => folder = PathBuf::from(left.next()?),
+            "--differ" => differ = PathBuf::from(left.next()?),
+            number => numbers.push(number.parse().ok()?),
+        }
+    }
+    let [seed, calls, logs] = numbers[..] else {
+        return None;
+    };
+    Some(Options {
+        seed,
+        calls,
+        logs,
+        differ,
+        launcher: Launcher { prefix, folder },
+    })
+}
+
+fn main() -> ExitCode {
+    let words: Vec<String> = std::env::args().skip(1).collect();
+    let Some(options) = options(&words) else {
+        eprintln!("usage: compare [--bin DIR] [--differ DIR] SEED CALLS LOGS -- PREFIX..");
+        return ExitCode::from(2);
+    };
+    match compare(&options) {
+        Ok(true) => ExitCode::SUCCESS,
+        Ok(false) => ExitCode::FAILURE,
+        Err(stop) => tell(&options, stop),
+    }
+}
+
+/// Runs all comparisons. No means that a possible pair never came.
+fn compare(options: &Options) -> Result<bool, Stop> {
+    let Options {
+        seed,
+        calls,
+        logs,
+        ref launcher,
+        ..
+    } = *options;
+    let mut complete = true;
+    if calls > 0 {
+        let table = raw_run::compare(launcher, seed, calls)?;
+        println!("raw calls, refusal: how often\n{table}");
+        complete &= judged(&table, &RAW_PAIRS, calls >= ENOUGH_CALLS);
+        let endings = endings::compare(launcher, seed)?;
+        println!("{endings} raw runs ended alike at what is no record");
+    }
+    if logs > 0 {
+        let table = log_run::compare(launcher, seed, logs)?;
+        println!("logs, refusal: how often\n{table}");
+        complete &= judged(&table, &LOG_PAIRS, logs >= ENOUGH_LOGS);
+    }
+    println!("{calls} raw calls and {logs} logs agreed (seed {seed})");
+    Ok(complete)
+}
+
+/// Names the pairs that never came, or came though they shouldn't.
+fn judged(table: &Table, pairs: &[(u16, &[u16])], enough: bool) -> bool {
+    let missing = if enough {
+        table.missing(pairs)
+    } else {
+        Vec::new()
+    };
+    for (kind, refusal) in &missing {
+        println!("never reached: {} with {refusal}", name(*kind));
+    }
+    let beyond = table.beyond(pairs);
+    for (kind, refusal) in &beyond {
+        println!("not foreseen: {} with {refusal}", name(*kind));
+    }
+    missing.is_empty() && beyond.is_empty()
+}
+
+fn tell(options: &Options, stop: Stop) -> ExitCode {
+    match stop {
+        Stop::Differ { told, file, input } => {
+            println!("{}", told.trim_end());
+            match show::keep(&options.differ, &file, &input) {
+                Ok(path) => println!("input kept in {}", path.display()),
+                Err(error) => println!("input couldn't be kept: {error}"),
+            }
+            ExitCode::from(1)
+        }
+        Stop::Mismatch(what) => {
+            eprintln!("second disagrees with itself: {what}");
+            ExitCode::from(3)
+        }
+        Stop::Trouble(what) => {
+            eprintln!("compare: {what}");
+            ExitCode::from(2)
+        }
+    }
+}

@@ -1,0 +1,131 @@
+//! How often each call gave each refusal.
+
+use std::collections::BTreeMap;
+use std::fmt;
+
+/// The kind under which refusals 10 and 11 of the log program are counted.
+pub const PROGRAM: u16 = 0;
+
+/// The pairs of call and refusal that the rules make possible for raw calls.
+pub const RAW_PAIRS: [(u16, &[u16]); 7] = [
+    (256, &[0]),
+    (257, &[0, 1, 2]),
+    (258, &[0, 1, 2, 4, 6, 7, 9]),
+    (259, &[0, 1, 2, 4, 5]),
+    (260, &[0, 1, 2, 4, 5, 9]),
+    (261, &[0, 1, 2, 3, 4, 7, 8, 9]),
+    (262, &[0, 1, 2, 4, 9]),
+];
+
+/// Those for logs. The program lends an area and a row of the right length
+/// and writes images only, so 2, 3, 4 and 9 can't come.
+pub const LOG_PAIRS: [(u16, &[u16]); 7] = [
+    (PROGRAM, &[10, 11]),
+    (257, &[0, 1, 12]),
+    (258, &[0, 1, 6, 7]),
+    (259, &[0, 1, 5]),
+    (260, &[0, 1, 5]),
+    (261, &[0, 1, 7, 8]),
+    (262, &[0, 1]),
+];
+
+#[derive(Default)]
+pub struct Table {
+    counts: BTreeMap<(u16, u16), u64>,
+    /// Answers to due, no and yes.
+    due: [u64; 2],
+    most_read: u32,
+    most_moved: u32,
+}
+
+pub fn name(kind: u16) -> &'static str {
+    match kind {
+        PROGRAM => "program",
+        256 => "due",
+        257 => "format",
+        258 => "put",
+        259 => "find",
+        260 => "remove",
+        261 => "grow",
+        262 => "check",
+        _ => "unknown",
+    }
+}
+
+impl Table {
+    pub fn count(&mut self, kind: u16, refusal: u16) {
+        *self.counts.entry((kind, refusal)).or_default() += 1;
+    }
+
+    pub fn count_due(&mut self, kind: u16, due: bool) {
+        if kind == 256 {
+            self.due[usize::from(due)] += 1;
+        }
+    }
+
+    /// Notes how far a call reached.
+    pub fn note(&mut self, read: u32, moved: u32) {
+        self.most_read = self.most_read.max(read);
+        self.most_moved = self.most_moved.max(moved);
+    }
+
+    pub fn add(&mut self, other: &Table) {
+        for (&pair, &count) in &other.counts {
+            *self.counts.entry(pair).or_default() += count;
+        }
+        self.due = [self.due[0] + other.due[0], self.due[1] + other.due[1]];
+        self.note(other.most_read, other.most_moved);
+    }
+
+    /// The possible pairs that never came.
+    pub fn missing(&self, pairs: &[(u16, &[u16])]) -> Vec<(u16, u16)> {
+        let all = pairs
+            .iter()
+            .flat_map(|(kind, refusals)| refusals.iter().map(move |&refusal| (*kind, refusal)));
+        all.filter(|pair| !self.counts.contains_key(pair)).collect()
+    }
+
+    /// Pairs that came though the rules don't make them possible.
+    pub fn beyond(&self, pairs: &[(u16, &[u16])]) -> Vec<(u16, u16)> {
+        let possible = |&(kind, refusal): &(u16, u16)| {
+            pairs
+                .iter()
+                .any(|(known, refusals)| *known == kind && refusals.contains(&refusal))
+        };
+        self.counts
+            .keys()
+            .copied()
+            .filter(|pair| !possible(pair))
+            .collect()
+    }
+}
+
+impl fmt::Display for Table {
+    fn fmt(&self, out: &mut fmt::Formatter) -> fmt::Result {
+        let mut last = None;
+        for (&(kind, refusal), count) in &self.counts {
+            if last != Some(kind) {
+                write!(
+                    out,
+                    "{}{:8}",
+                    if last.is_some() { "\n" } else { "" },
+                    name(kind)
+                )?;
+                last = Some(kind);
+            }
+            write!(out, "  {refusal}: {count}")?;
+        }
+        if self.due != [0, 0] {
+            write!(
+                out,
+                "\ndue answered no {} times and yes {} times",
+                self.due[0], self.due[1]
+            )?;
+        }
+        let (read, moved) = (self.most_read, self.most_moved);
+        write!(
+            out,
+            "\nmost pages read in a call: {read}; most records moved: {moved}"
+        )
+    }
+}

@@ -1,0 +1,267 @@
+//! The figures to try, worked out and printed one a line.
+
+use crate::answer::Answer;
+use crate::calls::Call;
+use crate::home::{home, is_mover, new_address, next_draw, pages_per_group, seed_of};
+use crate::image::standing;
+use crate::log::Failure;
+use crate::state::State;
+use crate::witness::witnessed;
+use std::io::Write;
+
+/// Prints all the figures.
+pub fn run(output: &mut impl Write) -> Result<(), Failure> {
+    let mut lines = draws();
+    lines.push(growth_order());
+    lines.extend(homes());
+    lines.extend(movers());
+    lines.extend(due());
+    lines.extend(small_files().map_err(Failure::Mismatch)?);
+    for line in lines {
+        writeln!(output, "{line}")?;
+    }
+    Ok(())
+}
+
+fn draws() -> Vec<String> {
+    let seen: Vec<u64> = std::iter::successors(Some(1), |&last| Some(next_draw(last)))
+        .skip(1)
+        .take(10_000)
+        .collect();
+    let line = |x: usize| format!("seed 1, draw {x}: {}", seen[x - 1]);
+    [1, 2, 3, 4, 10_000].map(line).to_vec()
+}
+
+/// The groups in the order in which the new pages 16 to 23 come.
+fn growth_order() -> String {
+    let group_of = |page| (0..8).find(|&group| new_address(group, 16, 8, 3) == page);
+    let order: Vec<String> = (16..24)
+        .filter_map(group_of)
+        .map(|group: u64| group.to_string())
+        .collect();
+    format!(
+        "n0 2, N 8, s 3, pages 16 to 23 come from groups: {}",
+        order.join(", ")
+    )
+}
+
+fn homes() -> Vec<String> {
+    let file = State {
+        n0: 2,
+        groups: 2,
+        sweeps: 1,
+        pages: 4,
+        cap: 8,
+        records: 0,
+    };
+    let mut lines = Vec::new();
+    for key in 0..2 {
+        for pages in 4..9 {
+            let at = home(State { pages, ..file }, key);
+            lines.push(format!("n0 2, N 2, s 1, key {key}, P {pages}: home {at}"));
+        }
+    }
+    lines
+}
+
+fn movers() -> Vec<String> {
+    let line = |key| {
+        let moves = is_mover(next_draw(seed_of(key)), pages_per_group(2, 1));
+        format!(
+            "n0 2, N 2, s 1, key {key}, x 1: {}",
+            if moves { "mover" } else { "no mover" }
+        )
+    };
+    [42590, 42591].map(line).to_vec()
+}
+
+fn due() -> Vec<String> {
+    let file = State {
+        n0: 2,
+        groups: 2,
+        sweeps: 1,
+        pages: 4,
+        cap: 8,
+        records: 0,
+    };
+    let line = |records| {
+        let due = State { records, ..file }.due();
+        format!(
+            "P 4, {records} records: {}",
+            if due { "due" } else { "not due" }
+        )
+    };
+    [38, 39].map(line).to_vec()
+}
+
+/// A file with its area, to make one call after the other on.
+pub struct Trial {
+    pub state: State,
+    pub area: Vec<u8>,
+}
+
+impl Trial {
+    /// A fresh file with n0, N and s all 1.
+    pub fn of_ones(cap: u16) -> Result<Trial, String> {
+        let mut trial = Trial {
+            state: State::default(),
+            area: vec![0; 256 * usize::from(cap)],
+        };
+        trial.ask(Call::Format {
+            n0: 1,
+            groups: 1,
+            sweeps: 1,
+            cap,
+        })?;
+        Ok(trial)
+    }
+
+    pub fn ask(&mut self, call: Call) -> Result<Answer, String> {
+        let mut row = vec![0; usize::from(self.state.cap)];
+        let answer = witnessed(call, self.state, &mut self.area, &mut row)?;
+        self.state = answer.state;
+        Ok(answer)
+    }
+
+    /// Puts the keys from 0 up, each with its tenfold as value, and gives the
+    /// last answer's refusal.
+    pub fn put_up_to(&mut self, last: u64) -> Result<u16, String> {
+        let mut refusal = 0;
+        for key in 0..=last {
+            refusal = self
+                .ask(Call::Put {
+                    key,
+                    value: 10 * key,
+                })?
+                .refusal;
+        }
+        Ok(refusal)
+    }
+
+    /// The keys on a page, in the order in which they stand.
+    pub fn keys_on(&self, page: usize) -> Vec<u64> {
+        let here = standing(&self.area)
+            .into_iter()
+            .filter(|(address, _)| *address == page);
+        here.map(|(_, record)| record.key).collect()
+    }
+}
+
+fn told(answer: Answer) -> String {
+    let Answer {
+        refusal,
+        value,
+        moved,
+        ..
+    } = answer;
+    format!("refusal {refusal}, value {value}, moved {moved}")
+}
+
+fn small_files() -> Result<Vec<String>, String> {
+    let mut lines = twelve_then_grow()?;
+    lines.extend(thirteen_then_grow()?);
+    lines.extend(one_page()?);
+    Ok(lines)
+}
+
+/// The call that offers key 12.
+const KEY_TWELVE: Call = Call::Put {
+    key: 12,
+    value: 120,
+};
+
+fn twelve_then_grow() -> Result<Vec<String>, String> {
+    let mut file = Trial::of_ones(2)?;
+    file.put_up_to(11)?;
+    let grown = file.ask(Call::Grow)?;
+    let mut lines = vec![format!("cap 2, keys 0 to 11, grow: {}", told(grown))];
+    for page in 0..2 {
+        lines.push(format!("  page {page} then holds {:?}", file.keys_on(page)));
+    }
+    let refused = file.ask(KEY_TWELVE)?;
+    lines.push(format!("  then put of key 12: {}", told(refused)));
+    Ok(lines)
+}
+
+fn thirteen_then_grow() -> Result<Vec<String>, String> {
+    let mut file = Trial::of_ones(2)?;
+    file.put_up_to(12)?;
+    let mut lines = Vec::new();
+    for page in 0..2 {
+        let keys = file.keys_on(page);
+        lines.push(format!("cap 2, keys 0 to 12, page {page} holds {keys:?}"));
+    }
+    lines.push(format!("  then grow: {}", told(file.ask(Call::Grow)?)));
+    Ok(lines)
+}
+
+fn one_page() -> Result<Vec<String>, String> {
+    let mut file = Trial::of_ones(1)?;
+    file.put_up_to(11)?;
+    let thirteenth = told(file.ask(KEY_TWELVE)?);
+    let held = told(file.ask(Call::Put { key: 5, value: 1 })?);
+    Ok(vec![
+        format!("cap 1, thirteenth key: {thirteenth}"),
+        format!("cap 1, held key 5 (value 50) put again: {held}"),
+    ])
+}
+
+#[cfg(test)]
+mod tests {
+    use super::*;
+    use crate::answer::{HELD, NO_ROOM};
+
+    #[test]
+    fn twelve_keys_then_grow() {
+        let mut file = Trial::of_ones(2).expect("agrees");
+        assert_eq!(file.put_up_to(11), Ok(0));
+        assert_eq!(
+            file.ask(Call::Grow).map(|a| (a.refusal, a.moved)),
+            Ok((0, 12))
+        );
+        assert_eq!(file.keys_on(0), []);
+        assert_eq!(file.keys_on(1), (0..12).collect::<Vec<u64>>());
+        let refused = file.ask(Call::Put { key: 12, value: 0 });
+        assert_eq!(refused.map(|answer| answer.refusal), Ok(NO_ROOM));
+    }
+
+    #[test]
+    fn thirteen_keys_then_grow() {
+        let mut file = Trial::of_ones(2).expect("agrees");
+        assert_eq!(file.put_up_to(12), Ok(0));
+        assert_eq!(file.keys_on(0), (0..12).collect::<Vec<u64>>());
+        assert_eq!(file.keys_on(1), [12]);
+        assert_eq!(
+            file.ask(Call::Grow).map(|answer| answer.refusal),
+            Ok(NO_ROOM)
+        );
+    }
+
+    #[test]
+    fn one_page_alone() {
+        let mut file = Trial::of_ones(1).expect("agrees");
+        assert_eq!(file.put_up_to(12), Ok(NO_ROOM));
+        let held = file.ask(Call::Put { key: 5, value: 1 });
+        assert_eq!(
+            held.map(|a| (a.refusal, a.value, a.read)),
+            Ok((HELD, 50, 1))
+        );
+    }
+
+    #[test]
+    fn the_printed_figures() {
+        let mut output = Vec::new();
+        run(&mut output).expect("agrees");
+        let text = String::from_utf8_lossy(&output).into_owned();
+        for line in [
+            "seed 1, draw 10000: 1043618065",
+            "n0 2, N 8, s 3, pages 16 to 23 come from groups: 7, 4, 1, 6, 3, 0, 5, 2",
+            "n0 2, N 2, s 1, key 0, P 7: home 6",
+            "n0 2, N 2, s 1, key 42590, x 1: mover",
+            "P 4, 39 records: due",
+            "  then grow: refusal 7, value 0, moved 0",
+        ] {
+            assert!(text.lines().any(|printed| printed == line), "{line}");
+        }
+    }
+}

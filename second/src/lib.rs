@@ -1,0 +1,22 @@
+//! A second register, written from the page of rules alone.
+//!
+//! The calls follow the walks of the rules on any bytes. Two further parts
+//! don't walk: `image` lays the area out anew from a list of records, and
+//! `room` looks for an arrangement. `witness` holds every call against both.
+
+pub mod answer;
+pub mod bytes;
+pub mod calls;
+pub mod figures;
+pub mod grow;
+pub mod home;
+pub mod image;
+pub mod log;
+pub mod page;
+pub mod put;
+pub mod raw;
+pub mod remove;
+pub mod room;
+pub mod state;
+pub mod walk;
+pub mod witness;

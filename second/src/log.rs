@@ -1,0 +1,230 @@
+//! The log program: commands in, one reply each, at most 128 pages.
+
+use crate::answer::{Answer, BAD_RECORD, CUT_OFF, TOO_MANY_PAGES};
+use crate::bytes::{eight, two};
+use crate::calls::Call;
+use crate::page::PAGE_BYTES;
+use crate::state::State;
+use crate::witness::witnessed;
+use std::io::{Read, Write};
+
+/// The most pages a format may ask of this program.
+pub const MOST_PAGES: u16 = 128;
+pub const REPLY_KIND: u16 = 513;
+pub const REPLY_BYTES: usize = 28;
+const HEAD_BYTES: usize = 4;
+
+/// Why a run ended early.
+#[derive(Debug)]
+pub enum Failure {
+    /// The input couldn't be read or the output not be written.
+    Stream(std::io::Error),
+    /// The program disagrees with itself.
+    Mismatch(String),
+}
+
+impl From<std::io::Error> for Failure {
+    fn from(error: std::io::Error) -> Failure {
+        Failure::Stream(error)
+    }
+}
+
+/// The file that a run of the log holds. "Before a format the state is all
+/// zero", and there is no area.
+#[derive(Default)]
+struct Session {
+    state: State,
+    area: Vec<u8>,
+}
+
+/// What reading bytes came to.
+enum Taken {
+    All,
+    Some,
+    Nothing,
+}
+
+/// Reads commands until the input ends or one is refused with 10 or 11.
+pub fn run(input: &mut impl Read, output: &mut impl Write) -> Result<(), Failure> {
+    let mut session = Session::default();
+    loop {
+        let mut head = [0; HEAD_BYTES];
+        match take(input, &mut head)? {
+            // "Input ending between records gets no reply."
+            Taken::Nothing => return Ok(()),
+            Taken::Some => return session.stop(output, CUT_OFF),
+            Taken::All => {}
+        }
+        let kind = two(&head, 2);
+        let length = usize::from(two(&head, 0));
+        if length_of(kind) != Some(length) {
+            return session.stop(output, BAD_RECORD);
+        }
+        let mut body = vec![0; length - HEAD_BYTES];
+        if !matches!(take(input, &mut body)?, Taken::All) {
+            return session.stop(output, CUT_OFF);
+        }
+        let answer = session
+            .obey(parse(kind, &body))
+            .map_err(Failure::Mismatch)?;
+        output.write_all(&reply(&answer))?;
+    }
+}
+
+/// Reads until the bytes are full or the input ends. Nothing to read at all
+/// counts as read.
+fn take(input: &mut impl Read, bytes: &mut [u8]) -> std::io::Result<Taken> {
+    let mut have = 0;
+    while have < bytes.len() {
+        match input.read(&mut bytes[have..]) {
+            Ok(0) if have == 0 => return Ok(Taken::Nothing),
+            Ok(0) => return Ok(Taken::Some),
+            Ok(more) => have += more,
+            Err(error) if error.kind() == std::io::ErrorKind::Interrupted => {}
+            Err(error) => return Err(error),
+        }
+    }
+    Ok(Taken::All)
+}
+
+/// The length that each kind of command has to have; None is an unknown kind.
+pub fn length_of(kind: u16) -> Option<usize> {
+    match kind {
+        257 | 259 | 260 => Some(12),
+        258 => Some(20),
+        261..=262 => Some(4),
+        _ => None,
+    }
+}
+
+/// The call of a known kind, from a body that has its right length.
+fn parse(kind: u16, body: &[u8]) -> Call {
+    match kind {
+        257 => Call::Format {
+            n0: two(body, 0),
+            groups: two(body, 2),
+            sweeps: two(body, 4),
+            cap: two(body, 6),
+        },
+        258 => Call::Put {
+            key: eight(body, 0),
+            value: eight(body, 8),
+        },
+        259 => Call::Find {
+            key: eight(body, 0),
+        },
+        260 => Call::Remove {
+            key: eight(body, 0),
+        },
+        261 => Call::Grow,
+        _ => Call::Check,
+    }
+}
+
+impl Session {
+    fn obey(&mut self, call: Call) -> Result<Answer, String> {
+        if let Call::Format { cap, .. } = call {
+            return self.format(call, cap);
+        }
+        let mut row = vec![0; usize::from(self.state.cap)];
+        let answer = witnessed(call, self.state, &mut self.area, &mut row)?;
+        self.state = answer.state;
+        Ok(answer)
+    }
+
+    /// A format is lent as many pages as it asks for; the file held before
+    /// gives way only once it is accepted.
+    fn format(&mut self, call: Call, cap: u16) -> Result<Answer, String> {
+        if cap > MOST_PAGES {
+            return Ok(Answer::refused(self.state, TOO_MANY_PAGES, 0));
+        }
+        let mut lent = vec![0; PAGE_BYTES * usize::from(cap)];
+        let answer = witnessed(call, self.state, &mut lent, &mut [])?;
+        if answer.refusal == 0 {
+            self.area = lent;
+            self.state = answer.state;
+        }
+        Ok(answer)
+    }
+
+    /// "After 10 or 11 it stops."
+    fn stop(&self, output: &mut impl Write, refusal: u16) -> Result<(), Failure> {
+        output.write_all(&reply(&Answer::refused(self.state, refusal, 0)))?;
+        Ok(())
+    }
+}
+
+fn reply(answer: &Answer) -> Vec<u8> {
+    let mut bytes = Vec::with_capacity(REPLY_BYTES);
+    bytes.extend((REPLY_BYTES as u16).to_le_bytes());
+    bytes.extend(REPLY_KIND.to_le_bytes());
+    bytes.extend(answer.refusal.to_le_bytes());
+    bytes.extend(answer.page.to_le_bytes());
+    bytes.extend(answer.value.to_le_bytes());
+    bytes.extend(answer.read.to_le_bytes());
+    bytes.extend(answer.moved.to_le_bytes());
+    bytes.extend(answer.state.pages.to_le_bytes());
+    bytes.extend(u16::from(answer.state.due()).to_le_bytes());
+    bytes
+}
+
+#[cfg(test)]
+mod tests {
+    use super::*;
+
+    fn bytes(hex: &str) -> Vec<u8> {
+        let digits: Vec<u32> = hex.chars().filter_map(|digit| digit.to_digit(16)).collect();
+        digits
+            .chunks(2)
+            .map(|pair| (pair[0] * 16 + pair[1]) as u8)
+            .collect()
+    }
+
+    fn answer_to(input: &[u8]) -> Vec<u8> {
+        let mut output = Vec::new();
+        run(&mut &input[..], &mut output).expect("slices don't fail");
+        output
+    }
+
+    fn refusals(input: &str) -> Vec<u16> {
+        answer_to(&bytes(input))
+            .chunks(REPLY_BYTES)
+            .map(|reply| two(reply, 4))
+            .collect()
+    }
+
+    const FORMAT: &str = "0C00 0101 0100 0100 0100 0200";
+
+    #[test]
+    fn whole_session() {
+        let input = "0C00 0101 0100 0100 0100 0200 1400 0201 0500000000000000 0900000000000000
+            0C00 0301 0500000000000000";
+        let output = "1C00 0102 0000 0000 0000000000000000 00000000 00000000 0100 0000
+            1C00 0102 0000 0000 0000000000000000 01000000 00000000 0100 0000
+            1C00 0102 0000 0000 0900000000000000 01000000 00000000 0100 0000";
+        assert_eq!(answer_to(&bytes(input)), bytes(output));
+    }
+
+    #[test]
+    fn stops_after_ten_and_eleven() {
+        assert_eq!(refusals(""), []);
+        assert_eq!(refusals("0C"), [11]);
+        assert_eq!(refusals(&format!("{FORMAT} 0400 0601 0400 06")), [0, 0, 11]);
+        assert_eq!(refusals(&format!("{FORMAT} 0400 0701 0400 0601")), [0, 10]);
+        assert_eq!(refusals("1C00 0102 0000"), [10]);
+        assert_eq!(refusals("0500 0601 00"), [10]);
+        assert_eq!(refusals("1400 0201 05"), [11]);
+        assert_eq!(refusals("1400 0201"), [11]);
+        assert_eq!(refusals("0400 0001"), [10]);
+    }
+
+    #[test]
+    fn twelve_comes_before_the_call_and_runs_on() {
+        let asked = |cap: &str| format!("0C00 0101 0100 0100 0100 {cap}");
+        assert_eq!(
+            refusals(&(asked("8100") + &asked("0000") + &asked("8000"))),
+            [12, 1, 0]
+        );
+        assert_eq!(refusals(&(asked("0110") + "0400 0601")), [12, 1]);
+    }
+}

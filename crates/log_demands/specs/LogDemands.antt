@@ -1,0 +1,69 @@
+-- What the demands come to in a log: `LogDemands`, at the end. What is quoted is the demands'.
+use Prim.Native.Nat.{ℕ, zero, suc, _*_, _^_, _<_}
+use mathlib.Core.Path.{_≡_}
+use mathlib.Core.Logic.{_↔_}
+use mathlib.Core.Bool.{Bool, cond}
+use mathlib.Core.Option.{Option, none, some}
+use mathlib.Core.List.{List, [], _∷_}
+use lib.ListN.{take, drop}
+use lib.Dec.{eqb}
+use Rattle.numbers.proofs.Laws.{Bytes}
+use Rattle.register.specs.Files.{File, left, numbersOf}
+use Rattle.demands.specs.Histories.{Kept, commitOf, keeps}
+use Rattle.demands.specs.Demands.{Fresh}
+use Rattle.commands.specs.declared.Command.{Command}
+use Rattle.commands.specs.declared.Command.the-variants.{Format, Put, Find, Remove, Grow, Check}
+use Rattle.commands.specs.declared.Item.{Item}
+use Rattle.commands.specs.declared.Item.the-variants.{Asks, Unknown, Cut}
+use Rattle.commands.specs.Records.{firstOf}
+use Rattle.commands.specs.Carry.{Site, callOf, carried}
+use Rattle.commands.specs.Log.{log}
+
+-- the commands at the start of an input, at most so many
+abbrev onFirst : Item → (ℕ → List Command) → List Command
+onFirst (Asks c n) rest = c ∷ rest n
+onFirst Unknown rest = []
+onFirst Cut rest = []
+
+unfoldable pub asked : (room : ℕ) → List ℕ → List Command
+asked zero l = []
+asked (suc room) l = onFirst (firstOf l) (λ n. asked room (drop n l))
+
+-- what the accepted commands leave: "the accepted puts and removals", and the accepted growths, from the last accepted format on
+unfoldable pub keptBy : Option Kept → Site → List Command → Option Kept
+keptBy o d [] = o
+keptBy o d (c ∷ cs) = keptBy (cond (eqb (carried d c .numbers .refusal) 0) (keeps o (callOf c [])) o) (carried d c .site) cs
+
+-- the file at a site: the state, and the pages that it tells of
+abbrev pub fileAt : Site → File
+fileAt d = record { state = d .state; area = take (256 * d .state .cap) (d .space) }
+
+-- a command is answered as its call on the file at the site; only a format is lent other pages
+abbrev pub AsCalled : Site → Command → Type 0
+AsCalled d (Format n0 N s cap) = Unit {0}
+AsCalled d (Put k v) = carried d (Put k v) .numbers ≡ numbersOf (left (fileAt d) (callOf (Put k v) []) .said)
+AsCalled d (Find k) = carried d (Find k) .numbers ≡ numbersOf (left (fileAt d) (callOf (Find k) []) .said)
+AsCalled d (Remove k) = carried d (Remove k) .numbers ≡ numbersOf (left (fileAt d) (callOf (Remove k) []) .said)
+AsCalled d Grow = carried d Grow .numbers ≡ numbersOf (left (fileAt d) (callOf Grow (take (d .state .cap) (d .row))) .said)
+AsCalled d Check = carried d Check .numbers ≡ numbersOf (left (fileAt d) (callOf Check []) .said)
+
+-- After any bytes, from any site, in which a format was accepted, and with what the accepted commands keep
+pub record After (m : Kept) (d : Site) : Type 0 where
+  pub last : Bool
+  pub room : ℕ
+  pub start : Site
+  pub input : List ℕ
+  pub bytes : Bytes input
+  pub keeps : keptBy none start (asked room input) ≡ some m
+  pub leaves : log last room start input .site ≡ d
+
+-- What is promised of a log, and proved as `log-demands` (proofs/LogDemands.antt)
+pub record LogDemands : Type 0 where
+  -- the file at the site is one that a fresh history left, with what the commands kept: all of `Demands` is of it
+  pub fresh : (m : Kept) (d : Site) → After m d → Fresh m (fileAt d)
+  -- and a command is answered as its call is on that file
+  pub called : (d : Site) (c : Command) → AsCalled d c
+  -- so "a search gives a request's commit exactly when the accepted puts and removals leave it there"
+  pub found : (m : Kept) (d : Site) → After m d → (k : ℕ) → k < 2 ^ 64
+      → let said = carried d (Find k) .numbers in
+      ((v : ℕ) → ((said .refusal ≡ 0) × (said .value ≡ v)) ↔ (commitOf k (m .held) ≡ some v)) × ((said .refusal ≡ 5) ↔ (commitOf k (m .held) ≡ none))

@@ -46,14 +46,25 @@ fn parse(line: &str) -> Result<Asked, String> {
         other => return Err(format!("\"{other}\" is no command; {HELP}")),
     };
     if words.len() != 1 + count {
-        return Err(format!("\"{}\" takes {count} numbers, not {}", words[0], words.len() - 1));
+        let given = words.len() - 1;
+        return Err(format!(
+            "\"{}\" takes {}, not {given}",
+            words[0],
+            counted(count as u64, "number")
+        ));
     }
     let numbers = numbers(&words[1..], most)?;
-    Ok(Asked { bytes: record(kind, width, &numbers), name: words.join(" ") })
+    Ok(Asked {
+        bytes: record(kind, width, &numbers),
+        name: words.join(" "),
+    })
 }
 
 fn number(bytes: &[u8], at: usize, width: usize) -> u64 {
-    bytes[at..at + width].iter().rev().fold(0, |number, byte| number * 256 + u64::from(*byte))
+    bytes[at..at + width]
+        .iter()
+        .rev()
+        .fold(0, |number, byte| number * 256 + u64::from(*byte))
 }
 
 fn counted(count: u64, name: &str) -> String {
@@ -63,7 +74,9 @@ fn counted(count: u64, name: &str) -> String {
 // What a refusal number means.
 fn refusal(reply: &[u8]) -> String {
     match number(reply, 4, 2) {
-        1 => String::from("a number of the file's state is out of range, or no file was formatted yet"),
+        1 => String::from(
+            "a number of the file's state is out of range, or no file was formatted yet",
+        ),
         2 => String::from("the area has another length"),
         3 => String::from("the row has another length"),
         4 => format!("page {} is broken", number(reply, 6, 2)),
@@ -98,7 +111,11 @@ fn words(asked: &Asked, reply: &[u8]) -> String {
     };
     let read = counted(number(reply, 16, 4), "page");
     let moved = counted(number(reply, 20, 4), "record");
-    let due = if number(reply, 26, 2) == 1 { "; growth is due" } else { "" };
+    let due = if number(reply, 26, 2) == 1 {
+        "; growth is due"
+    } else {
+        ""
+    };
     format!("{}: {said} ({read} read, {moved} moved{due})", asked.name)
 }
 
@@ -133,7 +150,11 @@ fn talk(to: &mut ChildStdin, from: &mut ChildStdout) -> io::Result<bool> {
 }
 
 fn start(words: &[String]) -> io::Result<Child> {
-    Command::new(&words[0]).args(&words[1..]).stdin(Stdio::piped()).stdout(Stdio::piped()).spawn()
+    Command::new(&words[0])
+        .args(&words[1..])
+        .stdin(Stdio::piped())
+        .stdout(Stdio::piped())
+        .spawn()
 }
 
 fn run(words: &[String]) -> io::Result<bool> {

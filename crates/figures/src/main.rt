@@ -1,25 +1,123 @@
-// Prints 01's figures of homes, worked out by the code: n0 2, N 2, s 1, keys 0 and 1 at P 4 to 8.
-use homes::Shape;
-use libc::STDOUT_FILENO;
-ghost use Prim.Native.Nat.{_≤_};
+// Prints 01's figures, each worked out by the code.
+mod small_files;
+mod text;
 
-fn print_homes(p: u64)
+use homes::Shape;
+use state::State;
+use text::print_item;
+use text::say;
+use text::say_number;
+ghost use Prim.Native.Nat.{_≤_, _<_};
+
+// Draw x of seed 1.
+fn draw_of(x: u64) -> u64 {
+    let mut draw = 1;
+    let mut i = 0;
+    while i < x {
+        draw = homes::next_draw(draw);
+        i += 1;
+    }
+    draw
+}
+
+fn print_draw(x: u64) {
+    say_number(b"seed 1, draw ", x);
+    say_number(b": ", draw_of(x));
+    say(b"\n");
+}
+
+fn print_draws() {
+    print_draw(1);
+    print_draw(2);
+    print_draw(3);
+    print_draw(4);
+    print_draw(10000);
+}
+
+// The lowest key that lives on a page when it is the last one grown, n0 2, N 8, s 3; 1,000 where none below that does.
+fn first_on(page: u64) -> u64
+    requires { ⌜ (16 ≤ page) × (page < 24) ⌝ }
+{
+    let shape = Shape::new(2, 8, 3, page + 1);
+    let mut key = 0;
+    while key < 1000 && shape.home(key) != page {
+        key += 1;
+    }
+    key
+}
+
+// The group that grows into a page; 8, which is none, where no key tells it.
+fn group_into(page: u64) -> u64
+    requires { ⌜ (16 ≤ page) × (page < 24) ⌝ }
+{
+    let key = first_on(page);
+    if key < 1000 { key % 8 } else { 8 }
+}
+
+fn print_order() {
+    say(b"n0 2, N 8, s 3, pages 16 to 23 come from groups: ");
+    let mut page = 16;
+    while page < 24 {
+        print_item(page == 16, group_into(page));
+        page += 1;
+    }
+    say(b"\n");
+}
+
+fn print_home(key: u64, p: u64)
     requires { ⌜ (4 ≤ p) × (p ≤ 8) ⌝ }
 {
     let shape = Shape::new(2, 2, 1, p);
-    io::write_all(STDOUT_FILENO, b"P ");
-    io::print_decimal(STDOUT_FILENO, p);
-    io::write_all(STDOUT_FILENO, b": key 0 lives on page ");
-    io::print_decimal(STDOUT_FILENO, shape.home(0));
-    io::write_all(STDOUT_FILENO, b", key 1 on page ");
-    io::print_decimal(STDOUT_FILENO, shape.home(1));
-    io::write_all(STDOUT_FILENO, b"\n");
+    say_number(b"n0 2, N 2, s 1, key ", key);
+    say_number(b", P ", p);
+    say_number(b": home ", shape.home(key));
+    say(b"\n");
+}
+
+fn print_homes(key: u64) {
+    print_home(key, 4);
+    print_home(key, 5);
+    print_home(key, 6);
+    print_home(key, 7);
+    print_home(key, 8);
+}
+
+// At P 6 the first step alone has been taken, for both groups: a key that it moves has left page key mod 4.
+fn print_mover(key: u64) {
+    let shape = Shape::new(2, 2, 1, 6);
+    say_number(b"n0 2, N 2, s 1, key ", key);
+    if shape.home(key) != key % 4 {
+        say(b", x 1: mover\n");
+    } else {
+        say(b", x 1: no mover\n");
+    }
+}
+
+fn print_due(r: u32) {
+    let state = State {
+        n0: 2,
+        n: 2,
+        s: 1,
+        p: 4,
+        cap: 4,
+        r,
+    };
+    say_number(b"P 4, ", r as u64);
+    if state.due() {
+        say(b" records: due\n");
+    } else {
+        say(b" records: not due\n");
+    }
 }
 
 fn main() {
-    print_homes(4);
-    print_homes(5);
-    print_homes(6);
-    print_homes(7);
-    print_homes(8);
+    print_draws();
+    print_order();
+    print_homes(0);
+    print_homes(1);
+    print_mover(42590);
+    print_mover(42591);
+    print_due(38);
+    print_due(39);
+    small_files::print_all();
 }

@@ -5,12 +5,13 @@ use libc::STDOUT_FILENO;
 use state::State;
 ghost use mathlib.Core.Path.{_≡_};
 ghost use Prim.Native.Nat.{_-_, _≤_};
-ghost use lib.ListN.{length};
+ghost use lib.ListN.{length, take, drop};
 
 // What was not taken goes to the front; answered is how many bytes that is.
 fn keep(input: &mut [u8], taken: usize, have: usize) -> usize
     requires { ⌜ (taken ≤ have) × (have ≤ length (now input)) ⌝ }
     ensures { λ r. ⌜ r ≡ have - taken ⌝ }
+    ensures { λ r. ⌜ take r (now (input .exit)) ≡ take r (drop taken (now (input .entry))) ⌝ }
 {
     let kept = have - taken;
     let mut i = 0;

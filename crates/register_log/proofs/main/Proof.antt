@@ -99,9 +99,11 @@ loop-less-2 c = search needs
 
 loop-again-2 : tie.Need-loop-again-2 Inv-loop μ-loop
 loop-again-2 c =
-    let k = c .before .before .before .before .before .before .before .keep in
+    let at = c .before .before .before .before .before .before .before in
+    let loop = at .before .before .before .before .before .before .before .before .before .before .before .before .loop in
+    let k = at .keep in
     let r = c .before .read-more in
-    omega (arith, same-len-mid (k .result) (65536 - k .result) (k .last .0) (r .last .0) (r .kept .0))
+    omega (arith, loop .inv .4, same-len-mid (k .result) (65536 - k .result) (k .last .0) (r .last .0) (r .kept .0))
 
 returns-3 : tie.Need-returns-3 Inv-loop μ-loop
 returns-3 c = search needs

@@ -1,8 +1,10 @@
-//! `compare [--bin DIR] [--differ DIR] SEED CALLS LOGS -- PREFIX..`
+//! `compare [--bin DIR] [--differ DIR] SEED CALLS LOGS -- PREFIX..`, or
+//! `compare shortest SEED`
 //!
 //! Generates raw calls and logs from a seed, answers them itself, has them
 //! answered by the programs `raw_calls` and `register_log` in DIR, started
-//! with the prefix, and compares every byte.
+//! with the prefix, and compares every byte. `shortest` writes raw calls to
+//! standard output instead, one for each call and refusal.
 
 mod breaks;
 mod cases;
@@ -16,6 +18,7 @@ mod logs;
 mod loose;
 mod random;
 mod raw_run;
+mod shortest;
 mod show;
 mod sink;
 mod table;
@@ -71,14 +74,30 @@ fn options(words: &[String]) -> Option<Options> {
 
 fn main() -> ExitCode {
     let words: Vec<String> = std::env::args().skip(1).collect();
+    if let [word, seed] = &words[..] {
+        if let ("shortest", Ok(seed)) = (word.as_str(), seed.parse()) {
+            return write_shortest(seed);
+        }
+    }
     let Some(options) = options(&words) else {
         eprintln!("usage: compare [--bin DIR] [--differ DIR] SEED CALLS LOGS -- PREFIX..");
+        eprintln!("       compare shortest SEED");
         return ExitCode::from(2);
     };
     match compare(&options) {
         Ok(true) => ExitCode::SUCCESS,
         Ok(false) => ExitCode::FAILURE,
         Err(stop) => tell(&options, stop),
+    }
+}
+
+fn write_shortest(seed: u64) -> ExitCode {
+    match shortest::write(seed, &mut std::io::stdout().lock()) {
+        Ok(()) => ExitCode::SUCCESS,
+        Err(what) => {
+            eprintln!("compare: {what}");
+            ExitCode::from(3)
+        }
     }
 }
 

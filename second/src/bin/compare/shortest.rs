@@ -1,0 +1,38 @@
+//! One raw call for each call and each refusal it can give, the shortest of
+//! many: a run small enough to be stored.
+
+use crate::cases::scene;
+use crate::random::Random;
+use crate::sink::Sink;
+use std::collections::BTreeMap;
+use std::io::Write;
+
+/// So many calls are looked through.
+const CALLS: u64 = 50_000;
+
+/// Writes their records, one after the other, in the order of call and refusal.
+pub fn write(seed: u64, to: &mut impl Write) -> Result<(), String> {
+    for record in pick(seed)?.values() {
+        to.write_all(record).map_err(|error| error.to_string())?;
+    }
+    to.flush().map_err(|error| error.to_string())
+}
+
+fn pick(seed: u64) -> Result<BTreeMap<(u16, [u8; 2]), Vec<u8>>, String> {
+    let mut picked: BTreeMap<_, Vec<u8>> = BTreeMap::new();
+    let mut sink = Sink::new(CALLS);
+    let mut piece = 0;
+    while !sink.full() {
+        scene(&mut Random::new(seed, piece), &mut sink)?;
+        piece += 1;
+        for asked in sink.asked.drain(..) {
+            // A reply's refusal stands behind its length and kind.
+            let refusal = [asked.reply[6], asked.reply[7]];
+            let best = picked.entry((asked.kind, refusal)).or_default();
+            if best.is_empty() || asked.record.len() < best.len() {
+                *best = asked.record;
+            }
+        }
+    }
+    Ok(picked)
+}

@@ -1,1 +1,5 @@
+pub mod Fits
+pub mod OneMore
+pub mod OneCommand
 pub mod LogDemands
+pub mod Session

@@ -20,7 +20,7 @@ use Rattle.commands.specs.Carry.{Site, callOf, carried}
 use Rattle.commands.specs.Log.{log}
 
 -- the commands at the start of an input, at most so many
-abbrev onFirst : Item → (ℕ → List Command) → List Command
+abbrev pub onFirst : Item → (ℕ → List Command) → List Command
 onFirst (Asks c n) rest = c ∷ rest n
 onFirst Unknown rest = []
 onFirst Cut rest = []

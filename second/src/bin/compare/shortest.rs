@@ -18,8 +18,11 @@ pub fn write(seed: u64, to: &mut impl Write) -> Result<(), String> {
     to.flush().map_err(|error| error.to_string())
 }
 
-fn pick(seed: u64) -> Result<BTreeMap<(u16, [u8; 2]), Vec<u8>>, String> {
-    let mut picked: BTreeMap<_, Vec<u8>> = BTreeMap::new();
+/// Records by their call and the bytes of their refusal.
+type Picked = BTreeMap<(u16, [u8; 2]), Vec<u8>>;
+
+fn pick(seed: u64) -> Result<Picked, String> {
+    let mut picked = Picked::new();
     let mut sink = Sink::new(CALLS);
     let mut piece = 0;
     while !sink.full() {

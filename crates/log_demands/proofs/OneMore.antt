@@ -1,0 +1,79 @@
+-- A fresh history with one call more, one of a format alone, and how long the area is after one.
+use mathlib.Core.Path.{_≡_, refl, ap, _∙_}
+use mathlib.Core.Bool.{Bool, true, false, cond}
+use mathlib.Core.Option.{Option, none, some}
+use mathlib.Core.List.{List, [], _∷_, _++_}
+use Prim.Native.Nat.{ℕ, _*_}
+use native.Mathlib.Omega.{arith}
+use lib.Dec.{eqb}
+use lib.ListN.{length, replicate}
+use borrow.Author.Tests.{eq-eqb, eqb-true}
+use Rattle.placing.proofs.Lists.{all-append}
+use Rattle.pages.specs.Area.{areaFrom}
+use Rattle.pages.proofs.Areas.{area-length}
+use Rattle.state.specs.declared.State.{State}
+use Rattle.state.specs.declared.Answer.the-variants.{Accepted, OutOfRange, WrongArea}
+use Rattle.state.specs.State.{inRange, fresh}
+use Rattle.register.specs.declared.Gate.the-variants.{Open, Shut}
+use Rattle.register.specs.Gates.{onGate, gateOf}
+use Rattle.register.specs.Calls.{done, Outcome, refused}
+use Rattle.register.specs.Files.{Call, format, File, wrote, left, numbersOf}
+use Rattle.demands.specs.Histories.{Fits, after, refusal, Kept, begun, keeps, kept}
+use Rattle.demands.specs.Demands.{Fresh}
+use Rattle.demands.proofs.Demands.{demands}
+
+-- the file after a history with one call more
+after-more : (f : File) (cs : List Call) (c : Call) → after f (cs ++ (c ∷ [])) ≡ left (after f cs) c .file
+unfolding after
+after-more f [] c = refl
+after-more f (x ∷ cs) c = after-more (left f x .file) cs c
+
+-- what such a history keeps
+kept-more : (o : Option Kept) (f : File) (cs : List Call) (c : Call)
+    → kept o f (cs ++ (c ∷ [])) ≡ cond (eqb (refusal (after f cs) c) 0) (keeps (kept o f cs) c) (kept o f cs)
+unfolding after kept
+kept-more o f [] c = refl
+kept-more o f (x ∷ cs) c = kept-more _ (left f x .file) cs c
+
+-- after a fresh history an accepted call makes one
+pub fresh-more : {m new : Kept} {f : File} (c : Call) → Fits c → refusal f c ≡ 0 → keeps (some m) c ≡ some new → Fresh m f → Fresh new (left f c .file)
+fresh-more {f} c fits z k w =
+    record {
+      start = w .start;
+      calls = w .calls ++ (c ∷ []);
+      fits = all-append Fits (w .calls) (c ∷ []) (w .fits) (fits, tt);
+      keeps = kept-more none (w .start) (w .calls) c ∙ rw (w .leaves, eq-eqb (refusal f c) 0 z, w .keeps) k;
+      leaves = after-more (w .start) (w .calls) c ∙ rw (w .leaves);
+    }
+
+-- an accepted format makes one from any file
+pub fresh-format : (f : File) (n0 N s cap : ℕ) → refusal f (format n0 N s cap) ≡ 0 → Fresh (begun n0 N s cap) (left f (format n0 N s cap) .file)
+unfolding after kept
+fresh-format f n0 N s cap z =
+    record { start = f; calls = format n0 N s cap ∷ []; fits = (tt, tt); keeps = rw (eq-eqb (refusal f (format n0 N s cap)) 0 z); leaves = refl }
+
+-- and was lent as many pages as it asks for
+pub format-lent : (f : File) (n0 N s cap : ℕ) → refusal f (format n0 N s cap) ≡ 0 → length (f .area) ≡ 256 * cap
+unfolding left gateOf
+format-lent f n0 N s cap = go (inRange (fresh n0 N s cap)) (eqb (length (f .area)) (256 * cap)) refl
+  where
+    new : Outcome
+    new = record { done = done (fresh n0 N s cap) (Accepted 0 0 0); area = areaFrom 0 (replicate cap []) }
+
+    go : (u v : Bool) → eqb (length (f .area)) (256 * cap) ≡ v
+        → numbersOf (wrote (onGate (cond u (cond v Open (Shut WrongArea)) (Shut OutOfRange)) (refused (f .state) (f .area)) new) .said) .refusal ≡ 0
+        → length (f .area) ≡ 256 * cap
+    go true true e z = eqb-true (length (f .area)) (256 * cap) e
+    go true false e z = absurd (omega arith)
+    go false v e z = absurd (omega arith)
+
+module _ {m : Kept} {f : File} (w : Fresh m f) where
+  -- after a fresh history the state tells the lent size
+  pub fresh-cap : f .state .cap ≡ m .cap
+  fresh-cap = ap (λ (s : State). s .cap) (demands .counted m f w .state)
+
+  -- and the area has as many pages
+  pub fresh-length : length (f .area) ≡ 256 * m .cap
+  fresh-length =
+      let i = demands .image m f w .image in
+      ap length (i .bytes) ∙ area-length 0 (i .pages) ∙ ap (λ (n : ℕ). 256 * n) (i .image .arranged .many)

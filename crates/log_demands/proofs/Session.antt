@@ -1,0 +1,63 @@
+-- 01's whole session, worked out by the definitions: bytes in, bytes out, and the file that it leaves. So the demands of a log speak of something.
+use mathlib.Core.Path.{_≡_, refl}
+use mathlib.Core.Bool.{true}
+use mathlib.Core.List.{List, [], _∷_, _++_}
+use Prim.Native.Nat.{ℕ}
+use lib.ListN.{replicate}
+use Rattle.numbers.specs.Little.{little, bytesOf, numberAt, written}
+use Rattle.numbers.specs.Fields.{encode}
+use Rattle.numbers.proofs.Laws.{Bytes, bytes-append}
+use Rattle.numbers.proofs.Records.{bytes-encode}
+use Rattle.homes.specs.Homes.{draw, mover, swept, moved, nextGroups, steps, home}
+use Rattle.pages.specs.Page.{pageBytes, recordsIn, wellFormed, readPage}
+use Rattle.pages.specs.Slots.{closed}
+use Rattle.pages.specs.Area.{partAt}
+use Rattle.state.specs.State.{all, inRange}
+use Rattle.walks.specs.Walks.{walk, putWalk, removeWalk}
+use Rattle.register.specs.Gates.{gateOf}
+use Rattle.register.specs.Files.{left}
+use Rattle.demands.specs.Histories.{Kept}
+use Rattle.commands.specs.declared.Command.the-variants.{Format, Put, Find}
+use Rattle.commands.specs.Records.{formOf, firstOf, layoutOf}
+use Rattle.commands.specs.Carry.{Site, site, carried}
+use Rattle.commands.specs.Log.{turn, log, wholeLog, bytesOfAll}
+use Rattle.log_demands.specs.LogDemands.{asked, keptBy, After}
+
+-- "Before a format the state is all zero"
+abbrev start : Site
+start = site (record { n0 = 0; n = 0; s = 0; p = 0; cap = 0; r = 0 }) (replicate 512 0) (0 ∷ 0 ∷ [])
+
+-- "Whole session, hex. In:"
+abbrev input : List ℕ
+input =
+    12 ∷ 0 ∷ 1 ∷ 1 ∷ 1 ∷ 0 ∷ 1 ∷ 0 ∷ 1 ∷ 0 ∷ 2 ∷ 0
+    ∷ 20 ∷ 0 ∷ 2 ∷ 1 ∷ 5 ∷ 0 ∷ 0 ∷ 0 ∷ 0 ∷ 0 ∷ 0 ∷ 0 ∷ 9 ∷ 0 ∷ 0 ∷ 0 ∷ 0 ∷ 0 ∷ 0 ∷ 0
+    ∷ 12 ∷ 0 ∷ 3 ∷ 1 ∷ 5 ∷ 0 ∷ 0 ∷ 0 ∷ 0 ∷ 0 ∷ 0 ∷ 0
+    ∷ []
+
+-- "Out:"
+abbrev output : List ℕ
+output =
+    28 ∷ 0 ∷ 1 ∷ 2 ∷ 0 ∷ 0 ∷ 0 ∷ 0 ∷ 0 ∷ 0 ∷ 0 ∷ 0 ∷ 0 ∷ 0 ∷ 0 ∷ 0 ∷ 0 ∷ 0 ∷ 0 ∷ 0 ∷ 0 ∷ 0 ∷ 0 ∷ 0 ∷ 1 ∷ 0 ∷ 0 ∷ 0
+    ∷ 28 ∷ 0 ∷ 1 ∷ 2 ∷ 0 ∷ 0 ∷ 0 ∷ 0 ∷ 0 ∷ 0 ∷ 0 ∷ 0 ∷ 0 ∷ 0 ∷ 0 ∷ 0 ∷ 1 ∷ 0 ∷ 0 ∷ 0 ∷ 0 ∷ 0 ∷ 0 ∷ 0 ∷ 1 ∷ 0 ∷ 0 ∷ 0
+    ∷ 28 ∷ 0 ∷ 1 ∷ 2 ∷ 0 ∷ 0 ∷ 0 ∷ 0 ∷ 9 ∷ 0 ∷ 0 ∷ 0 ∷ 0 ∷ 0 ∷ 0 ∷ 0 ∷ 1 ∷ 0 ∷ 0 ∷ 0 ∷ 0 ∷ 0 ∷ 0 ∷ 0 ∷ 1 ∷ 0 ∷ 0 ∷ 0
+    ∷ []
+
+pub session : bytesOfAll (wholeLog start input .replies) ≡ output
+unfolding draw mover swept moved nextGroups steps home little bytesOf numberAt written encode pageBytes recordsIn wellFormed readPage partAt closed all inRange walk putWalk removeWalk gateOf left formOf firstOf carried turn log bytesOfAll
+session = refl
+
+-- what it keeps: one record on one of two pages
+abbrev outcome : Kept
+outcome = record { n0 = 1; n = 1; s = 1; cap = 2; p = 1; held = (5, 9) ∷ [] }
+
+-- the session's bytes are those of its three commands
+bytes : Bytes input
+unfolding bytesOf encode
+bytes =
+    bytes-append (encode (layoutOf (Format 1 1 1 2))) (encode (layoutOf (Put 5 9)) ++ encode (layoutOf (Find 5))) (bytes-encode (layoutOf (Format 1 1 1 2)))
+    (bytes-append (encode (layoutOf (Put 5 9))) (encode (layoutOf (Find 5))) (bytes-encode (layoutOf (Put 5 9))) (bytes-encode (layoutOf (Find 5))))
+
+pub session-after : After outcome (wholeLog start input .site)
+unfolding draw mover swept moved nextGroups steps home little bytesOf numberAt written encode pageBytes recordsIn wellFormed readPage partAt closed all inRange walk putWalk removeWalk gateOf left formOf firstOf carried asked keptBy
+session-after = record { last = true; room = 44; start = start; input = input; bytes = bytes; keeps = refl; leaves = refl }

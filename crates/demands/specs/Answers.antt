@@ -12,7 +12,7 @@ use Rattle.register.proofs.put as Put
 use Rattle.register.proofs.remove as Remove
 use Rattle.register.proofs.check as Check
 use Rattle.register.proofs.grow as Grow
-use Rattle.register.specs.Files.{format, find, put, remove, grow, check, due, says, Left, leaves, left}
+use Rattle.register.specs.Files.{format, find, put, remove, grow, check, due, says, leaves, left}
 
 module _ (T : Ended) where
   -- what a call is given, what it returns, and what it leaves of that which was lent to be changed
@@ -25,12 +25,12 @@ module _ (T : Ended) where
   abbrev Gives : Lives → Type 0
   Gives = Res (T .signature)
 
-  -- Demand 1: "Every call takes any numbers and any bytes and ends": a contract asks nothing of its caller. 01: "prove that any two answers it allows are the same". And what it allows is what `left` says.
-  pub record Settled
+  -- Demand 1: "Every call takes any numbers and any bytes and ends": a contract asks nothing of its caller. 01: "prove that any two answers it allows are the same". And what it allows is what a definition says, here `left`.
+  pub record Settled {O : Type 0}
       (Asked : (κs : Lives) → Given κs → Type 0)
       (Learnt : (κs : Lives) → Given κs → Gives κs → AtExit T κs → Type 0)
-      (call : (κs : Lives) (a : Given κs) → Left)
-      (came : (κs : Lives) (a : Given κs) → Gives κs → Lasts T κs a → Left) : Type 0 where
+      (call : (κs : Lives) (a : Given κs) → O)
+      (came : (κs : Lives) (a : Given κs) → Gives κs → Lasts T κs a → O) : Type 0 where
     pub asks-nothing : (κs : Lives) (a : Given κs) → Asked κs a
     pub one : (κs : Lives) (a : Given κs) (y z : Gives κs) (v w : Lasts T κs a) → Learnt κs a y (atExit T κs a v) → Learnt κs a z (atExit T κs a w) → (y ≡ z) × (v ≡ w)
     pub does : (κs : Lives) (a : Given κs) (y : Gives κs) (v : Lasts T κs a) → Learnt κs a y (atExit T κs a v) → came κs a y v ≡ call κs a

@@ -3,3 +3,4 @@ pub mod OneMore
 pub mod OneCommand
 pub mod LogDemands
 pub mod Session
+pub mod LogAnswers

@@ -1,1 +1,2 @@
 pub mod LogDemands
+pub mod LogAnswers

@@ -15,6 +15,9 @@ pub const BAD_RECORD: u16 = 10;
 pub const CUT_OFF: u16 = 11;
 pub const TOO_MANY_PAGES: u16 = 12;
 
+/// The kind of a reply.
+const REPLY_KIND: u16 = 513;
+
 /// The answer with the state after the call. Refusal 0 means accepted.
 #[derive(Clone, Copy, Debug, PartialEq, Eq)]
 pub struct Answer {
@@ -54,5 +57,16 @@ impl Answer {
             page: page as u16,
             ..Answer::refused(state, BROKEN, read)
         }
+    }
+
+    /// What every reply has behind its length: kind, refusal, page, value,
+    /// pages read and moved.
+    pub fn push_numbers(&self, bytes: &mut Vec<u8>) {
+        bytes.extend(REPLY_KIND.to_le_bytes());
+        bytes.extend(self.refusal.to_le_bytes());
+        bytes.extend(self.page.to_le_bytes());
+        bytes.extend(self.value.to_le_bytes());
+        bytes.extend(self.read.to_le_bytes());
+        bytes.extend(self.moved.to_le_bytes());
     }
 }

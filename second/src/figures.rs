@@ -45,19 +45,21 @@ fn growth_order() -> String {
     )
 }
 
+/// The file of the homes, the movers and due.
+const FILE: State = State {
+    n0: 2,
+    groups: 2,
+    sweeps: 1,
+    pages: 4,
+    cap: 8,
+    records: 0,
+};
+
 fn homes() -> Vec<String> {
-    let file = State {
-        n0: 2,
-        groups: 2,
-        sweeps: 1,
-        pages: 4,
-        cap: 8,
-        records: 0,
-    };
     let mut lines = Vec::new();
     for key in 0..2 {
         for pages in 4..9 {
-            let at = home(State { pages, ..file }, key);
+            let at = home(State { pages, ..FILE }, key);
             lines.push(format!("n0 2, N 2, s 1, key {key}, P {pages}: home {at}"));
         }
     }
@@ -76,16 +78,8 @@ fn movers() -> Vec<String> {
 }
 
 fn due() -> Vec<String> {
-    let file = State {
-        n0: 2,
-        groups: 2,
-        sweeps: 1,
-        pages: 4,
-        cap: 8,
-        records: 0,
-    };
     let line = |records| {
-        let due = State { records, ..file }.due();
+        let due = State { records, ..FILE }.due();
         format!(
             "P 4, {records} records: {}",
             if due { "due" } else { "not due" }

@@ -10,7 +10,6 @@ use std::io::{Read, Write};
 
 /// The most pages a format may ask of this program.
 pub const MOST_PAGES: u16 = 128;
-pub const REPLY_KIND: u16 = 513;
 pub const REPLY_BYTES: usize = 28;
 const HEAD_BYTES: usize = 4;
 
@@ -157,12 +156,7 @@ impl Session {
 fn reply(answer: &Answer) -> Vec<u8> {
     let mut bytes = Vec::with_capacity(REPLY_BYTES);
     bytes.extend((REPLY_BYTES as u16).to_le_bytes());
-    bytes.extend(REPLY_KIND.to_le_bytes());
-    bytes.extend(answer.refusal.to_le_bytes());
-    bytes.extend(answer.page.to_le_bytes());
-    bytes.extend(answer.value.to_le_bytes());
-    bytes.extend(answer.read.to_le_bytes());
-    bytes.extend(answer.moved.to_le_bytes());
+    answer.push_numbers(&mut bytes);
     bytes.extend(answer.state.pages.to_le_bytes());
     bytes.extend(u16::from(answer.state.due()).to_le_bytes());
     bytes

@@ -15,7 +15,6 @@ pub const RECORD_HEAD: usize = 44;
 pub const REPLY_HEAD: usize = 50;
 pub const LONGEST_AREA: usize = 64 * PAGE_BYTES;
 pub const LONGEST_ROW: usize = 128;
-pub const REPLY_KIND: u16 = 513;
 pub const DUE_KIND: u16 = 256;
 
 /// One raw call with all that it is given.
@@ -135,12 +134,7 @@ fn reply(answer: &Answer, area: &[u8], row: &[u32]) -> Vec<u8> {
     let length = REPLY_HEAD + area.len() + 4 * row.len();
     let mut bytes = Vec::with_capacity(length);
     bytes.extend((length as u32).to_le_bytes());
-    bytes.extend(REPLY_KIND.to_le_bytes());
-    bytes.extend(answer.refusal.to_le_bytes());
-    bytes.extend(answer.page.to_le_bytes());
-    bytes.extend(answer.value.to_le_bytes());
-    bytes.extend(answer.read.to_le_bytes());
-    bytes.extend(answer.moved.to_le_bytes());
+    answer.push_numbers(&mut bytes);
     push_state(&mut bytes, answer.state);
     bytes.extend(u16::from(answer.state.due()).to_le_bytes());
     push_lent(&mut bytes, area, row);

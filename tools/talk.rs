@@ -133,8 +133,8 @@ fn talk(to: &mut ChildStdin, from: &mut ChildStdout) -> io::Result<bool> {
     let mut good = true;
     let prompt = if io::stdin().is_terminal() { "> " } else { "" };
     eprint!("{prompt}");
-    for (at, line) in io::stdin().lock().lines().enumerate() {
-        let line = line?;
+    for (at, bytes) in io::stdin().lock().split(b'\n').enumerate() {
+        let line = String::from_utf8_lossy(&bytes?).into_owned();
         if !line.trim().is_empty() && !line.trim().starts_with('#') {
             match parse(&line) {
                 Ok(asked) => println!("{}", words(&asked, &ask(&asked, to, from)?)),

@@ -9,6 +9,9 @@ use lib.Dec.{eqb}
 use lib.ListN.{length, drop}
 use borrow.Author.Tests.{eqb-true}
 use Rattle.placing.specs.Image.{All}
+use Rattle.state.specs.State.{all, inRange}
+use Rattle.register.specs.Gates.{gateOf, growGate}
+use Rattle.register.specs.Files.{left}
 use Rattle.demands.specs.Histories.{Kept}
 use Rattle.demands.specs.Demands.{Fresh}
 use Rattle.demands.proofs.Demands.{demands}
@@ -20,7 +23,7 @@ use Rattle.commands.specs.Records.{firstOf}
 use Rattle.commands.specs.Carry.{Site, carried}
 use Rattle.commands.specs.Log.{waits, stops, onItem, turn, onTurn, log}
 use Rattle.commands.proofs.Reading.{head-cut}
-use Rattle.log_demands.specs.LogDemands.{onFirst, asked, keptBy, fileAt, AsCalled, After, LogDemands}
+use Rattle.log_demands.specs.LogDemands.{onFirst, asked, keptBy, fileAt, AsCalled, AnswersOne, After, LogDemands}
 use Rattle.log_demands.proofs.Fits.{Fit, asked-fits}
 use Rattle.log_demands.proofs.OneCommand.{Holds, command-keeps}
 
@@ -73,6 +76,16 @@ called d (Remove k) = refl
 called d Grow = refl
 called d Check = refl
 
+-- no call but a format takes a state that is all zero
+before : (space row : List ℕ) (c : Command) → AnswersOne space row c
+unfolding carried left gateOf growGate inRange all
+before space row (Format n0 N s cap) = tt
+before space row (Put k v) = refl
+before space row (Find k) = refl
+before space row (Remove k) = refl
+before space row Grow = refl
+before space row Check = refl
+
 pub log-demands : LogDemands
 unfolding carried
-log-demands = record { fresh = fresh; called = called; found = λ m d w. demands .found m (fileAt d) (fresh m d w) }
+log-demands = record { before = before; fresh = fresh; called = called; found = λ m d w. demands .found m (fileAt d) (fresh m d w) }

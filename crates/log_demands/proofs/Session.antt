@@ -21,11 +21,11 @@ use Rattle.commands.specs.declared.Command.the-variants.{Format, Put, Find}
 use Rattle.commands.specs.Records.{formOf, firstOf, layoutOf}
 use Rattle.commands.specs.Carry.{Site, site, carried}
 use Rattle.commands.specs.Log.{turn, log, wholeLog, bytesOfAll}
-use Rattle.log_demands.specs.LogDemands.{asked, keptBy, After}
+use Rattle.log_demands.specs.LogDemands.{asked, keptBy, noFile, After}
 
--- "Before a format the state is all zero"
+-- two pages and a row of zeros, and no file yet
 abbrev start : Site
-start = site (record { n0 = 0; n = 0; s = 0; p = 0; cap = 0; r = 0 }) (replicate 512 0) (0 ∷ 0 ∷ [])
+start = site noFile (replicate 512 0) (0 ∷ 0 ∷ [])
 
 -- "Whole session, hex. In:"
 abbrev input : List ℕ

@@ -8,6 +8,7 @@ use mathlib.Core.List.{List, [], _∷_}
 use lib.ListN.{take, drop}
 use lib.Dec.{eqb}
 use Rattle.numbers.proofs.Laws.{Bytes}
+use Rattle.state.specs.declared.State.{State}
 use Rattle.register.specs.Files.{File, left, numbersOf}
 use Rattle.demands.specs.Histories.{Kept, commitOf, keeps}
 use Rattle.demands.specs.Demands.{Fresh}
@@ -16,7 +17,7 @@ use Rattle.commands.specs.declared.Command.the-variants.{Format, Put, Find, Rem
 use Rattle.commands.specs.declared.Item.{Item}
 use Rattle.commands.specs.declared.Item.the-variants.{Asks, Unknown, Cut}
 use Rattle.commands.specs.Records.{firstOf}
-use Rattle.commands.specs.Carry.{Site, callOf, carried}
+use Rattle.commands.specs.Carry.{Site, site, callOf, refusedBy, carried}
 use Rattle.commands.specs.Log.{log}
 
 -- the commands at the start of an input, at most so many
@@ -38,14 +39,26 @@ keptBy o d (c ∷ cs) = keptBy (cond (eqb (carried d c .numbers .refusal) 0) (ke
 abbrev pub fileAt : Site → File
 fileAt d = record { state = d .state; area = take (256 * d .state .cap) (d .space) }
 
--- a command is answered as its call on the file at the site; only a format is lent other pages
+-- something of every command but a format
+abbrev pub ButFormat : (Command → Type 0) → Command → Type 0
+ButFormat Says (Format n0 N s cap) = Unit {0}
+ButFormat Says (Put k v) = Says (Put k v)
+ButFormat Says (Find k) = Says (Find k)
+ButFormat Says (Remove k) = Says (Remove k)
+ButFormat Says Grow = Says Grow
+ButFormat Says Check = Says Check
+
+-- a command is answered as its call on the file at the site, with a count for each of its pages; only a format is lent other pages
 abbrev pub AsCalled : Site → Command → Type 0
-AsCalled d (Format n0 N s cap) = Unit {0}
-AsCalled d (Put k v) = carried d (Put k v) .numbers ≡ numbersOf (left (fileAt d) (callOf (Put k v) []) .said)
-AsCalled d (Find k) = carried d (Find k) .numbers ≡ numbersOf (left (fileAt d) (callOf (Find k) []) .said)
-AsCalled d (Remove k) = carried d (Remove k) .numbers ≡ numbersOf (left (fileAt d) (callOf (Remove k) []) .said)
-AsCalled d Grow = carried d Grow .numbers ≡ numbersOf (left (fileAt d) (callOf Grow (take (d .state .cap) (d .row))) .said)
-AsCalled d Check = carried d Check .numbers ≡ numbersOf (left (fileAt d) (callOf Check []) .said)
+AsCalled d = ButFormat (λ c. carried d c .numbers ≡ numbersOf (left (fileAt d) (callOf c (take (d .state .cap) (d .row))) .said))
+
+-- 01: "Before a format the state is all zero"
+abbrev pub noFile : State
+noFile = record { n0 = 0; n = 0; s = 0; p = 0; cap = 0; r = 0 }
+
+-- "so all calls but format answer 1"
+abbrev pub AnswersOne : (space row : List ℕ) → Command → Type 0
+AnswersOne space row = ButFormat (λ c. carried (site noFile space row) c .numbers ≡ refusedBy 1)
 
 -- After any bytes, from any site, in which a format was accepted, and with what the accepted commands keep
 pub record After (m : Kept) (d : Site) : Type 0 where
@@ -59,6 +72,7 @@ pub record After (m : Kept) (d : Site) : Type 0 where
 
 -- What is promised of a log, and proved as `log-demands` (proofs/LogDemands.antt)
 pub record LogDemands : Type 0 where
+  pub before : (space row : List ℕ) (c : Command) → AnswersOne space row c
   -- the file at the site is one that a fresh history left, with what the commands kept: all of `Demands` is of it
   pub fresh : (m : Kept) (d : Site) → After m d → Fresh m (fileAt d)
   -- and a command is answered as its call is on that file

@@ -19,7 +19,7 @@ use Rattle.commands.specs.declared.Item.{Item}
 use Rattle.commands.specs.declared.Item.the-variants.{Asks, Unknown, Cut}
 use Rattle.commands.specs.Records.{lengthOf, formOf, commandOf, formed, firstOf}
 use Rattle.commands.specs.Carry.{Site, Carried}
-use Rattle.commands.specs.Log.{Turn, waits, stops, goes, onItem, turn, Log, rests, replies, onTurn, log, wholeLog}
+use Rattle.commands.specs.Log.{Turn, waits, stops, goes, onItem, turn, Log, rests, answered, onTurn, log, wholeLog}
 use Rattle.commands.proofs.Reading.{head-low, of-number}
 use Rattle.commands.proofs.Turning.{behind}
 
@@ -99,10 +99,10 @@ abbrev resumed : Log → Log → Log
 resumed a b = cond (a .stopped) a (joined a b)
 
 -- a command's reply goes before both alike
-replies-resumed : (c : Carried) (n : ℕ) (a b : Log) → replies c n (resumed a b) ≡ resumed (replies c n a) b
-replies-resumed c n a b = go (a .stopped)
+answered-resumed : (c : Carried) (n : ℕ) (a b : Log) → answered c n (resumed a b) ≡ resumed (answered c n a) b
+answered-resumed c n a b = go (a .stopped)
   where
-    go : (u : Bool) → replies c n (cond u a (joined a b)) ≡ cond u (replies c n a) (joined (replies c n a) b)
+    go : (u : Bool) → answered c n (cond u a (joined a b)) ≡ cond u (answered c n a) (joined (answered c n a) b)
     go true = refl
     go false = rw add-assoc
 
@@ -122,7 +122,7 @@ resumes last (suc room) more d l m = go (turn false d l) (turn-same false d l) (
     go (goes c n) w h =
         let g = log false room (c .site) (drop n l) in
         let q : suc (length (g .replies)) + more ≡ suc (length (g .replies) + more) = omega arith in
-        rw (q, w .2 last m, drop-append-le n l m (w .1), h (c .site) (drop n l), drop-drop) (replies-resumed c n g _)
+        rw (q, w .2 last m, drop-append-le n l m (w .1), h (c .site) (drop n l), drop-drop) (answered-resumed c n g _)
 
 -- a log that has not stopped goes on with what comes next
 pub in-parts : (last : Bool) (room more : ℕ) (d : Site) (l m : List ℕ) → log false room d l .stopped ≡ false

@@ -7,9 +7,8 @@ use native.Mathlib.Omega.{arith}
 use lib.Dec.{eqb, ltb}
 use lib.ListN.{length, take, length-append}
 use borrow.Author.Tests.{eq-eqb, eqb-true, ltb-false}
-use Rattle.numbers.specs.Little.{numberAt}
+use Rattle.numbers.specs.Little.{Bytes, numberAt}
 use Rattle.numbers.specs.Fields.{Field, width, encode, matches}
-use Rattle.numbers.proofs.Laws.{Bytes}
 use Rattle.numbers.proofs.Records.{Fit, length-encode, match-first, match-rest, matches-sound, matches-complete}
 use Rattle.commands.specs.declared.Kind.{Kind}
 use Rattle.commands.specs.declared.Kind.the-variants as kind

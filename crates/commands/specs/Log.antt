@@ -42,14 +42,14 @@ abbrev pub stopsBy : ℕ → Site → Log
 stopsBy n d = record { replies = replyOf (refusedBy n) (d .state) ∷ []; site = d; taken = 0; stopped = true }
 
 -- a command's reply before those of the commands after it
-abbrev pub replies : Carried → (length : ℕ) → Log → Log
-replies c n g =
+abbrev pub answered : Carried → (length : ℕ) → Log → Log
+answered c n g =
     record { replies = replyOf (c .numbers) (c .site .state) ∷ g .replies; site = g .site; taken = n + g .taken; stopped = g .stopped }
 
 abbrev pub onTurn : Site → Turn → (Site → ℕ → Log) → Log
 onTurn d waits rest = rests d
 onTurn d (stops n) rest = stopsBy n d
-onTurn d (goes c n) rest = replies c n (rest (c .site) n)
+onTurn d (goes c n) rest = answered c n (rest (c .site) n)
 
 -- "It reads commands and writes one reply each": as many as there is room for, from an input that ends there (`last`) or may go on
 unfoldable pub log : (last : Bool) → (room : ℕ) → Site → List ℕ → Log

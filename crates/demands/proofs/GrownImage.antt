@@ -7,7 +7,8 @@ use native.Mathlib.Omega.{arith}
 use lib.Dec.{eqb}
 use lib.ListN.{length}
 use borrow.Author.Tests.{eq-eqb, ne-eqb}
-use Rattle.numbers.proofs.Laws.{Bytes, bytes-append}
+use Rattle.numbers.specs.Little.{Bytes}
+use Rattle.numbers.proofs.Laws.{bytes-append}
 use Rattle.placing.specs.Image.{cat, Image, Room}
 use Rattle.placing.specs.Lay.{rankIn, sort, taken}
 use Rattle.placing.specs.Rows.{counts, strayed}

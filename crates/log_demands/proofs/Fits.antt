@@ -7,8 +7,8 @@ use native.Mathlib.Omega.{arith}
 use lib.Dec.{eqb, ltb}
 use lib.ListN.{length, drop}
 use borrow.Author.Tests.{ltb-false}
-use Rattle.numbers.specs.Little.{numberAt}
-use Rattle.numbers.proofs.Laws.{Bytes, bytes-drop, number-bound}
+use Rattle.numbers.specs.Little.{Bytes, numberAt}
+use Rattle.numbers.proofs.Laws.{bytes-drop, number-bound}
 use Rattle.placing.specs.Image.{All}
 use Rattle.demands.specs.Histories.{Fits}
 use Rattle.commands.specs.declared.Kind.{Kind}

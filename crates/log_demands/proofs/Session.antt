@@ -4,9 +4,9 @@ use mathlib.Core.Bool.{true}
 use mathlib.Core.List.{List, [], _∷_, _++_}
 use Prim.Native.Nat.{ℕ}
 use lib.ListN.{replicate}
-use Rattle.numbers.specs.Little.{little, bytesOf, numberAt, written}
+use Rattle.numbers.specs.Little.{Bytes, little, bytesOf, numberAt, written}
 use Rattle.numbers.specs.Fields.{encode}
-use Rattle.numbers.proofs.Laws.{Bytes, bytes-append}
+use Rattle.numbers.proofs.Laws.{bytes-append}
 use Rattle.numbers.proofs.Records.{bytes-encode}
 use Rattle.homes.specs.Homes.{draw, mover, swept, moved, nextGroups, steps, home}
 use Rattle.pages.specs.Page.{pageBytes, recordsIn, wellFormed, readPage}

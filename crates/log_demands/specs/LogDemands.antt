@@ -1,4 +1,4 @@
--- What the demands come to in a log: `LogDemands`, at the end. What is quoted is the demands'.
+-- What the demands come to in a log: `LogDemands`, at the end. What is quoted is the demands', or 01's where it says so.
 use Prim.Native.Nat.{ℕ, zero, suc, _*_, _^_, _<_}
 use mathlib.Core.Path.{_≡_}
 use mathlib.Core.Logic.{_↔_}
@@ -7,7 +7,7 @@ use mathlib.Core.Option.{Option, none, some}
 use mathlib.Core.List.{List, [], _∷_}
 use lib.ListN.{take, drop}
 use lib.Dec.{eqb}
-use Rattle.numbers.proofs.Laws.{Bytes}
+use Rattle.numbers.specs.Little.{Bytes}
 use Rattle.state.specs.declared.State.{State}
 use Rattle.register.specs.Files.{File, left, numbersOf}
 use Rattle.demands.specs.Histories.{Kept, commitOf, keeps}
@@ -20,12 +20,13 @@ use Rattle.commands.specs.Records.{firstOf}
 use Rattle.commands.specs.Carry.{Site, site, callOf, refusedBy, carried}
 use Rattle.commands.specs.Log.{log}
 
--- the commands at the start of an input, at most so many
+-- a command that is read goes before those behind it; at what is no command they end
 abbrev pub onFirst : Item → (ℕ → List Command) → List Command
 onFirst (Asks c n) rest = c ∷ rest n
 onFirst Unknown rest = []
 onFirst Cut rest = []
 
+-- the commands at the start of an input, at most so many
 unfoldable pub asked : (room : ℕ) → List ℕ → List Command
 asked zero l = []
 asked (suc room) l = onFirst (firstOf l) (λ n. asked room (drop n l))
@@ -56,7 +57,7 @@ AsCalled d = ButFormat (λ c. carried d c .numbers ≡ numbersOf (left (fileAt d
 abbrev pub noFile : State
 noFile = record { n0 = 0; n = 0; s = 0; p = 0; cap = 0; r = 0 }
 
--- "so all calls but format answer 1"
+-- 01: "so all calls but format answer 1"
 abbrev pub AnswersOne : (space row : List ℕ) → Command → Type 0
 AnswersOne space row = ButFormat (λ c. carried (site noFile space row) c .numbers ≡ refusedBy 1)
 

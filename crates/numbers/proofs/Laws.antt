@@ -7,11 +7,7 @@ use native.Mathlib.Numerals.{add-one}
 use native.Mathlib.Omega.{arith}
 use lib.ListN.{length, take, drop, getD, set, length-append, length-take, length-drop, take-append-drop, List·getD-append}
 use lib.Seq.{take-append-le, drop-append-le, drop-cons, drop-drop, drop-length, length-take-le, take-at, drop-at, take-append-seam, getD-take, getD-drop, set-split}
-use Rattle.numbers.specs.Little.{little, bytesOf, numberAt, written}
-
--- each element is a byte
-abbrev pub Bytes : List ℕ → Type 0
-Bytes bs = (k : ℕ) → k < length bs → getD bs k 0 < 256
+use Rattle.numbers.specs.Little.{Bytes, little, bytesOf, numberAt, written}
 
 -- the bytes of a number are bytes
 pub bytes-of : (w x : ℕ) → Bytes (bytesOf w x)

@@ -9,9 +9,9 @@ use borrow.Author.Tests.{eqb-true, eq-eqb}
 use lib.Dec.{eqb}
 use lib.ListN.{length, take, drop, length-append}
 use lib.Seq.{take-add, drop-drop}
-use Rattle.numbers.specs.Little.{bytesOf, numberAt, written}
+use Rattle.numbers.specs.Little.{Bytes, bytesOf, numberAt, written}
 use Rattle.numbers.specs.Fields.{Field, width, encode, matches}
-use Rattle.numbers.proofs.Laws.{Bytes, bytes-of, bytes-append, length-bytes, bytes-number, number-between, written-length, written-nil, written-written}
+use Rattle.numbers.proofs.Laws.{bytes-of, bytes-append, length-bytes, bytes-number, number-between, written-length, written-nil, written-written}
 
 -- each number fits its width
 abbrev pub Fit : List Field → Type 0

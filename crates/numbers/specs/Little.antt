@@ -1,7 +1,11 @@
 -- Numbers of any width in bytes (01, 'Bytes of a page': "All numbers little-endian").
-use Prim.Native.Nat.{ℕ, zero, suc, _+_, _*_, _/_, _%_}
+use Prim.Native.Nat.{ℕ, zero, suc, _+_, _*_, _/_, _%_, _<_}
 use mathlib.Core.List.{List, [], _∷_, _++_}
-use lib.ListN.{length, take, drop}
+use lib.ListN.{length, take, drop, getD}
+
+-- each element is a byte
+abbrev pub Bytes : List ℕ → Type 0
+Bytes bs = (k : ℕ) → k < length bs → getD bs k 0 < 256
 
 -- the number that bytes make, the lowest first
 unfoldable pub little : List ℕ → ℕ

@@ -4,7 +4,8 @@ use mathlib.Core.List.{List}
 use Prim.Native.Nat.{ℕ, zero, suc, _+_, _*_, _^_, _≤_, _<_}
 use native.Mathlib.Omega.{arith}
 use lib.ListN.{length, drop}
-use Rattle.numbers.proofs.Laws.{Bytes, bytes-take, bytes-drop, length-part, number-bound}
+use Rattle.numbers.specs.Little.{Bytes}
+use Rattle.numbers.proofs.Laws.{bytes-take, bytes-drop, length-part, number-bound}
 use Rattle.placing.specs.Image.{All}
 use Rattle.placing.proofs.Lists.{all-map}
 use Rattle.pages.specs.Page.{Record, key, value, recordsFrom, countIn, recordsIn}

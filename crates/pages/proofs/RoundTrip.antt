@@ -7,9 +7,8 @@ use Prim.Native.Nat.{ℕ, zero, suc, _+_, _*_, _^_, _≤_, _<_}
 use native.Mathlib.Omega.{arith}
 use lib.ListN.{length}
 use lib.Seq.{take-all}
-use Rattle.numbers.specs.Little.{numberAt}
+use Rattle.numbers.specs.Little.{Bytes, numberAt}
 use Rattle.numbers.specs.Fields.{Field, width, encode, matches}
-use Rattle.numbers.proofs.Laws.{Bytes}
 use Rattle.numbers.proofs.Records.{Fit, length-encode, encode-append, and-left, and-right, match-first, match-rest, match-at, matches-append, matches-sound, matches-complete}
 use Rattle.placing.specs.Image.{All}
 use Rattle.placing.proofs.Seek.{clash}

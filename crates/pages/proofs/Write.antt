@@ -7,9 +7,9 @@ use native.Mathlib.Omega.{arith}
 use lib.ListN.{length, drop, getD, replicate}
 use lib.Seq.{drop-drop}
 use borrow.Rule.Slice.PartMut.{putMid}
-use Rattle.numbers.specs.Little.{written}
+use Rattle.numbers.specs.Little.{Bytes, written}
 use Rattle.numbers.specs.Fields.{Field, width, encode}
-use Rattle.numbers.proofs.Laws.{Bytes, written-nil, written-all, written-written}
+use Rattle.numbers.proofs.Laws.{written-nil, written-all, written-written}
 use Rattle.numbers.proofs.Records.{length-encode, encode-append, bytes-encode}
 use Rattle.pages.specs.Page.{Record, key, value, head, slot, slots, fields, pageBytes}
 use Rattle.pages.proofs.Held.{Held}

@@ -3,7 +3,7 @@ use mathlib.Core.List.{List, [], _∷_}
 use Prim.Native.Nat.{ℕ, zero, suc, _+_, _*_, _^_, _≤_, _<_}
 use native.Mathlib.Omega.{arith}
 use lib.ListN.{length}
-use Rattle.numbers.proofs.Laws.{Bytes}
+use Rattle.numbers.specs.Little.{Bytes}
 use Rattle.placing.specs.Image.{All}
 use Rattle.placing.proofs.Lists.{all-append}
 use Rattle.pages.specs.Page.{Record, key, value, recordsIn}

@@ -8,7 +8,7 @@ use Prim.Native.Nat.{ℕ, suc, _*_}
 use native.Mathlib.Omega.{arith}
 use lib.Dec.{eqb}
 use lib.ListN.{length}
-use Rattle.numbers.proofs.Laws.{Bytes}
+use Rattle.numbers.specs.Little.{Bytes}
 use Rattle.placing.specs.Image.{cat, Image}
 use Rattle.placing.proofs.Perms.{perm-length}
 use Rattle.pages.proofs.Areas.{area-pages, held-length}

@@ -7,7 +7,7 @@ use native.Mathlib.Omega.{arith}
 use lib.Dec.{eqb}
 use lib.ListN.{length}
 use borrow.Author.Tests.{eqb-true}
-use Rattle.numbers.proofs.Laws.{Bytes}
+use Rattle.numbers.specs.Little.{Bytes}
 use Rattle.homes.specs.declared.Shape.{Shape}
 use Rattle.homes.specs.Homes.{shapeOf, homeIn}
 use Rattle.homes.proofs.Homes.{home-below}

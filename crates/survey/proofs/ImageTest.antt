@@ -9,7 +9,7 @@ use native.Mathlib.Omega.{arith}
 use lib.Dec.{leb}
 use lib.ListN.{length}
 use borrow.Author.Tests.{leb-true, le-leb}
-use Rattle.numbers.proofs.Laws.{Bytes}
+use Rattle.numbers.specs.Little.{Bytes}
 use Rattle.numbers.proofs.Records.{and-left, and-right}
 use Rattle.placing.specs.Image.{All, cat, Distinct, RecordSet, home, Image}
 use Rattle.placing.specs.Lay.{rankOf, rankIn}

@@ -4,9 +4,6 @@ use lib.ListN.{length}
 use borrow.Author.Needs.{needs}
 use Rattle.page_rules.proofs.empty_slots.Statement.{statement}
 use Rattle.page_rules.proofs.empty_slots.Tie as tie
-use Rattle.page_rules.proofs.empty_slots.Reads as reads
-use Rattle.page_rules.proofs.empty_slots.Lts as lts
-use Rattle.page_rules.proofs.slot.Reads as slot-reads
 
 abbrev Inv-loop : tie.InvT-loop
 Inv-loop part₀ i₀ part i = (i ≤ 12) × (length part ≡ 256)

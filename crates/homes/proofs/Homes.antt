@@ -1,13 +1,14 @@
 -- The laws of the homes of a file: a home is a page of it, and one page more leaves a key where it is or takes it there.
 --
 use mathlib.Core.Path.{_≡_}
-use mathlib.Core.Logic.{_⊎_}
+use mathlib.Core.Logic.{_⊎_, inl, inr, ⊎-elim}
 use Prim.Native.Nat.{ℕ, zero, suc, _+_, _-_, _*_, _%_, _<_}
 use native.Mathlib.Nat.{mod-lt, mul-pos}
 use native.Mathlib.Omega.{arith}
-use Rattle.homes.specs.Homes.{seedOf, draw, mover, newPage, home, InRange}
+use Rattle.homes.specs.Homes.{seedOf, draw, mover, newPage, home, InRange, shapeOf}
+use Rattle.homes.specs.Last.{lastStep}
 use Rattle.homes.proofs.New.{new-low, new-high}
-use Rattle.homes.proofs.Steps.{Into, steps-below, grown}
+use Rattle.homes.proofs.Steps.{Into, OneMore, steps-below, grown}
 
 -- The sweeps lead to a page that the step adds.
 pub new-into : (s : ℕ) → 0 < s → Into (newPage s)
@@ -23,11 +24,15 @@ unfolding home
 home-below n0 N s P K r =
     steps-below (λ x F. mover n0 K x) (newPage s) n0 P (P - n0 * N) 1 (n0 * N) N (K % (n0 * N)) (first-below n0 N s P K r)
 
--- With one page more each key stays at home, or its home becomes that page.
-pub home-grown : (n0 N s P K : ℕ) → InRange n0 N s P → (home n0 N s (P + 1) K ≡ home n0 N s P K) ⊎ (home n0 N s (P + 1) K ≡ P)
+-- With one page more each key stays at home, or its home becomes that page, where the last step leads there from it.
+pub home-more : (n0 N s P K : ℕ) → InRange n0 N s P → OneMore (newPage s) P (lastStep (shapeOf n0 N s (P + 1))) (home n0 N s P K) (home n0 N s (P + 1) K)
 unfolding home
-home-grown n0 N s P K r =
+home-more n0 N s P K r =
     grown (λ x F. mover n0 K x) (newPage s) (new-into s (r .s-low)) n0 P 1 (n0 * N) N (K % (n0 * N)) (r .N-low)
+
+-- In short: it stays or becomes that page.
+pub home-grown : (n0 N s P K : ℕ) → InRange n0 N s P → (home n0 N s (P + 1) K ≡ home n0 N s P K) ⊎ (home n0 N s (P + 1) K ≡ P)
+home-grown n0 N s P K r = ⊎-elim inl (λ w. inr (w .0)) (home-more n0 N s P K r)
 
 -- Every draw is below its modulus, the seed too.
 pub draw-below : (K x : ℕ) → draw (seedOf K) x < 2147483647

@@ -3,3 +3,4 @@ pub mod Steps
 pub mod Forty
 pub mod Homes
 pub mod Turn
+pub mod Last

@@ -7,7 +7,9 @@ use Prim.Native.Nat.{ℕ, zero, suc, _+_, _-_, _*_, _%_, _≤_, _<_}
 use native.Mathlib.Omega.{arith}
 use lib.Dec.{ltb, eqb}
 use borrow.Author.Tests.{ltb-true, ltb-false, lt-ltb, le-ltb}
+use Rattle.homes.specs.declared.Stage.{Stage}
 use Rattle.homes.specs.Homes.{moved, nextGroups, steps}
+use Rattle.homes.specs.Last.{lastFrom}
 use Rattle.homes.proofs.New.{split}
 
 -- A way to a new page leads into the pages that a step adds.
@@ -65,6 +67,17 @@ groups-pos n0 x G h = go (eqb ((x - 1) % n0) (n0 - 1))
     go true = omega arith
     go false = h
 
+-- A step that reaches size P is the last.
+pub last-here : (n0 P left x F G : ℕ) → P ≤ F + G → lastFrom n0 P left x F G ≡ record { f = F; g = G }
+unfolding lastFrom
+last-here n0 P zero x F G h = refl
+last-here n0 P (suc left) x F G h = rw (le-ltb (F + G) P h)
+
+-- After any other step the last is still to come.
+pub last-later : (n0 P left x F G : ℕ) → F + G < P → lastFrom n0 P (suc left) x F G ≡ lastFrom n0 P left (suc x) (F + G) (nextGroups n0 x G)
+unfolding lastFrom
+last-later n0 P left x F G h = rw (lt-ltb (F + G) P h)
+
 module _ (moves : ℕ → ℕ → Bool) (goes : ℕ → ℕ → ℕ → ℕ) (n0 P : ℕ) where
   -- At size P or past it no step is taken.
   pub stopped : (left x F G a : ℕ) → P ≤ F → steps moves goes n0 P left x F G a ≡ a
@@ -108,10 +121,15 @@ module _ (moves : ℕ → ℕ → Bool) (goes : ℕ → ℕ → ℕ → ℕ) (n0
       go true l = l
       go false l = h
 
+-- What one page more, page P, does to a page: it stays, or becomes P, where the last step leads there from it.
+abbrev pub OneMore : (goes : ℕ → ℕ → ℕ → ℕ) (P : ℕ) (last : Stage) (a b : ℕ) → Type 0
+OneMore goes P last a b = (b ≡ a) ⊎ ((b ≡ P) × (goes (last .f) (last .g) a ≡ P))
+
 module _ (moves : ℕ → ℕ → Bool) (goes : ℕ → ℕ → ℕ → ℕ) (into : Into goes) (n0 P : ℕ) where
   -- what is shown of the steps with one page more
   abbrev Grown : (left x F G a : ℕ) → Type 0
-  Grown left x F G a = (steps moves goes n0 (P + 1) left x F G a ≡ steps moves goes n0 P left x F G a) ⊎ (steps moves goes n0 (P + 1) left x F G a ≡ P)
+  Grown left x F G a =
+      OneMore goes P (lastFrom n0 (P + 1) left x F G) (steps moves goes n0 P left x F G a) (steps moves goes n0 (P + 1) left x F G a)
 
   -- one step, where `rest` shows it of the steps after
   grown-step : (left x F G a : ℕ) → 0 < G → Grown left (suc x) (F + G) (nextGroups n0 x G) (moved P (moves x F) (goes F G a) a) → Grown (suc left) x F G a
@@ -133,31 +151,50 @@ module _ (moves : ℕ → ℕ → Bool) (goes : ℕ → ℕ → ℕ → ℕ) (in
       step : (b′ ≡ a′) ⊎ ((b′ ≡ P) × (new ≡ P))
       step = moved-grown P (moves x F) new a
 
-      then : ℕ → ℕ
-      then b = steps moves goes n0 (P + 1) left (suc x) (F + G) (nextGroups n0 x G) b
+      then : (size b : ℕ) → ℕ
+      then size b = steps moves goes n0 size left (suc x) (F + G) (nextGroups n0 x G) b
 
-      on : F < P + 1 → steps moves goes n0 (P + 1) (suc left) x F G a ≡ then b′
+      on : F < P + 1 → steps moves goes n0 (P + 1) (suc left) x F G a ≡ then (P + 1) b′
       on lt = goes-on moves goes n0 (P + 1) left x F G a lt
 
-      ends : P + 1 ≤ F + G → then b′ ≡ b′
-      ends h = stopped moves goes n0 (P + 1) left (suc x) (F + G) (nextGroups n0 x G) b′ h
+      off : F < P → then P a′ ≡ steps moves goes n0 P (suc left) x F G a
+      off lt = sym (goes-on moves goes n0 P left x F G a lt)
 
-      -- both move alike, and go on
+      ends : (size b : ℕ) → size ≤ F + G → then size b ≡ b
+      ends size b h = stopped moves goes n0 size left (suc x) (F + G) (nextGroups n0 x G) b h
+
+      -- both move alike, and take further steps
+      further : F < P → F + G < P + 1 → b′ ≡ a′ → Grown left (suc x) (F + G) (nextGroups n0 x G) a′ → Grown (suc left) x F G a
+      further lt more e (inl r) = inl (on (omega arith) ∙ ap (then (P + 1)) e ∙ r ∙ off lt)
+      further lt more e (inr r) =
+          inr (on (omega arith) ∙ ap (then (P + 1)) e ∙ r .0, rw (last-later n0 (P + 1) left x F G more, ← off lt) (r .1))
+
+      -- both move alike, by the last step or one before it
       same : F < P → b′ ≡ a′ → Grown (suc left) x F G a
       same lt e =
           ⊎-elim
-          (λ r. inl (on (omega arith) ∙ ap then e ∙ r ∙ sym (goes-on moves goes n0 P left x F G a lt)))
-          (λ r. inr (on (omega arith) ∙ ap then e ∙ r))
-          rest
+          (λ more. further lt more e rest)
+          (λ over. inl (on (omega arith) ∙ ends (P + 1) b′ over ∙ e ∙ sym (ends P a′ (omega arith)) ∙ off lt))
+          (split (F + G) (P + 1))
 
-      -- one moves to page P, and ends there
+      -- who does not go to a new page P stays
+      kept : P ≤ new → P ≤ F + G → steps moves goes n0 P (suc left) x F G a ≡ a
+      kept h over =
+          ⊎-elim
+          (λ lt. sym (off lt) ∙ ends P a′ over ∙ moved-past P (moves x F) new a h)
+          (λ ge. stopped moves goes n0 P (suc left) x F G a ge)
+          (split F P)
+
+      -- one moves to page P, and ends there; the other stays
       to : F < P + 1 → (b′ ≡ P) × (new ≡ P) → Grown (suc left) x F G a
-      to lt w = inr (on lt ∙ ends (omega (arith, w .1, into .high F G a hG)) ∙ w .0)
+      to lt w =
+          let over : P + 1 ≤ F + G = omega (arith, w .1, into .high F G a hG) in
+          inr (on lt ∙ ends (P + 1) b′ over ∙ w .0, rw (last-here n0 (P + 1) (suc left) x F G over, kept (omega (arith, w .1)) (omega arith)) (w .1))
 
       -- the size is P, and one takes a step more, by which it stays
       stays : P ≤ F → F < P + 1 → b′ ≡ a′ → Grown (suc left) x F G a
       stays ge lt e =
-          inl (on lt ∙ ends (omega arith) ∙ e ∙ moved-past P (moves x F) new a (omega (arith, into .low F G a)) ∙ sym (stopped moves goes n0 P (suc left) x F G a ge))
+          inl (on lt ∙ ends (P + 1) b′ (omega arith) ∙ e ∙ moved-past P (moves x F) new a (omega (arith, into .low F G a)) ∙ sym (stopped moves goes n0 P (suc left) x F G a ge))
 
       -- the size is past P, and both have ended
       past : P + 1 ≤ F → Grown (suc left) x F G a
@@ -165,7 +202,7 @@ module _ (moves : ℕ → ℕ → Bool) (goes : ℕ → ℕ → ℕ → ℕ) (in
           inl (stopped moves goes n0 (P + 1) (suc left) x F G a gt ∙ sym (stopped moves goes n0 P (suc left) x F G a (omega arith)))
 
   -- With one page more and as many steps left, the steps lead to the same page or to that one.
-  pub steps-grown : (left x F G a : ℕ) → 0 < G → (steps moves goes n0 (P + 1) left x F G a ≡ steps moves goes n0 P left x F G a) ⊎ (steps moves goes n0 (P + 1) left x F G a ≡ P)
+  pub steps-grown : (left x F G a : ℕ) → 0 < G → OneMore goes P (lastFrom n0 (P + 1) left x F G) (steps moves goes n0 P left x F G a) (steps moves goes n0 (P + 1) left x F G a)
   unfolding steps
   steps-grown zero x F G a hG = inl refl
   steps-grown (suc left) x F G a hG =
@@ -173,7 +210,6 @@ module _ (moves : ℕ → ℕ → Bool) (goes : ℕ → ℕ → ℕ → ℕ) (in
       (steps-grown left (suc x) (F + G) (nextGroups n0 x G) (moved P (moves x F) (goes F G a) a) (groups-pos n0 x G hG))
 
   -- The same with just enough steps left in both.
-  pub grown : (x F G a : ℕ) → 0 < G → (steps moves goes n0 (P + 1) (P + 1 - F) x F G a ≡ steps moves goes n0 P (P - F) x F G a) ⊎ (steps moves goes n0 (P + 1) (P + 1 - F) x F G a ≡ P)
+  pub grown : (x F G a : ℕ) → 0 < G → OneMore goes P (lastFrom n0 (P + 1) (P + 1 - F) x F G) (steps moves goes n0 P (P - F) x F G a) (steps moves goes n0 (P + 1) (P + 1 - F) x F G a)
   grown x F G a hG =
-      let more = enough moves goes n0 P (P + 1 - F) (P - F) x F G a hG (omega arith) (omega arith) in
-      ⊎-elim (λ e. inl (e ∙ more)) (λ e. inr e) (steps-grown (P + 1 - F) x F G a hG)
+      rw (← enough moves goes n0 P (P + 1 - F) (P - F) x F G a hG (omega arith) (omega arith)) (steps-grown (P + 1 - F) x F G a hG)

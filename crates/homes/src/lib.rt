@@ -2,6 +2,7 @@
 ghost use mathlib.Core.Path.{_≡_};
 ghost use Prim.Native.Nat.{_*_, _%_, _≤_, _<_, min};
 ghost use Rattle.homes.specs.Homes.{InRange, Ready, shapeOf, homeIn, newPage, moved};
+ghost use Rattle.homes.specs.Last.{Within, lastStep, staysAt};
 
 // The numbers of a file that its homes depend on: pages a group and groups at the start, sweeps, pages grown to.
 pub struct Shape {
@@ -9,6 +10,12 @@ pub struct Shape {
     pub n: u64,
     pub s: u64,
     pub p: u64,
+}
+
+// A step: size and groups before it.
+pub struct Stage {
+    pub f: u64,
+    pub g: u64,
 }
 
 // The draw after a draw; after the seed, the first.
@@ -83,5 +90,37 @@ impl Shape {
             }
         }
         address
+    }
+
+    // The last step that a file of this shape takes, asked for once a growth.
+    pub fn last_step(self) -> Stage
+        requires { ⌜ Ready self × (self .n0 * self .n < self .p) ⌝ }
+        ensures { λ r. ⌜ r ≡ lastStep self ⌝ }
+        ensures within { λ r. ⌜ Within r ⌝ }
+    {
+        let n0 = self.n0;
+        let p = self.p;
+        let mut g = self.n;
+        let mut f = n0 * g;
+        let mut np = n0;
+        while f + g < p {
+            f += g;
+            np += 1;
+            if np == 2 * n0 {
+                np = n0;
+                g = 2 * g;
+            }
+        }
+        Stage { f, g }
+    }
+
+    // Whether all keys that had their home on a page before the last page was added have it there still. It tells so by the page's group alone, and may say no where all stay.
+    pub fn stays(self, last: Stage, page: u64) -> bool
+        requires { ⌜ Ready self × Within last ⌝ }
+        ensures { λ r. ⌜ r ≡ staysAt self last page ⌝ }
+    {
+        let added = self.p - 1;
+        let new = new_page(self.s, last.f, last.g, page);
+        (page < added) & (new != added)
     }
 }

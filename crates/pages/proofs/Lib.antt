@@ -10,3 +10,4 @@ pub mod RoundTrip
 pub mod Rules
 pub mod Places
 pub mod Areas
+pub mod Homing

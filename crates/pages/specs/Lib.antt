@@ -1,3 +1,4 @@
 pub mod Page
 pub mod Slots
 pub mod Area
+pub mod Known

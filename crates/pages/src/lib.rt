@@ -1,4 +1,5 @@
 // A page of twelve records: 256 bytes of a lent area, and one value in memory.
+pub mod known;
 pub mod slots;
 
 use homes::Shape;

@@ -1,22 +1,25 @@
 // A file made anew in its own area: its records packed as entries at the top end, sorted by (home, key), and laid on the pages from below.
 use entries::Entry;
 use homes::Shape;
+use homes::Stage;
 use pages::Page;
 ghost use mathlib.Core.Path.{_≡_};
 ghost use mathlib.Core.Bool.{not};
 ghost use mathlib.Core.List.{[], _++_, map};
-ghost use Prim.Native.Nat.{_+_, _-_, _*_, _/_, _≤_, _<_};
+ghost use Prim.Native.Nat.{ℕ, _+_, _-_, _*_, _/_, _≤_, _<_};
 ghost use lib.ListN.{length, take, drop};
 ghost use lib.Dec.{eqb};
 ghost use Rattle.numbers.specs.Little.{written};
 ghost use Rattle.homes.specs.Homes.{Ready, homeIn};
+ghost use Rattle.homes.specs.Last.{Within, staysAt};
 ghost use Rattle.placing.specs.Image.{RecordSet, cat};
 ghost use Rattle.placing.specs.Lay.{one, lay, taken};
 ghost use Rattle.placing.specs.Rows.{strayed};
 ghost use Rattle.placing.proofs.Order.{Sorted};
-ghost use Rattle.pages.specs.Page.{key, homeFor};
+ghost use Rattle.pages.specs.Page.{key, homeFor, padded};
 ghost use Rattle.pages.specs.Slots.{recordsOf};
 ghost use Rattle.pages.specs.Area.{heldFrom, areaFrom};
+ghost use Rattle.pages.specs.Known.{KnownAt};
 ghost use Rattle.entries.specs.Entries.{entriesIn, rowBytes, rank, home};
 ghost use Rattle.rebuild.specs.Rebuild.{tagged, packed, recordIn, hopsFrom, took, relaid};
 
@@ -27,9 +30,16 @@ pub struct Took {
     pub moved: u32,
 }
 
-// The records of page a as entries, the last first, downward from `top`; the answer is where they begin.
-fn pack_page(area: &mut [u8], page: Page, a: usize, shape: Shape, top: usize) -> usize
-    requires { ⌜ (page .count ≤ 12) × (a < 4096) × (20 * page .count ≤ top) × (top ≤ length (now area)) × Ready shape ⌝ }
+// The records of page a with their homes as entries, the last first, downward from `top`; the answer is where they begin.
+fn pack_page(
+    area: &mut [u8],
+    page: Page,
+    homes: [u64; 12],
+    a: usize,
+    shape: Shape,
+    top: usize,
+) -> usize
+    requires { ⌜ (page .count ≤ 12) × (a < 4096) × (20 * page .count ≤ top) × (top ≤ length (now area)) × Ready shape × (homes ≡ padded (map (homeFor (homeIn shape)) (recordsOf page))) ⌝ }
     ensures { λ r. ⌜ r ≡ top - 20 * page .count ⌝ }
     ensures { λ r. ⌜ now (area .exit) ≡ written (now (area .entry)) (top - 20 * page .count) (rowBytes (tagged (homeIn shape) a (recordsOf page))) ⌝ }
 {
@@ -40,12 +50,10 @@ fn pack_page(area: &mut [u8], page: Page, a: usize, shape: Shape, top: usize) ->
     while 0 < i {
         i -= 1;
         at -= 20;
-        let key = keys[i];
-        let home = shape.home(key) as u16;
         let e = Entry {
-            home,
+            home: homes[i] as u16,
             from: a as u16,
-            key,
+            key: keys[i],
             value: values[i],
         };
         entries::put_entry(area, at, e);
@@ -54,8 +62,9 @@ fn pack_page(area: &mut [u8], page: Page, a: usize, shape: Shape, top: usize) ->
 }
 
 // All records of an area as entries at its top end, in the order of the pages; the answer is where they begin. A page is read before entries may cover it.
-pub fn pack(area: &mut [u8], cap: usize, shape: Shape) -> usize
+pub fn pack(area: &mut [u8], cap: usize, shape: Shape, last: Stage) -> usize
     requires { ⌜ (cap ≤ 4096) × (length (now area) ≡ 256 * cap) × Ready shape ⌝ }
+    requires { ⌜ Within last × ((a : ℕ) → a < cap → KnownAt (homeIn shape) (staysAt shape last) (now area) a) ⌝ }
     ensures { λ r. ⌜ r ≡ 256 * cap - 20 * length (packed (homeIn shape) cap (now (area .entry))) ⌝ }
     ensures { λ r. ⌜ now (area .exit) ≡ take r (now (area .entry)) ++ rowBytes (packed (homeIn shape) cap (now (area .entry))) ⌝ }
 {
@@ -64,7 +73,8 @@ pub fn pack(area: &mut [u8], cap: usize, shape: Shape) -> usize
     while 0 < a {
         a -= 1;
         let page = pages::parse_at(&area[..], a);
-        at = pack_page(area, page, a, shape, at);
+        let homes = pages::known::homes_at(&area[..], a, page, shape, last);
+        at = pack_page(area, page, homes, a, shape, at);
     }
     at
 }
@@ -126,14 +136,15 @@ pub fn unpack(area: &mut [u8], cap: usize, base: usize) -> u32
     moved
 }
 
-// The records of an area laid anew for the homes of a shape; the answer is how many lie on another page.
-pub fn rebuild(area: &mut [u8], cap: usize, shape: Shape) -> u32
+// The records of an area laid anew, in a file that grew by the step `last`; the answer is how many lie on another page.
+pub fn rebuild(area: &mut [u8], cap: usize, shape: Shape, last: Stage) -> u32
     requires { ⌜ (cap ≤ 4096) × (length (now area) ≡ 256 * cap) × Ready shape ⌝ }
+    requires { ⌜ Within last × ((a : ℕ) → a < cap → KnownAt (homeIn shape) (staysAt shape last) (now area) a) ⌝ }
     requires { ⌜ RecordSet key (cat (heldFrom (now area) cap 0) []) × (taken (homeFor (homeIn shape)) 12 (cat (heldFrom (now area) cap 0) []) cap ≡ length (cat (heldFrom (now area) cap 0) [])) ⌝ }
     ensures { λ r. ⌜ r ≡ strayed key (heldFrom (now (area .entry)) cap 0) (relaid (homeIn shape) cap (heldFrom (now (area .entry)) cap 0)) ⌝ }
     ensures { λ r. ⌜ now (area .exit) ≡ areaFrom 0 (relaid (homeIn shape) cap (heldFrom (now (area .entry)) cap 0)) ⌝ }
 {
-    let base = pack(area, cap, shape);
-    entries::sort_row(&mut area[base..]);
+    let base = pack(area, cap, shape, last);
+    entries::sort_row(&mut area[base..], (shape.p - 1) as u16);
     unpack(area, cap, base)
 }

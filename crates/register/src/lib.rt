@@ -248,14 +248,15 @@ fn grow_open(state: State, area: &mut [u8], row: &mut [u32]) -> Done
     let cap = state.cap as usize;
     let next = state.grown();
     let shape = next.shape();
-    survey::count_row(&area[..], cap, shape, row);
+    let last = shape.last_step();
+    survey::count_row(&area[..], cap, shape, last, row);
     if !survey::has_room(&row[..]) {
         return Done {
             state,
             answer: Answer::NoRoom { read: cap as u32 },
         };
     }
-    let moved = rebuild::rebuild(area, cap, shape);
+    let moved = rebuild::rebuild(area, cap, shape, last);
     let answer = Answer::Accepted {
         value: 0,
         read: cap as u32,

@@ -4,7 +4,6 @@ use mathlib.Core.Bool.{true, false, cond, not, _&&_, _||_}
 use mathlib.Core.List.{List, [], _∷_}
 use lib.ListN.{getD, set}
 use lib.Dec.{leb, ltb, eqb}
-use Rattle.pages.specs.Page.{Record, key}
 use Rattle.placing.specs.Lay.{ranked}
 use Rattle.survey.specs.declared.Seen.{Seen}
 
@@ -26,7 +25,7 @@ looked s a n hs ks =
       records = s .records + n;
     })
 
--- one more for the home of each record
-abbrev pub tallied : (ℕ → ℕ) → List Record → List ℕ → List ℕ
-tallied h [] row = row
-tallied h (x ∷ rs) row = tallied h rs (set row (h (key x)) (getD row (h (key x)) 0 + 1))
+-- one more for each of these homes
+abbrev pub tallied : List ℕ → List ℕ → List ℕ
+tallied [] row = row
+tallied (j ∷ hs) row = tallied hs (set row j (getD row j 0 + 1))

@@ -1,18 +1,19 @@
 // Looks at all pages of an area: whether they are an image, and how many records there are of each home.
 use homes::Shape;
+use homes::Stage;
 use pages::Judged;
-use pages::Page;
 ghost use mathlib.Core.Path.{_≡_};
 ghost use mathlib.Core.List.{[]};
-ghost use Prim.Native.Nat.{ℕ, _*_, _≤_};
-ghost use lib.ListN.{length, getD, replicate};
+ghost use Prim.Native.Nat.{ℕ, _*_, _≤_, _<_};
+ghost use lib.ListN.{length, getD, take, replicate};
 ghost use lib.Dec.{eqb};
 ghost use Rattle.homes.specs.Homes.{Ready, homeIn};
-ghost use Rattle.placing.specs.Image.{cat};
+ghost use Rattle.homes.specs.Last.{Within, staysAt};
+ghost use Rattle.placing.specs.Image.{All, cat};
 ghost use Rattle.placing.specs.Rows.{counts, leftOver};
 ghost use Rattle.pages.specs.Page.{homeFor};
-ghost use Rattle.pages.specs.Slots.{recordsOf};
 ghost use Rattle.pages.specs.Area.{heldFrom};
+ghost use Rattle.pages.specs.Known.{KnownAt};
 ghost use Rattle.survey.specs.Survey.{surveyed};
 ghost use Rattle.survey.specs.Looks.{looked, tallied};
 
@@ -104,31 +105,31 @@ fn clear(row: &mut [u32])
     }
 }
 
-// The records of a page, each counted at its home.
-fn tally(page: Page, shape: Shape, row: &mut [u32])
-    requires { ⌜ (page .count ≤ 12) × Ready shape × (shape .p ≤ length (now row)) × ((k : ℕ) → getD (now row) k 0 ≤ 49152) ⌝ }
-    ensures { λ _. ⌜ now (row .exit) ≡ tallied (homeIn shape) (recordsOf page) (now (row .entry)) ⌝ }
+// The first of these homes, each counted.
+fn tally(count: usize, homes: [u64; 12], row: &mut [u32])
+    requires { ⌜ (count ≤ 12) × All (λ j. j < length (now row)) (take count homes) × (length (now row) ≤ 4096) × ((k : ℕ) → getD (now row) k 0 ≤ 49152) ⌝ }
+    ensures { λ _. ⌜ now (row .exit) ≡ tallied (take count homes) (now (row .entry)) ⌝ }
 {
-    let count = page.count;
-    let keys = page.keys;
     let mut i = 0;
     while i < count {
-        let home = shape.home(keys[i]) as usize;
+        let home = homes[i] as usize;
         row[home] = row[home] + 1;
         i += 1;
     }
 }
 
-// Fills a lent row with the number of records of each home.
-pub fn count_row(area: &[u8], cap: usize, shape: Shape, row: &mut [u32])
+// Fills a lent row with the number of records of each home, in a file that grew by the step `last`.
+pub fn count_row(area: &[u8], cap: usize, shape: Shape, last: Stage, row: &mut [u32])
     requires { ⌜ (cap ≤ 4096) × (length (now area) ≡ 256 * cap) × Ready shape × (shape .p ≤ cap) × (length (now row) ≡ cap) ⌝ }
+    requires { ⌜ Within last × ((a : ℕ) → a < cap → KnownAt (homeIn shape) (staysAt shape last) (now area) a) ⌝ }
     ensures { λ _. ⌜ now (row .exit) ≡ counts (homeFor (homeIn shape)) (cat (heldFrom (now (area .entry)) cap 0) []) cap 0 ⌝ }
 {
     clear(row);
     let mut a = 0;
     while a < cap {
         let page = pages::parse_at(area, a);
-        tally(page, shape, row);
+        let homes = pages::known::homes_at(area, a, page, shape, last);
+        tally(page.count, homes, row);
         a += 1;
     }
 }

@@ -23,7 +23,7 @@ small : (c : tie.In-loop Inv-loop μ-loop) → (c .before .loop .draw < 21474836
 small c =
     let l = c .before .loop in
     let at = c .before .before in
-    (omega (arith, l .inv .draw-is, draw-below (at .args .key) (l .inv .i)), omega (arith, l .inv .np-is, mod-lt (l .inv .i) (at .pre .n0-low), at .pre .n0-high))
+    (omega (arith, l .inv .draw-is, draw-below (at .args .key) (l .inv .i)), omega (arith, l .inv .round .np-is, mod-lt (l .inv .i) (at .pre .n0-low), at .pre .n0-high))
 
 -- a draw times np + 1 fits
 product-fits : (d m : ℕ) → d < 2147483647 → m ≤ 8 → d * m < 2 ^ 64

@@ -1,0 +1,86 @@
+-- `pages::known::homes_on` meets its contract. The loop's invariant is `Homing`: the homes from record i on are still to be stored.
+-- The measure is how many are left.
+use mathlib.Core.Path.{_≡_, _∙_}
+use mathlib.Core.Logic.{⊎-elim}
+use lib.ListN.{getD}
+use Prim.Native.Nat.{_-_}
+use native.Mathlib.Omega.{arith}
+use borrow.Author.Needs.{needs}
+use Rattle.homes.specs.Homes.{homeIn}
+use Rattle.pages.specs.Slots.{recordsOf}
+use Rattle.pages.proofs.Homing.{Homing, homing-starts, home-here, homing-goes-on, homing-ends}
+use Rattle.pages.proofs.known.homes_on.Statement.{statement}
+use Rattle.pages.proofs.known.homes_on.Tie as tie
+
+abbrev Inv-loop : tie.InvT-loop
+Inv-loop a shape all once count keys homes₀ here₀ i₀ homes here i = Homing (homeIn shape) a count keys once homes here i
+
+abbrev μ-loop : tie.MeasureT-loop
+μ-loop a shape all once count keys homes₀ here₀ i₀ homes here i = count - i
+
+loop-holds : tie.Need-loop-holds Inv-loop μ-loop
+unfolding recordsOf
+loop-holds c =
+    let b = c .before in
+    homing-starts (homeIn (b .args .shape)) (b .args .a) (b .args .page .count) (b .args .page .keys) (b .args .all) (b .args .once) (b .args .page .values) (b .pre .0) (b .pre .2)
+
+mul-home : tie.Need-mul-home Inv-loop μ-loop
+mul-home c = search needs
+
+array-read-home : tie.Need-array-read-home Inv-loop μ-loop
+array-read-home c = search needs
+
+home-requires : tie.Need-home-requires Inv-loop μ-loop
+home-requires c κs = search needs
+
+-- known or worked out, it is the home
+home-is : (c : tie.Joined1 Inv-loop μ-loop) → c .if1 .home ≡ homeIn (c .before .before .before .before .args .shape) (getD (c .before .before .before .before .args .page .keys) (c .before .before .loop .i) 0)
+home-is c =
+    let b = c .before .before .before .before .args in
+    let l = c .before .before .loop in
+    ⊎-elim
+    (λ w. w .1 ∙ home-here (homeIn (b .shape)) (b .a) (b .page .count) (b .page .keys) (b .once) (l .homes) (l .here) (l .i) (c .before .loop-test .taken) (l .inv) (w .0 .taken))
+    (λ w. w .2 ∙ w .1 .ensures)
+    (c .if1 .came)
+
+mul-homes : tie.Need-mul-homes Inv-loop μ-loop
+mul-homes c = search needs
+
+array-write-homes : tie.Need-array-write-homes Inv-loop μ-loop
+array-write-homes c = search needs
+
+add-i : tie.Need-add-i Inv-loop μ-loop
+add-i c = search needs
+
+loop-less : tie.Need-loop-less Inv-loop μ-loop
+loop-less c = search needs
+
+loop-again : tie.Need-loop-again Inv-loop μ-loop
+loop-again c =
+    let b = c .before .before .before .before .args in
+    let l = c .before .before .loop in
+    homing-goes-on (homeIn (b .shape)) (b .a) (b .page .count) (b .page .keys) (b .once) (l .homes) (l .here) (l .i) (c .before .loop-test .taken) (l .inv) (c .if1 .home) (home-is c)
+
+returns : tie.Need-returns Inv-loop μ-loop
+unfolding recordsOf
+returns c =
+    let b = c .before .before .before .args in
+    let l = c .before .loop in
+    homing-ends (homeIn (b .shape)) (b .a) (b .page .count) (b .page .keys) (b .once) (l .homes) (l .here) (l .i) (b .page .values) (c .loop-test .left) (l .inv)
+
+pub homes-on-spec : {M : Type 1} → statement M
+homes-on-spec =
+    tie.close
+    (tie.spec
+    Inv-loop
+    μ-loop
+    loop-holds
+    mul-home
+    array-read-home
+    home-requires
+    mul-homes
+    array-write-homes
+    add-i
+    loop-less
+    loop-again
+    returns)

@@ -1,0 +1,56 @@
+// The homes of a page's records where most of them are known: after a check, a growth leaves nearly all records at home on the page where they lie.
+use crate::Page;
+use homes::Shape;
+use homes::Stage;
+ghost use mathlib.Core.Path.{_≡_};
+ghost use mathlib.Core.List.{map};
+ghost use Prim.Native.Nat.{_+_, _*_, _≤_, _<_};
+ghost use lib.ListN.{length};
+ghost use Rattle.homes.specs.Homes.{Ready, homeIn};
+ghost use Rattle.homes.specs.Last.{Within, staysAt};
+ghost use Rattle.pages.specs.Page.{homeFor, recordsIn, inMemory, padded};
+ghost use Rattle.pages.specs.Slots.{recordsOf};
+ghost use Rattle.pages.specs.Area.{partAt};
+ghost use Rattle.pages.specs.Known.{Known, KnownAt, fullBefore};
+
+// The homes of the records of page a. `all` says that each is at home there, `once` that each after one that is; any other home is worked out.
+fn homes_on(page: Page, a: u64, shape: Shape, all: bool, once: bool) -> [u64; 12]
+    requires { ⌜ (page .count ≤ 12) × Ready shape × Known (homeIn shape) a all once (recordsOf page) ⌝ }
+    ensures { λ r. ⌜ r ≡ padded (map (homeFor (homeIn shape)) (recordsOf page)) ⌝ }
+{
+    let count = page.count;
+    let keys = page.keys;
+    let mut homes = [0; 12];
+    let mut here = all;
+    let mut i = 0;
+    while i < count {
+        let home = if here { a } else { shape.home(keys[i]) };
+        homes[i] = home;
+        here = here | (once & (home == a));
+        i += 1;
+    }
+    homes
+}
+
+// Whether there is a page before page a, and it says that it is full.
+fn full_before(area: &[u8], a: usize) -> bool
+    requires { ⌜ (a < 4096) × (256 * (a + 1) ≤ length (now area)) ⌝ }
+    ensures { λ r. ⌜ r ≡ fullBefore (now (area .entry)) a ⌝ }
+{
+    if a == 0 {
+        return false;
+    }
+    let at = 256 * (a - 1);
+    12 <= crate::count_in(&area[at..at + 256])
+}
+
+// The homes of the records of page a, in a file that grew by the step `last`.
+pub fn homes_at(area: &[u8], a: usize, page: Page, shape: Shape, last: Stage) -> [u64; 12]
+    requires { ⌜ (a < 4096) × (256 * (a + 1) ≤ length (now area)) × (page ≡ inMemory (recordsIn (partAt (now area) a))) ⌝ }
+    requires { ⌜ Ready shape × Within last × KnownAt (homeIn shape) (staysAt shape last) (now area) a ⌝ }
+    ensures { λ r. ⌜ r ≡ padded (map (homeFor (homeIn shape)) (recordsIn (partAt (now (area .entry)) a))) ⌝ }
+{
+    let stays = shape.stays(last, a as u64);
+    let full = full_before(area, a);
+    homes_on(page, a as u64, shape, stays & !full, stays)
+}

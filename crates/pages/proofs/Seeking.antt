@@ -10,7 +10,7 @@ use borrow.Author.Tests.{ltb-true, ltb-false, eqb-true, eqb-false, lt-ltb, le-lt
 use lib.Dec.{eqb, ltb, leb}
 use lib.ListN.{length, drop, getD}
 use Rattle.pages.specs.declared.Page.{Page}
-use Rattle.pages.specs.Page.{Record, key, rank, padded}
+use Rattle.pages.specs.Page.{Record, key, homeFor, rank, padded}
 use Rattle.placing.specs.Lay.{ranked}
 use Rattle.pages.specs.Slots.{ahead, upToBack, aheadIn, paired, recordsOf}
 
@@ -103,6 +103,12 @@ getD-row : (g : Record → ℕ) (rs : List Record) (zs : List ℕ) (j : ℕ) →
 getD-row g [] zs j h = absurd (omega arith)
 getD-row g (x ∷ rs) zs zero h = refl
 getD-row g (x ∷ rs) zs (suc j) h = getD-row g rs zs j (omega arith)
+
+-- so does its home in a row of homes, which is the home of the key at that place
+pub homes-key : (h : ℕ → ℕ) (n : ℕ) (ks vs hs : List ℕ) → hs ≡ padded (map (homeFor h) (paired n ks vs)) → (j : ℕ) → j < n
+    → getD hs j 0 ≡ h (getD ks j 0)
+homes-key h n ks vs hs e j l =
+    rw (e, getD-row (homeFor h) (paired n ks vs) _ j (omega (arith, paired-length n ks vs)), paired-key n ks vs j l)
 
 module _ (h : ℕ → ℕ) (r : ℕ) where
   -- on a judged page its rows give the records ahead of r

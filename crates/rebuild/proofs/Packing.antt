@@ -1,5 +1,6 @@
 -- The turns of packing: a page's records downward from its last, and the pages downward from the last.
 use mathlib.Core.Path.{_≡_, refl, sym, ap, _∙_}
+use mathlib.Core.Bool.{Bool}
 use mathlib.Core.List.{List, [], _∷_, _++_, append-assoc, append-nil}
 use Prim.Native.Nat.{ℕ, zero, suc, _+_, _-_, _*_, _≤_, _<_}
 use native.Mathlib.Nat.{add-assoc, sub-self, sub-zero}
@@ -12,6 +13,7 @@ use Rattle.pages.specs.declared.Page.{Page}
 use Rattle.pages.specs.Page.{Record, recordsIn, inMemory}
 use Rattle.pages.specs.Slots.{paired, recordsOf}
 use Rattle.pages.specs.Area.{partAt, heldFrom}
+use Rattle.pages.specs.Known.{KnownAt}
 use Rattle.pages.proofs.Memory.{page-count, page-records}
 use Rattle.pages.proofs.Read.{held-few}
 use Rattle.pages.proofs.Seeking.{paired-length}
@@ -119,6 +121,11 @@ module _ (h : ℕ → ℕ) (cap : ℕ) (l : List ℕ) (a at : ℕ) (m : List ℕ
       ∙ part-front (take at l) (rowBytes (upward h cap l a)) b (omega (arith, above-room))
       ∙ sym (part-front (take at l) (drop at l) b (omega (arith, above-room)))
       ∙ rw take-append-drop
+
+  -- so what is known of it is known still
+  pub known-below : (stays : ℕ → Bool) → ((b : ℕ) → b < cap → KnownAt h stays l b) → (b : ℕ) → b < a → KnownAt h stays m b
+  known-below stays w zero k = rw (below-same 0 k) (w 0 (omega (arith, s .within)))
+  known-below stays w (suc b) k = rw (below-same (suc b) k, below-same b (omega arith)) (w (suc b) (omega (arith, s .within)))
 
 -- rows written below those that stand at the end
 rows-below : (l v w : List ℕ) (at to : ℕ) → at ≤ length l → to + length v ≡ at → written (take at l ++ w) to v ≡ take to l ++ (v ++ w)

@@ -9,16 +9,21 @@ use lib.ListN.{length}
 use borrow.Author.Tests.{eqb-true}
 use Rattle.numbers.specs.Little.{Bytes}
 use Rattle.homes.specs.declared.Shape.{Shape}
+use Rattle.homes.specs.declared.Stage.{Stage}
 use Rattle.homes.specs.Homes.{shapeOf, homeIn}
+use Rattle.homes.specs.Last.{lastStep, staysAt}
 use Rattle.homes.proofs.Homes.{home-below}
+use Rattle.homes.proofs.Last.{home-stays, home-stayed}
 use Rattle.placing.specs.Image.{All, cat, RecordSet}
 use Rattle.placing.specs.Lay.{taken}
 use Rattle.placing.specs.Rows.{counts, leftOver, strayed}
 use Rattle.placing.proofs.Rows.{counts-length, row-room}
 use Rattle.pages.specs.Page.{Record, key, homeFor}
 use Rattle.pages.specs.Area.{heldFrom, areaFrom}
+use Rattle.pages.specs.Known.{KnownAt}
 use Rattle.rebuild.specs.Rebuild.{relaid}
 use Rattle.survey.proofs.ImageTest.{image-set, good-pages}
+use Rattle.survey.proofs.Knowing.{image-known}
 use Rattle.state.specs.declared.State.{State}
 use Rattle.state.specs.declared.Answer.the-variants.{Accepted, NoRoom}
 use Rattle.state.specs.State.{inRange, homes, grown}
@@ -56,6 +61,27 @@ module _ (s : State) (range : inRange s ≡ true) (low : s .p < s .cap) where
   module _ (next : State) (more : next ≡ grown s) (shape : Shape) (of : shape ≡ shapeOf (next .n0) (next .n) (next .s) (next .p)) where
     pub shape-low : shape .p ≤ s .cap
     shape-low = rw (of, more) (omega arith)
+
+    -- it has steps to take
+    pub steps-left : shape .n0 * shape .n < shape .p
+    steps-left = rw (of, more) (let r : Ranged s = ranged s range in omega (arith, r .p-low))
+
+    grown-shape : shape ≡ shapeOf (s .n0) (s .n) (s .s) (s .p + 1)
+    grown-shape = rw (of, more)
+
+    -- what is known of the homes on its pages, if they are an image for the file as it was
+    pub grown-known : (area : List ℕ) → Bytes area → length area ≡ 256 * s .cap → imageGate s area ≡ Open → (last : Stage) → last ≡ lastStep shape
+        → (a : ℕ) → a < s .cap → KnownAt (homeIn shape) (staysAt shape last) area a
+    grown-known area b l e last is =
+        let k : Sound s area = open-sound s area e in
+        image-known (homes s) (homeIn shape) (staysAt shape last) same area (s .cap) (good-pages (homes s) area b (s .cap) 0 (omega arith) (k .whole)) (k .image)
+      where
+        same : (k a : ℕ) → staysAt shape last a ≡ true → (homes s k ≡ a → homeIn shape k ≡ a) × (homeIn shape k ≡ a → homes s k ≡ a)
+        same k a on =
+            let at = rw (is, grown-shape) at on in (
+              λ e. rw grown-shape (home-stays (s .n0) (s .n) (s .s) (s .p) k a (in-shape s range) at e),
+              λ e. home-stayed (s .n0) (s .n) (s .s) (s .p) k a _ (in-shape s range) at (rw grown-shape at e),
+            )
 
     -- its homes are those of the grown state
     same-homes : homeIn shape ≡ homes (grown s)

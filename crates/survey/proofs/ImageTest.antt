@@ -85,7 +85,7 @@ module _ (h : ℕ → ℕ) where
   first-starts false a (x ∷ p) f = le-leb a (h (key x)) f
 
   -- the test of a page and of those after it is three tests
-  three : (full : Bool) (low a : ℕ) (p : List Record) (ps : List (List Record)) → imageFrom h full low a (p ∷ ps) ≡ true
+  pub three : (full : Bool) (low a : ℕ) (p : List Record) (ps : List (List Record)) → imageFrom h full low a (p ∷ ps) ≡ true
       → (startsAtHome h full a p ≡ true) × (startsAt h low p ≡ true) × (imageFrom h (leb 12 (length p)) (nextLow h low p) (suc a) ps ≡ true)
   three full low a p ps e =
       let on : Bool = imageFrom h (leb 12 (length p)) (nextLow h low p) (suc a) ps in

@@ -1,3 +1,4 @@
 pub mod Looking
 pub mod Counting
 pub mod ImageTest
+pub mod Knowing

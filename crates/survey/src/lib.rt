@@ -9,7 +9,7 @@ ghost use lib.ListN.{length, getD, take, replicate};
 ghost use lib.Dec.{eqb};
 ghost use Rattle.homes.specs.Homes.{Ready, homeIn};
 ghost use Rattle.homes.specs.Last.{Within, staysAt};
-ghost use Rattle.placing.specs.Image.{All, cat};
+ghost use Rattle.placing.specs.Image.{cat};
 ghost use Rattle.placing.specs.Rows.{counts, leftOver};
 ghost use Rattle.pages.specs.Page.{homeFor};
 ghost use Rattle.pages.specs.Area.{heldFrom};
@@ -107,7 +107,7 @@ fn clear(row: &mut [u32])
 
 // The first of these homes, each counted.
 fn tally(count: usize, homes: [u64; 12], row: &mut [u32])
-    requires { ⌜ (count ≤ 12) × All (λ j. j < length (now row)) (take count homes) × (length (now row) ≤ 4096) × ((k : ℕ) → getD (now row) k 0 ≤ 49152) ⌝ }
+    requires { ⌜ (count ≤ 12) × ((i : ℕ) → i < count → getD homes i 0 < length (now row)) × (length (now row) ≤ 4096) × ((k : ℕ) → getD (now row) k 0 ≤ 49152) ⌝ }
     ensures { λ _. ⌜ now (row .exit) ≡ tallied (take count homes) (now (row .entry)) ⌝ }
 {
     let mut i = 0;

@@ -1,28 +1,32 @@
 -- `rebuild::pack_page` meets its contract. The loop's invariant says what is left to do: the entries of the first i records, written below, make the write of the contract.
--- The measure is how many records are left.
-use mathlib.Core.Path.{_≡_, _∙_}
-use Prim.Native.Nat.{_+_, _-_, _*_, _≤_}
+-- It says so of any homes that stand in the row, since the loop doesn't see the shape. The measure is how many records are left.
+use mathlib.Core.Path.{_≡_, refl, _∙_}
+use mathlib.Core.List.{map}
+use Prim.Native.Nat.{ℕ, _+_, _-_, _*_, _≤_}
 use native.Mathlib.Omega.{arith}
 use borrow.Author.Needs.{needs}
 use lib.ListN.{length}
 use Rattle.numbers.specs.Little.{written}
 use Rattle.homes.specs.Homes.{homeIn}
-use Rattle.pages.specs.Slots.{recordsOf}
+use Rattle.pages.specs.Page.{homeFor, padded}
+use Rattle.pages.specs.Slots.{paired, recordsOf}
+use Rattle.pages.proofs.Seeking.{homes-key}
 use Rattle.rebuild.proofs.Tags.{home-small}
 use Rattle.rebuild.proofs.Packing.{rows, page-turn, page-done}
 use Rattle.rebuild.proofs.pack_page.Statement.{statement}
 use Rattle.rebuild.proofs.pack_page.Tie as tie
 
 abbrev Inv-loop : tie.InvT-loop
-Inv-loop area₀ a shape top keys values at₀ i₀ area at i =
+Inv-loop area₀ a top homes keys values at₀ i₀ area at i =
     (i ≤ i₀) × (at ≡ top - 20 * i₀ + 20 * i) × (length area ≡ length area₀)
-    × (written area (top - 20 * i₀) (rows (homeIn shape) a i keys values) ≡ written area₀ (top - 20 * i₀) (rows (homeIn shape) a i₀ keys values))
+    × ((h : ℕ → ℕ) → homes ≡ padded (map (homeFor h) (paired i₀ keys values))
+    → written area (top - 20 * i₀) (rows h a i keys values) ≡ written area₀ (top - 20 * i₀) (rows h a i₀ keys values))
 
 abbrev μ-loop : tie.MeasureT-loop
-μ-loop area₀ a shape top keys values at₀ i₀ area at i = i
+μ-loop area₀ a top homes keys values at₀ i₀ area at i = i
 
 loop-holds : tie.Need-loop-holds Inv-loop μ-loop
-loop-holds c = search needs
+loop-holds c = (omega arith, omega arith, refl, λ h e. refl)
 
 sub-i : tie.Need-sub-i Inv-loop μ-loop
 sub-i c = search needs
@@ -30,28 +34,34 @@ sub-i c = search needs
 sub-at : tie.Need-sub-at Inv-loop μ-loop
 sub-at c = search needs
 
-mul-key : tie.Need-mul-key Inv-loop μ-loop
-mul-key c = search needs
-
-array-read-key : tie.Need-array-read-key Inv-loop μ-loop
-array-read-key c = search needs
-
-home-requires : tie.Need-home-requires Inv-loop μ-loop
-home-requires c κs = search needs
-
-cast-home : tie.Need-cast-home Inv-loop μ-loop
-cast-home c =
-    let start = c .before .before .before .before .before .before in
-    record { fits = home-small (start .args .shape) _ _ (start .pre .4) (c .home .ensures) }
-
-cast-t18 : tie.Need-cast-t18 Inv-loop μ-loop
-cast-t18 c = search needs
-
 mul-t14 : tie.Need-mul-t14 Inv-loop μ-loop
 mul-t14 c = search needs
 
 array-read-t17 : tie.Need-array-read-t17 Inv-loop μ-loop
 array-read-t17 c = search needs
+
+cast-t18 : tie.Need-cast-t18 Inv-loop μ-loop
+unfolding recordsOf
+cast-t18 c =
+    let start = c .before .before .before .before .before in
+    let p = start .args .page in
+    let is = homes-key (homeIn (start .args .shape)) (p .count) (p .keys) (p .values) _ (start .pre .5) (c .before .loop .i - 1) (omega arith) in
+    record { fits = home-small (start .args .shape) _ _ (start .pre .4) is }
+
+cast-t19 : tie.Need-cast-t19 Inv-loop μ-loop
+cast-t19 c = search needs
+
+mul-t20 : tie.Need-mul-t20 Inv-loop μ-loop
+mul-t20 c = search needs
+
+array-read-t23 : tie.Need-array-read-t23 Inv-loop μ-loop
+array-read-t23 c = search needs
+
+mul-t24 : tie.Need-mul-t24 Inv-loop μ-loop
+mul-t24 c = search needs
+
+array-read-t27 : tie.Need-array-read-t27 Inv-loop μ-loop
+array-read-t27 c = search needs
 
 put-entry-requires : tie.Need-put-entry-requires Inv-loop μ-loop
 put-entry-requires c κs = search needs
@@ -62,10 +72,15 @@ loop-less c = search needs
 loop-again : tie.Need-loop-again Inv-loop μ-loop
 loop-again c =
     let called = c .before .before in
-    let home = called .before .before in
-    let l = home .before .before .loop in
-    let start = home .before .before .before .before .before .before in
-    (omega arith, omega arith, search needs, page-turn (l .area) _ (homeIn (start .args .shape)) (start .args .a) _ (l .i) _ (home .home .result) _ _ (home .before .loop-test .taken) (omega arith) (omega arith) (home .home .ensures) (called .put-entry .ensures) ∙ l .inv .3)
+    let turn = called .before .before in
+    let l = turn .before .loop in
+    let start = turn .before .before .before .before .before in
+    let p = start .args .page in (
+      omega arith,
+      omega arith,
+      search needs,
+      λ h e. page-turn (l .area) _ h (start .args .a) _ (l .i) _ _ _ _ (turn .loop-test .taken) (omega arith) (omega arith) (homes-key h (p .count) (p .keys) (p .values) _ e (l .i - 1) (omega arith)) (called .put-entry .ensures) ∙ l .inv .3 h e,
+    )
 
 same-length : tie.Need-same-length Inv-loop μ-loop
 same-length c = search needs
@@ -75,7 +90,8 @@ unfolding recordsOf
 returns c =
     let l = c .before .loop in
     let start = c .before .before .before .before .before in
-    (omega arith, page-done (l .area) _ (homeIn (start .args .shape)) (start .args .a) _ (l .i) _ _ (c .loop-test .left) (l .inv .3))
+    let h = homeIn (start .args .shape) in
+    (omega arith, page-done (l .area) _ h (start .args .a) _ (l .i) _ _ (c .loop-test .left) (l .inv .3 h (start .pre .5)))
 
 pub pack-page-spec : {M : Type 1} → statement M
 pack-page-spec =
@@ -86,13 +102,14 @@ pack-page-spec =
     loop-holds
     sub-i
     sub-at
-    mul-key
-    array-read-key
-    home-requires
-    cast-home
-    cast-t18
     mul-t14
     array-read-t17
+    cast-t18
+    cast-t19
+    mul-t20
+    array-read-t23
+    mul-t24
+    array-read-t27
     put-entry-requires
     loop-less
     loop-again

@@ -1,0 +1,91 @@
+-- What is known of the homes after a growth on pages that were an image before it.
+use mathlib.Core.Path.{_≡_, refl}
+use mathlib.Core.Bool.{Bool, true, false, not, _&&_}
+use mathlib.Core.Logic.{⊎-elim}
+use mathlib.Core.List.{List, [], _∷_}
+use Prim.Native.Nat.{ℕ, zero, suc, _+_, _≤_, _<_}
+use native.Mathlib.Omega.{arith}
+use lib.Dec.{leb}
+use lib.ListN.{length}
+use borrow.Author.Tests.{leb-true, le-leb}
+use Rattle.homes.proofs.New.{split}
+use Rattle.placing.specs.Image.{All}
+use Rattle.placing.specs.Lay.{rankIn}
+use Rattle.placing.proofs.Lists.{all-map, all-map₂}
+use Rattle.placing.proofs.Order.{Sorted}
+use Rattle.placing.proofs.Rank.{mono}
+use Rattle.numbers.proofs.Records.{and-left, and-right}
+use Rattle.pages.specs.Page.{Record, key, recordsIn}
+use Rattle.pages.specs.Area.{partAt, heldFrom}
+use Rattle.pages.specs.Known.{AllHere, OnceHere, Known, fullBefore, KnownAt}
+use Rattle.pages.proofs.Rules.{homes-all, rises-sorted}
+use Rattle.survey.specs.Survey.{startsAtHome, nextLow, imageFrom, isImage}
+use Rattle.survey.proofs.ImageTest.{GoodPage, GoodFrom, three}
+
+module _ (h : ℕ → ℕ) (a : ℕ) where
+  -- after a record that is at home on its page, all are
+  all-after : (x : Record) (p : List Record) → a ≤ h (key x) → Sorted (rankIn key h) (x ∷ p) → All (λ y. h (key y) ≤ a) p → AllHere h a p
+  all-after x p l s t =
+      all-map₂ (λ y. rankIn key h x < rankIn key h y) (λ y. h (key y) ≤ a) (λ y. h (key y) ≡ a) (λ y u v. omega (arith, mono key h x y (omega arith))) p (s .0) t
+
+  once-here : (p : List Record) → Sorted (rankIn key h) p → All (λ y. h (key y) ≤ a) p → OnceHere h a p
+  once-here [] s t = tt
+  once-here (x ∷ p) s t = (λ e. all-after x p (omega arith) s (t .1), once-here p (s .1) (t .1))
+
+  -- after a page that isn't full, all are at home
+  all-here : (p : List Record) → startsAtHome h false a p ≡ true → Sorted (rankIn key h) p → All (λ y. h (key y) ≤ a) p → AllHere h a p
+  all-here [] e s t = tt
+  all-here (x ∷ p) e s t =
+      let l : a ≤ h (key x) = leb-true a (h (key x)) e in
+      (omega (arith, t .0), all-after x p l s (t .1))
+
+-- h are the homes before, g those after; on a page that stays, a record has its home before exactly where it has it after
+module _ (h g : ℕ → ℕ) (stays : ℕ → Bool) (same : (k a : ℕ) → stays a ≡ true → (h k ≡ a → g k ≡ a) × (g k ≡ a → h k ≡ a)) where
+  module _ (a : ℕ) (on : stays a ≡ true) where
+    all-still : (p : List Record) → AllHere h a p → AllHere g a p
+    all-still p k = all-map (λ x. h (key x) ≡ a) (λ x. g (key x) ≡ a) (λ x e. same (key x) a on .0 e) p k
+
+    once-still : (p : List Record) → OnceHere h a p → OnceHere g a p
+    once-still [] k = tt
+    once-still (x ∷ p) k = (λ e. all-still p (k .0 (same (key x) a on .1 e)), once-still p (k .1))
+
+  -- what is known of a page that keeps its rules and begins rightly after the page before it
+  page-known : (full : Bool) (a : ℕ) (p : List Record) → GoodPage h a p → startsAtHome h full a p ≡ true → Known g a (stays a && not full) (stays a) p
+  page-known full a p k e = (λ t. go full e t, λ t. once-still a t p (once-here h a p sorted low))
+    where
+      sorted : Sorted (rankIn key h) p
+      sorted = rises-sorted h p (k .rising)
+
+      low : All (λ y. h (key y) ≤ a) p
+      low = homes-all h a p (k .homes)
+
+      go : (f : Bool) → startsAtHome h f a p ≡ true → (stays a && not f) ≡ true → AllHere g a p
+      go true q t = absurd (let u : false ≡ true = and-right (stays a) false t in let z : _≡_ {A = ℕ} 0 1 = cc in omega arith)
+      go false q t = all-still a (and-left (stays a) true t) p (all-here h a p q sorted low)
+
+  module _ (area : List ℕ) where
+    -- so it is for all pages from a on
+    known-from : (n a low b : ℕ) → GoodFrom h a (heldFrom area n a) → imageFrom h (fullBefore area a) low a (heldFrom area n a) ≡ true
+        → a ≤ b → b < a + n → KnownAt g stays area b
+    known-from zero a low b k e l m = absurd (omega arith)
+    known-from (suc n) a low b k e l m =
+        let p : List Record = recordsIn (partAt area a) in
+        let t = three h (fullBefore area a) low a p (heldFrom area n (suc a)) e in
+        ⊎-elim
+        (λ lt. known-from n (suc a) (nextLow h low p) b (k .1) (t .2) (omega arith) (omega arith))
+        (λ ge. let q : b ≡ a = omega arith in rw q (page-known (fullBefore area a) a p (k .0) (t .0)))
+        (split a b)
+
+    -- page 0 begins rightly after none
+    from-none : (ps : List (List Record)) → imageFrom h true 0 0 ps ≡ true → imageFrom h false 0 0 ps ≡ true
+    from-none [] e = refl
+    from-none (p ∷ ps) e = rw (begins p) (and-right true _ e)
+      where
+        begins : (p : List Record) → startsAtHome h false 0 p ≡ true
+        begins [] = refl
+        begins (x ∷ p) = le-leb 0 (h (key x)) (omega arith)
+
+    -- and for every page of an image
+    pub image-known : (n : ℕ) → GoodFrom h 0 (heldFrom area n 0) → isImage h (heldFrom area n 0) ≡ true → (b : ℕ) → b < n → KnownAt g stays area b
+    unfolding isImage
+    image-known n k e b l = known-from n 0 0 b k (from-none (heldFrom area n 0) e) (omega arith) (omega arith)

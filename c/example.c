@@ -1,0 +1,128 @@
+// A register from C: a file is formatted, fed, asked, grown and checked. What it prints stands in example.out.
+#include <stdio.h>
+
+#include "reefcushion.h"
+
+enum { PAGES = 2 };
+
+// All that a register is to its caller: a slip with the state, the pages, and for growth a row.
+static struct reefcushion_slip slip;
+static uint8_t area[PAGES * REEFCUSHION_PAGE];
+static uint32_t row[PAGES];
+
+static const char *words(uint32_t refusal) {
+    switch (refusal) {
+    case REEFCUSHION_ACCEPTED:
+        return "accepted";
+    case REEFCUSHION_OUT_OF_RANGE:
+        return "a number of the state is out of range";
+    case REEFCUSHION_WRONG_AREA:
+        return "the area isn't 256 bytes a page";
+    case REEFCUSHION_WRONG_ROW:
+        return "the row isn't a count a page";
+    case REEFCUSHION_BROKEN:
+        return "a page is broken";
+    case REEFCUSHION_ABSENT:
+        return "absent";
+    case REEFCUSHION_HELD:
+        return "already held";
+    case REEFCUSHION_NO_ROOM:
+        return "no room";
+    case REEFCUSHION_AT_CAP:
+        return "all lent pages are grown to";
+    case REEFCUSHION_NOT_IMAGE:
+        return "the count or the image is wrong";
+    case REEFCUSHION_NO_SLIP:
+        return "the slip isn't 40 bytes";
+    default:
+        return "no answer of the register";
+    }
+}
+
+// An answer in words, behind what was asked. The slip tells the rest of it, unless there was none.
+static void say(const struct reefcushion_slip *told, uint32_t refusal) {
+    printf(": %s", words(refusal));
+    if (refusal == REEFCUSHION_BROKEN)
+        printf(", page %u", told->page);
+    if (refusal == REEFCUSHION_HELD)
+        printf(", commit %llu", (unsigned long long)told->value);
+    if (refusal != REEFCUSHION_NO_SLIP)
+        printf(" (%u read, %u moved)", told->read, told->moved);
+    printf("\n");
+}
+
+static void grow(uint32_t *counts, size_t how_many) {
+    printf("grow");
+    uint32_t refusal = reefcushion_grow(&slip, sizeof slip, area, sizeof area, counts, how_many);
+    say(&slip, refusal);
+    if (refusal == REEFCUSHION_ACCEPTED || refusal == REEFCUSHION_NO_ROOM)
+        printf("  homes on page 0: %u, on page 1: %u\n", counts[0], counts[1]);
+}
+
+// A file grows only when it is asked to, so whoever puts asks whether that is due.
+static void put(uint64_t request, uint64_t commit) {
+    printf("put %llu", (unsigned long long)request);
+    say(&slip, reefcushion_put(&slip, sizeof slip, area, sizeof area, request, commit));
+    if (reefcushion_due(&slip, sizeof slip)) {
+        printf("  growth is due: %u records on %u of %u pages\n", slip.records, slip.pages, slip.cap);
+        grow(row, PAGES);
+    }
+}
+
+static void find(uint64_t request) {
+    printf("find %llu", (unsigned long long)request);
+    uint32_t refusal = reefcushion_find(&slip, sizeof slip, area, sizeof area, request);
+    say(&slip, refusal);
+    if (refusal == REEFCUSHION_ACCEPTED)
+        printf("  it became commit %llu\n", (unsigned long long)slip.value);
+}
+
+static void take_out(uint64_t request) {
+    printf("remove %llu", (unsigned long long)request);
+    say(&slip, reefcushion_remove(&slip, sizeof slip, area, sizeof area, request));
+}
+
+// The area held against a state, which need not be that of today.
+static void check(struct reefcushion_slip *state) {
+    printf("check");
+    say(state, reefcushion_check(state, sizeof *state, area, sizeof area));
+}
+
+// A file of one page to begin with: one page a group, one group, one sweep.
+static void format(size_t slip_bytes, void *pages, size_t pages_bytes) {
+    printf("format");
+    say(&slip, reefcushion_format(&slip, slip_bytes, pages, pages_bytes, 1, 1, 1, PAGES));
+}
+
+int main(void) {
+    printf("Refused, and nothing done:\n");
+    format(sizeof slip - 1, area, sizeof area);
+    format(sizeof slip, NULL, 0);
+    find(1001);
+
+    printf("Ten requests on one page of two:\n");
+    format(sizeof slip, area, sizeof area);
+    for (uint64_t i = 1; i <= 6; i++)
+        put(1000 + i, 500 + i);
+    for (uint64_t i = 1; i <= 4; i++)
+        put(70000 + i, 600 + i);
+
+    printf("A retry is told its commit, whatever it offers:\n");
+    put(1004, 999);
+    find(70002);
+    find(1007);
+
+    printf("The state is a value, and an older one doesn't fit the pages of today:\n");
+    struct reefcushion_slip older = slip;
+    take_out(1001);
+    find(1001);
+    check(&slip);
+    check(&older);
+
+    printf("A row that isn't there, no page left to grow to, a broken page:\n");
+    grow(NULL, 0);
+    grow(row, PAGES);
+    area[REEFCUSHION_PAGE] ^= 1;
+    check(&slip);
+    return 0;
+}

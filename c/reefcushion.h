@@ -1,0 +1,133 @@
+/* The register's calls for programs in C and C++.
+
+   A register holds, for each request number (the key), the commit that it became (the value): any two 64-bit numbers. No
+   key is held twice. A file is an area of pages that the caller lends, and a small state that the caller keeps in a slip.
+
+   The calls are in libreefcushion.a, for x86-64 Linux. They need nothing else but C's memset, take no memory but some stack,
+   and keep nothing from one call to the next, so threads may call them at once, each with its own slip, area and row.
+
+   What each call does is proved (crates/reefcushion), for any bytes and any numbers. A caller owes this much:
+   - the lengths are true: `slip_bytes` bytes, `area_bytes` bytes, `row_counts` aligned 32-bit counts are there, and each has
+     been written once (zeros will do);
+   - slip, area and row do not overlap;
+   - nothing else writes them while a call runs, nor reads what the call may write.
+   A null pointer with length 0 is fine: it is refused by number like any other wrong length, and never followed. */
+#ifndef REEFCUSHION_H
+#define REEFCUSHION_H
+
+#include <stddef.h>
+#include <stdint.h>
+
+#ifdef __cplusplus
+#define REEFCUSHION_ASSERT(holds, else_says) static_assert(holds, else_says)
+extern "C" {
+#else
+#define REEFCUSHION_ASSERT(holds, else_says) _Static_assert(holds, else_says)
+#endif
+
+/* The slip, 40 bytes, all numbers little-endian. A call reads the state in its first 16 bytes. It writes all 40: the
+   state after it, and its answer.
+
+   The state is a value. Before the first format it is all zero, and every call but a format is refused with 1. A copy of
+   the slip is the state of that time: it goes with a copy of the area of that time, and with no other. find, put and
+   remove do not look whether the two go together; check does. */
+struct reefcushion_slip {
+    /* the state */
+    uint16_t n0;      /* pages a group at the start, 1 to 4 */
+    uint16_t groups;  /* N, groups at the start, 1 to 64 */
+    uint16_t sweeps;  /* s, 1 to 8 */
+    uint16_t pages;   /* P, pages grown to, from n0 x N to cap */
+    uint16_t cap;     /* pages lent, 1 to 4096 */
+    uint16_t zero;    /* not read; written as 0 */
+    uint32_t records; /* r, records held, at most 12 x cap */
+    /* the answer */
+    uint64_t value;   /* the commit: of an accepted find, and of refusal 6; else 0 */
+    uint32_t read;    /* how many pages were looked at */
+    uint32_t moved;   /* put, remove: how often a held record went to a neighbouring page; grow: records whose page
+                         differs; else 0 */
+    uint16_t refusal; /* the number that the call returned */
+    uint16_t page;    /* the broken page of refusal 4; else 0 */
+    uint32_t zeros;   /* written as 0 */
+};
+
+REEFCUSHION_ASSERT(sizeof(struct reefcushion_slip) == 40, "a slip is 40 bytes");
+REEFCUSHION_ASSERT(offsetof(struct reefcushion_slip, records) == 12, "r is the last of the state's 16 bytes");
+REEFCUSHION_ASSERT(offsetof(struct reefcushion_slip, value) == 16, "the answer follows the state");
+REEFCUSHION_ASSERT(offsetof(struct reefcushion_slip, refusal) == 32, "the refusal follows what was read and moved");
+
+/* The area: cap pages of 256 bytes, page a from byte 256 x a on. Two files of equal n0, N, s, P and cap that hold the same
+   records are the same bytes. A page:
+     0  length 256 (2 bytes), kind 0x0011 (2), its own address (4), records used (2), six zero bytes
+    16  twelve slots of 20 bytes: length 20 (2), kind (2), key (8), value (8)
+   Kind 1 is a record. Kind 0 is an empty slot, with key and value 0. Records stand first, by (home, key). */
+#define REEFCUSHION_PAGE 256
+
+/* What a call returns: 0, or why it was refused. The first reason that holds is given, in the order that stands at the
+   call. A refusal leaves the area and the state as they were. */
+enum reefcushion_refusal {
+    REEFCUSHION_ACCEPTED = 0,
+    REEFCUSHION_OUT_OF_RANGE = 1, /* a number of the state is out of range */
+    REEFCUSHION_WRONG_AREA = 2,   /* the area isn't 256 x cap bytes */
+    REEFCUSHION_WRONG_ROW = 3,    /* the row isn't cap counts */
+    REEFCUSHION_BROKEN = 4,       /* a page that was looked at is broken; its address is in `page` */
+    REEFCUSHION_ABSENT = 5,       /* the key isn't held */
+    REEFCUSHION_HELD = 6,         /* the key is held already; its value is in `value` */
+    REEFCUSHION_NO_ROOM = 7,      /* no room on the lent pages, each record at its home page or a higher one */
+    REEFCUSHION_AT_CAP = 8,       /* all lent pages are grown to */
+    REEFCUSHION_NOT_IMAGE = 9,    /* the count, or the order of the records on the pages, is wrong */
+    REEFCUSHION_NO_SLIP = 100     /* slip_bytes isn't 40: nothing is done, and nothing written, the slip included */
+};
+
+/* An empty file of n0 x N pages, whatever was held before. It is judged on the four numbers that it is given; the state
+   in the slip is only what a refused format leaves there. 100, 1, 2. */
+uint32_t reefcushion_format(void *slip, size_t slip_bytes, void *area, size_t area_bytes, uint16_t n0, uint16_t groups,
+                            uint16_t sweeps, uint16_t cap);
+
+/* The value of a key, in `value`. 100, 1, 2, then 4 or 5. */
+uint32_t reefcushion_find(void *slip, size_t slip_bytes, const void *area, size_t area_bytes, uint64_t key);
+
+/* A record more. A held key keeps its value, whatever is offered. 100, 1, 2, then 4, 6 or 7, then 9. */
+uint32_t reefcushion_put(void *slip, size_t slip_bytes, void *area, size_t area_bytes, uint64_t key, uint64_t value);
+
+/* A record less. 100, 1, 2, then 4 or 5, then 9. */
+uint32_t reefcushion_remove(void *slip, size_t slip_bytes, void *area, size_t area_bytes, uint64_t key);
+
+/* One page more, after a check of the whole file. Nothing grows by itself. The row is room for cap counts, whatever stands
+   in it: it is untouched by every refusal but 7, and after success or 7 it holds, page by page, how many records have their
+   home there with one page more. 100, 1, 2, 3, 8, 4, 9, 7. */
+uint32_t reefcushion_grow(void *slip, size_t slip_bytes, void *area, size_t area_bytes, uint32_t *row, size_t row_counts);
+
+/* Accepted exactly when the area is the one image of `records` records for this state. 100, 1, 2, 4 with the lowest broken
+   page, 9. */
+uint32_t reefcushion_check(void *slip, size_t slip_bytes, const void *area, size_t area_bytes);
+
+/* 1 where growth is due (5 x records > 48 x pages), else 0; 0 too where slip_bytes isn't 40 or a number of the state is out
+   of range. It leaves the slip as it is. */
+uint32_t reefcushion_due(const void *slip, size_t slip_bytes);
+
+#ifdef __cplusplus
+}
+#endif
+
+/* The same calls for Rust, which links the same archive into an x86-64 program (-L native=DIR -l static=reefcushion):
+
+   #[repr(C)]
+   #[derive(Clone, Copy, Default)]
+   pub struct Slip {
+       pub n0: u16, pub groups: u16, pub sweeps: u16, pub pages: u16, pub cap: u16, pub zero: u16, pub records: u32,
+       pub value: u64, pub read: u32, pub moved: u32, pub refusal: u16, pub page: u16, pub zeros: u32,
+   }
+
+   unsafe extern "C" {
+       fn reefcushion_format(slip: *mut Slip, slip_bytes: usize, area: *mut u8, area_bytes: usize,
+                             n0: u16, groups: u16, sweeps: u16, cap: u16) -> u32;
+       fn reefcushion_find(slip: *mut Slip, slip_bytes: usize, area: *const u8, area_bytes: usize, key: u64) -> u32;
+       fn reefcushion_put(slip: *mut Slip, slip_bytes: usize, area: *mut u8, area_bytes: usize, key: u64, value: u64) -> u32;
+       fn reefcushion_remove(slip: *mut Slip, slip_bytes: usize, area: *mut u8, area_bytes: usize, key: u64) -> u32;
+       fn reefcushion_grow(slip: *mut Slip, slip_bytes: usize, area: *mut u8, area_bytes: usize,
+                           row: *mut u32, row_counts: usize) -> u32;
+       fn reefcushion_check(slip: *mut Slip, slip_bytes: usize, area: *const u8, area_bytes: usize) -> u32;
+       fn reefcushion_due(slip: *const Slip, slip_bytes: usize) -> u32;
+   } */
+
+#endif

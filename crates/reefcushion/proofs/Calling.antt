@@ -1,0 +1,47 @@
+-- What a call by slip comes to, on each way out.
+use mathlib.Core.Path.{_≡_}
+use mathlib.Core.Bool.{Bool, cond}
+use mathlib.Core.List.{List}
+use Prim.Native.Nat.{ℕ}
+use lib.ListN.{length}
+use borrow.Author.Tests.{eq-eqb, ne-eqb}
+use Rattle.state.specs.declared.State.{State}
+use Rattle.state.specs.declared.Done.{Done}
+use Rattle.state.specs.State.{isDue}
+use Rattle.register.specs.Files.{Call, grow, leaves, left}
+use Rattle.reefcushion.specs.Slip.{stateIn, servedBy, unserved, served, servedRow, dueOn}
+
+module _ (l : List ℕ) where
+  -- another length than forty
+  module _ (other : length l ≡ 40 → ⊥) where
+    pub not-served : (area : List ℕ) (c : Call) → served l area c ≡ unserved l area
+    unfolding served
+    not-served area c = rw (ne-eqb (length l) 40 other)
+
+    pub row-kept : (area row : List ℕ) → servedRow l area row ≡ row
+    unfolding servedRow
+    row-kept area row = rw (ne-eqb (length l) 40 other)
+
+    pub none-due : 0 ≡ dueOn l
+    unfolding dueOn
+    none-due = rw (ne-eqb (length l) 40 other)
+
+  -- a slip, and its state
+  module _ (forty : length l ≡ 40) (s : State) (is : s ≡ stateIn l) where
+    pub is-due : (u : Bool) → isDue s ≡ u → (n : ℕ) → n ≡ cond u 1 0 → n ≡ dueOn l
+    unfolding dueOn
+    is-due u e n w =
+        let d : isDue (stateIn l) ≡ u = rw is at e in
+        rw (eq-eqb (length l) 40 forty, d, w)
+
+    -- what the register's call left is told
+    module _ (area : List ℕ) (d : Done) (new row : List ℕ) where
+      pub is-served : (c : Call) → leaves d new row ≡ left (record { state = s; area = area }) c → served l area c ≡ servedBy (leaves d new row)
+      unfolding served
+      is-served c e = rw (eq-eqb (length l) 40 forty, ← is, ← e)
+
+      -- and of a growth the row
+      pub grew-served : (old : List ℕ) → leaves d new row ≡ left (record { state = s; area = area }) (grow old)
+          → (served l area (grow old) ≡ servedBy (leaves d new row)) × (servedRow l area old ≡ row)
+      unfolding servedRow
+      grew-served old e = (is-served (grow old) e, rw (eq-eqb (length l) 40 forty, ← is, ← e))

@@ -1,0 +1,61 @@
+-- The slip: forty bytes by which a program in another language hands a call the state of its file, and is handed the state and the answer. What is quoted is 01's.
+use Prim.Native.Nat.{ℕ}
+use mathlib.Core.Bool.{Bool, cond}
+use mathlib.Core.List.{List, [], _∷_, _++_}
+use lib.ListN.{length}
+use lib.Dec.{eqb}
+use Rattle.numbers.specs.Little.{numberAt}
+use Rattle.numbers.specs.Fields.{Field, encode}
+use Rattle.state.specs.declared.State.{State}
+use Rattle.state.specs.declared.Numbers.{Numbers}
+use Rattle.state.specs.State.{isDue}
+use Rattle.register.specs.Files.{Call, grow, File, Left, left, numbersOf}
+
+abbrev pub isSlip : List ℕ → Bool
+isSlip l = eqb (length l) 40
+
+-- the state that a slip brings: "n0 .., N .., s .., P .., cap .., r". Bytes 10 and 11 aren't looked at, nor are those of an answer.
+abbrev pub stateIn : List ℕ → State
+stateIn l =
+    record { n0 = numberAt 2 l 0; n = numberAt 2 l 2; s = numberAt 2 l 4; p = numberAt 2 l 6; cap = numberAt 2 l 8; r = numberAt 4 l 12 }
+
+-- the state's bytes, with two zeros before r
+abbrev pub stateFields : State → List Field
+stateFields s = (2, s .n0) ∷ (2, s .n) ∷ (2, s .s) ∷ (2, s .p) ∷ (2, s .cap) ∷ (2, 0) ∷ (4, s .r) ∷ []
+
+-- the answer's in 01's numbers, with four zeros at the end
+abbrev pub answerFields : Numbers → List Field
+answerFields n = (8, n .value) ∷ (4, n .read) ∷ (4, n .moved) ∷ (2, n .refusal) ∷ (2, n .page) ∷ (4, 0) ∷ []
+
+abbrev pub slipOf : State → Numbers → List ℕ
+slipOf s n = encode (stateFields s ++ answerFields n)
+
+-- the file that a slip and an area are
+abbrev pub fileIn : (slip area : List ℕ) → File
+fileIn slip area = record { state = stateIn slip; area = area }
+
+-- what a call comes to: the number that it returns, the slip, and the file that it leaves
+pub record Served : Type 0 where
+  pub returned : ℕ
+  pub slip : List ℕ
+  pub file : File
+
+-- it returns the number of its refusal ("refusal 0 means accepted"); the state "comes back as a value"
+abbrev pub servedBy : Left → Served
+servedBy l = record { returned = numbersOf (l .said) .refusal; slip = slipOf (l .file .state) (numbersOf (l .said)); file = l .file }
+
+-- a slip of another length: 100, which is no number of 01's, and nothing is done
+abbrev pub unserved : (slip area : List ℕ) → Served
+unserved slip area = record { returned = 100; slip = slip; file = fileIn slip area }
+
+-- a call by slip and area is the register's call on the file that they are; due, which leaves the slip as it is, is `dueOn`
+unfoldable pub served : (slip area : List ℕ) → Call → Served
+served slip area c = cond (isSlip slip) (servedBy (left (fileIn slip area) c)) (unserved slip area)
+
+-- the row after a growth by slip
+unfoldable pub servedRow : (slip area row : List ℕ) → List ℕ
+servedRow slip area row = cond (isSlip slip) (left (fileIn slip area) (grow row) .row) row
+
+-- whether growth is due, as 1 or 0; with a slip of another length it isn't
+unfoldable pub dueOn : List ℕ → ℕ
+dueOn slip = cond (isSlip slip) (cond (isDue (stateIn slip)) 1 0) 0

@@ -1,0 +1,180 @@
+// The calls for programs in other languages. Each is the register's call on the state that a slip of forty bytes brings; the slip then holds the state after it and the answer. It takes any lengths and any bytes, and returns the number of its refusal.
+use state::Done;
+use state::Numbers;
+use state::State;
+ghost use mathlib.Core.Path.{_≡_};
+ghost use lib.ListN.{length};
+ghost use Rattle.numbers.specs.Little.{written};
+ghost use Rattle.numbers.specs.Fields.{encode};
+ghost use Rattle.state.specs.Answer.{numbers};
+ghost use Rattle.register.specs.Files.{format, find, put, remove, grow, check};
+ghost use Rattle.reefcushion.specs.Slip.{stateIn, stateFields, answerFields, slipOf, served, servedRow, dueOn};
+
+// The bytes of a slip.
+const SLIP: usize = 40;
+
+// What a call returns that has no slip of that length. It then does nothing.
+const NO_SLIP: u32 = 100;
+
+// The state that a slip brings.
+fn state_in(slip: &[u8]) -> State
+    requires { ⌜ length (now slip) ≡ 40 ⌝ }
+    ensures { λ r. ⌜ r ≡ stateIn (now (slip .entry)) ⌝ }
+{
+    State {
+        n0: numbers::get_u16(slip, 0),
+        n: numbers::get_u16(slip, 2),
+        s: numbers::get_u16(slip, 4),
+        p: numbers::get_u16(slip, 6),
+        cap: numbers::get_u16(slip, 8),
+        r: numbers::get_u32(slip, 12),
+    }
+}
+
+fn tell_state(slip: &mut [u8], state: State)
+    requires { ⌜ length (now slip) ≡ 40 ⌝ }
+    ensures { λ _. ⌜ now (slip .exit) ≡ written (now (slip .entry)) 0 (encode (stateFields state)) ⌝ }
+{
+    numbers::put_u16(slip, 0, state.n0);
+    numbers::put_u16(slip, 2, state.n);
+    numbers::put_u16(slip, 4, state.s);
+    numbers::put_u16(slip, 6, state.p);
+    numbers::put_u16(slip, 8, state.cap);
+    numbers::put_u16(slip, 10, 0);
+    numbers::put_u32(slip, 12, state.r);
+}
+
+fn tell_answer(slip: &mut [u8], told: Numbers)
+    requires { ⌜ length (now slip) ≡ 40 ⌝ }
+    ensures { λ _. ⌜ now (slip .exit) ≡ written (now (slip .entry)) 16 (encode (answerFields told)) ⌝ }
+{
+    numbers::put_u64(slip, 16, told.value);
+    numbers::put_u32(slip, 24, told.read);
+    numbers::put_u32(slip, 28, told.moved);
+    numbers::put_u16(slip, 32, told.refusal);
+    numbers::put_u16(slip, 34, told.page);
+    numbers::put_u32(slip, 36, 0);
+}
+
+// What a call came to, over all of the slip. It brings the next call the state that this one left.
+fn tell(slip: &mut [u8], done: Done) -> u32
+    requires { ⌜ length (now slip) ≡ 40 ⌝ }
+    ensures { λ r. ⌜ r ≡ numbers (done .answer) .refusal ⌝ }
+    ensures { λ _. ⌜ now (slip .exit) ≡ slipOf (done .state) (numbers (done .answer)) ⌝ }
+    ensures again { λ _. ⌜ stateIn (now (slip .exit)) ≡ done .state ⌝ }
+{
+    let state = done.state;
+    let answer = done.answer;
+    let told = answer.numbers();
+    tell_state(slip, state);
+    tell_answer(slip, told);
+    told.refusal as u32
+}
+
+#[no_mangle]
+pub extern "C" fn reefcushion_format(
+    slip: &mut [u8],
+    area: &mut [u8],
+    n0: u16,
+    n: u16,
+    s: u16,
+    cap: u16,
+) -> u32
+    ensures { λ r. ⌜ r ≡ served (now (slip .entry)) (now (area .entry)) (format n0 n s cap) .returned ⌝ }
+    ensures { λ _. ⌜ now (slip .exit) ≡ served (now (slip .entry)) (now (area .entry)) (format n0 n s cap) .slip ⌝ }
+    ensures { λ _. ⌜ now (area .exit) ≡ served (now (slip .entry)) (now (area .entry)) (format n0 n s cap) .file .area ⌝ }
+    ensures again { λ _. ⌜ stateIn (now (slip .exit)) ≡ served (now (slip .entry)) (now (area .entry)) (format n0 n s cap) .file .state ⌝ }
+{
+    if slip.len() != SLIP {
+        return NO_SLIP;
+    }
+    let state = state_in(&slip[..]);
+    let done = register::format(state, n0, n, s, cap, area);
+    tell(slip, done)
+}
+
+#[no_mangle]
+pub extern "C" fn reefcushion_find(slip: &mut [u8], area: &[u8], key: u64) -> u32
+    ensures { λ r. ⌜ r ≡ served (now (slip .entry)) (now (area .entry)) (find key) .returned ⌝ }
+    ensures { λ _. ⌜ now (slip .exit) ≡ served (now (slip .entry)) (now (area .entry)) (find key) .slip ⌝ }
+    ensures again { λ _. ⌜ stateIn (now (slip .exit)) ≡ served (now (slip .entry)) (now (area .entry)) (find key) .file .state ⌝ }
+{
+    if slip.len() != SLIP {
+        return NO_SLIP;
+    }
+    let state = state_in(&slip[..]);
+    let done = register::find(state, area, key);
+    tell(slip, done)
+}
+
+#[no_mangle]
+pub extern "C" fn reefcushion_put(slip: &mut [u8], area: &mut [u8], key: u64, value: u64) -> u32
+    ensures { λ r. ⌜ r ≡ served (now (slip .entry)) (now (area .entry)) (put key value) .returned ⌝ }
+    ensures { λ _. ⌜ now (slip .exit) ≡ served (now (slip .entry)) (now (area .entry)) (put key value) .slip ⌝ }
+    ensures { λ _. ⌜ now (area .exit) ≡ served (now (slip .entry)) (now (area .entry)) (put key value) .file .area ⌝ }
+    ensures again { λ _. ⌜ stateIn (now (slip .exit)) ≡ served (now (slip .entry)) (now (area .entry)) (put key value) .file .state ⌝ }
+{
+    if slip.len() != SLIP {
+        return NO_SLIP;
+    }
+    let state = state_in(&slip[..]);
+    let done = register::put(state, area, key, value);
+    tell(slip, done)
+}
+
+#[no_mangle]
+pub extern "C" fn reefcushion_remove(slip: &mut [u8], area: &mut [u8], key: u64) -> u32
+    ensures { λ r. ⌜ r ≡ served (now (slip .entry)) (now (area .entry)) (remove key) .returned ⌝ }
+    ensures { λ _. ⌜ now (slip .exit) ≡ served (now (slip .entry)) (now (area .entry)) (remove key) .slip ⌝ }
+    ensures { λ _. ⌜ now (area .exit) ≡ served (now (slip .entry)) (now (area .entry)) (remove key) .file .area ⌝ }
+    ensures again { λ _. ⌜ stateIn (now (slip .exit)) ≡ served (now (slip .entry)) (now (area .entry)) (remove key) .file .state ⌝ }
+{
+    if slip.len() != SLIP {
+        return NO_SLIP;
+    }
+    let state = state_in(&slip[..]);
+    let done = register::remove(state, area, key);
+    tell(slip, done)
+}
+
+#[no_mangle]
+pub extern "C" fn reefcushion_grow(slip: &mut [u8], area: &mut [u8], row: &mut [u32]) -> u32
+    ensures { λ r. ⌜ r ≡ served (now (slip .entry)) (now (area .entry)) (grow (now (row .entry))) .returned ⌝ }
+    ensures { λ _. ⌜ now (slip .exit) ≡ served (now (slip .entry)) (now (area .entry)) (grow (now (row .entry))) .slip ⌝ }
+    ensures { λ _. ⌜ now (area .exit) ≡ served (now (slip .entry)) (now (area .entry)) (grow (now (row .entry))) .file .area ⌝ }
+    ensures { λ _. ⌜ now (row .exit) ≡ servedRow (now (slip .entry)) (now (area .entry)) (now (row .entry)) ⌝ }
+    ensures again { λ _. ⌜ stateIn (now (slip .exit)) ≡ served (now (slip .entry)) (now (area .entry)) (grow (now (row .entry))) .file .state ⌝ }
+{
+    if slip.len() != SLIP {
+        return NO_SLIP;
+    }
+    let state = state_in(&slip[..]);
+    let done = register::grow(state, area, row);
+    tell(slip, done)
+}
+
+#[no_mangle]
+pub extern "C" fn reefcushion_check(slip: &mut [u8], area: &[u8]) -> u32
+    ensures { λ r. ⌜ r ≡ served (now (slip .entry)) (now (area .entry)) check .returned ⌝ }
+    ensures { λ _. ⌜ now (slip .exit) ≡ served (now (slip .entry)) (now (area .entry)) check .slip ⌝ }
+    ensures again { λ _. ⌜ stateIn (now (slip .exit)) ≡ served (now (slip .entry)) (now (area .entry)) check .file .state ⌝ }
+{
+    if slip.len() != SLIP {
+        return NO_SLIP;
+    }
+    let state = state_in(&slip[..]);
+    let done = register::check(state, area);
+    tell(slip, done)
+}
+
+// Whether growth is due, 1 or 0. It leaves the slip as it is.
+#[no_mangle]
+pub extern "C" fn reefcushion_due(slip: &[u8]) -> u32
+    ensures { λ r. ⌜ r ≡ dueOn (now (slip .entry)) ⌝ }
+{
+    if slip.len() != SLIP {
+        return 0;
+    }
+    let state = state_in(slip);
+    if state.due() { 1 } else { 0 }
+}

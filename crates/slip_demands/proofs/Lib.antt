@@ -1,0 +1,3 @@
+pub mod Looking
+pub mod SlipAnswers
+pub mod SlipDemands

@@ -1,0 +1,41 @@
+-- Each call by slip takes whatever it is given, and its contract allows one number to be returned, and one slip, one area and one row afterwards.
+use mathlib.Core.Path.{refl, sym, _∙⁻¹_}
+use denote.Ref.{now}
+use Rattle.slip_demands.specs.SlipAnswers.{SlipAnswers}
+use Rattle.slip_demands.proofs.Looking.{find-area, check-area}
+
+pub slip-answers : SlipAnswers
+slip-answers =
+    record {
+      format = record {
+        asks-nothing = λ κs a. tt;
+        one = λ κs a y z v w p q. (p .0 ∙⁻¹ q .0, λ i. ((p .1 .0 ∙⁻¹ q .1 .0) i, ((p .1 .1 .0 ∙⁻¹ q .1 .1 .0) i, (tt, (tt, (tt, (tt, tt)))))));
+        does = λ κs a y v p i. record { returned = p .0 i; slip = p .1 .0 i; file = record { state = p .1 .1 .1 i; area = p .1 .1 .0 i } };
+      };
+      find = record {
+        asks-nothing = λ κs a. tt;
+        one = λ κs a y z v w p q. (p .0 ∙⁻¹ q .0, λ i. ((p .1 .0 ∙⁻¹ q .1 .0) i, (tt, (tt, tt))));
+        does = λ κs a y v p i. record { returned = p .0 i; slip = p .1 .0 i; file = record { state = p .1 .1 i; area = sym (find-area (now (a .0)) (now (a .1 .0)) (a .1 .1 .0)) i } };
+      };
+      put = record {
+        asks-nothing = λ κs a. tt;
+        one = λ κs a y z v w p q. (p .0 ∙⁻¹ q .0, λ i. ((p .1 .0 ∙⁻¹ q .1 .0) i, ((p .1 .1 .0 ∙⁻¹ q .1 .1 .0) i, (tt, (tt, tt)))));
+        does = λ κs a y v p i. record { returned = p .0 i; slip = p .1 .0 i; file = record { state = p .1 .1 .1 i; area = p .1 .1 .0 i } };
+      };
+      remove = record {
+        asks-nothing = λ κs a. tt;
+        one = λ κs a y z v w p q. (p .0 ∙⁻¹ q .0, λ i. ((p .1 .0 ∙⁻¹ q .1 .0) i, ((p .1 .1 .0 ∙⁻¹ q .1 .1 .0) i, (tt, tt))));
+        does = λ κs a y v p i. record { returned = p .0 i; slip = p .1 .0 i; file = record { state = p .1 .1 .1 i; area = p .1 .1 .0 i } };
+      };
+      grow = record {
+        asks-nothing = λ κs a. tt;
+        one = λ κs a y z v w p q. (p .0 ∙⁻¹ q .0, λ i. ((p .1 .0 ∙⁻¹ q .1 .0) i, ((p .1 .1 .0 ∙⁻¹ q .1 .1 .0) i, ((p .1 .1 .1 .0 ∙⁻¹ q .1 .1 .1 .0) i, tt))));
+        does = λ κs a y v p i. (record { returned = p .0 i; slip = p .1 .0 i; file = record { state = p .1 .1 .1 .1 i; area = p .1 .1 .0 i } }, p .1 .1 .1 .0 i);
+      };
+      check = record {
+        asks-nothing = λ κs a. tt;
+        one = λ κs a y z v w p q. (p .0 ∙⁻¹ q .0, λ i. ((p .1 .0 ∙⁻¹ q .1 .0) i, (tt, tt)));
+        does = λ κs a y v p i. record { returned = p .0 i; slip = p .1 .0 i; file = record { state = p .1 .1 i; area = sym (check-area (now (a .0)) (now (a .1 .0))) i } };
+      };
+      due = record { asks-nothing = λ κs a. tt; one = λ κs a y z v w p q. (p ∙⁻¹ q, refl); does = λ κs a y v p. p };
+    }

@@ -1,0 +1,2 @@
+pub mod SlipAnswers
+pub mod SlipDemands

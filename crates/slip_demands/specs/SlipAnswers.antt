@@ -1,0 +1,40 @@
+-- What the contracts of the calls by slip allow (reefcushion/src/lib.rt): each takes anything, and settles what it returns and all that it leaves, as `served` says.
+use Prim.Native.Nat.{ℕ}
+use mathlib.Core.List.{List}
+use denote.Ref.{now}
+use Rattle.register.specs.Files.{format, find, put, remove, grow, check}
+use Rattle.demands.specs.Answers.{Settled}
+use Rattle.reefcushion.proofs.reefcushion_format as Format
+use Rattle.reefcushion.proofs.reefcushion_find as Find
+use Rattle.reefcushion.proofs.reefcushion_put as Put
+use Rattle.reefcushion.proofs.reefcushion_remove as Remove
+use Rattle.reefcushion.proofs.reefcushion_grow as Grow
+use Rattle.reefcushion.proofs.reefcushion_check as Check
+use Rattle.reefcushion.proofs.reefcushion_due as Due
+use Rattle.reefcushion.specs.Slip.{Served, fileIn, served, servedRow, dueOn}
+
+-- what the code of a call comes to: the file that it leaves is the one that its slip and its area are
+abbrev pub came : ℕ → (slip area : List ℕ) → Served
+came returned slip area = record { returned = returned; slip = slip; file = fileIn slip area }
+
+-- The arguments stand in the order of the signature: a .0 is the slip, a .1 .0 the area, and so on; v has a place for each, and in it what is left of what was lent to be changed.
+pub record SlipAnswers : Type 0 where
+  pub format : Settled Format.ended Format.Reads.Asked Format.Reads.Learnt
+      (λ κs a. served (now (a .0)) (now (a .1 .0)) (format (a .1 .1 .0) (a .1 .1 .1 .0) (a .1 .1 .1 .1 .0) (a .1 .1 .1 .1 .1 .0)))
+      (λ κs a y v. came y (v .0) (v .1 .0))
+  pub find : Settled Find.ended Find.Reads.Asked Find.Reads.Learnt
+      (λ κs a. served (now (a .0)) (now (a .1 .0)) (find (a .1 .1 .0)))
+      (λ κs a y v. came y (v .0) (now (a .1 .0)))
+  pub put : Settled Put.ended Put.Reads.Asked Put.Reads.Learnt
+      (λ κs a. served (now (a .0)) (now (a .1 .0)) (put (a .1 .1 .0) (a .1 .1 .1 .0)))
+      (λ κs a y v. came y (v .0) (v .1 .0))
+  pub remove : Settled Remove.ended Remove.Reads.Asked Remove.Reads.Learnt
+      (λ κs a. served (now (a .0)) (now (a .1 .0)) (remove (a .1 .1 .0)))
+      (λ κs a y v. came y (v .0) (v .1 .0))
+  pub grow : Settled Grow.ended {O = Served × List ℕ} Grow.Reads.Asked Grow.Reads.Learnt
+      (λ κs a. (served (now (a .0)) (now (a .1 .0)) (grow (now (a .1 .1 .0))), servedRow (now (a .0)) (now (a .1 .0)) (now (a .1 .1 .0))))
+      (λ κs a y v. (came y (v .0) (v .1 .0), v .1 .1 .0))
+  pub check : Settled Check.ended Check.Reads.Asked Check.Reads.Learnt
+      (λ κs a. served (now (a .0)) (now (a .1 .0)) check)
+      (λ κs a y v. came y (v .0) (now (a .1 .0)))
+  pub due : Settled Due.ended Due.Reads.Asked Due.Reads.Learnt (λ κs a. dueOn (now (a .0))) (λ κs a y v. y)

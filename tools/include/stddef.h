@@ -1,0 +1,5 @@
+// Part of C's own stddef.h.
+#pragma once
+typedef __SIZE_TYPE__ size_t;
+#define NULL ((void *)0)
+#define offsetof(type, member) __builtin_offsetof(type, member)

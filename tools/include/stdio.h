@@ -1,0 +1,14 @@
+// Part of C's own stdio.h.
+#pragma once
+#include <stddef.h>
+typedef struct _IO_FILE FILE;
+extern FILE *stdout;
+extern FILE *stderr;
+int printf(const char *form, ...);
+int fprintf(FILE *file, const char *form, ...);
+int snprintf(char *text, size_t size, const char *form, ...);
+int puts(const char *text);
+int fputs(const char *text, FILE *file);
+int fflush(FILE *file);
+FILE *fopen(const char *name, const char *mode);
+int fclose(FILE *file);

@@ -1,55 +1,60 @@
 -- The last step of a file: that the loop of `Shape::last_step` comes to it, and which keys it leaves at home.
 --
-use mathlib.Core.Path.{_≡_, refl, _∙_}
+use mathlib.Core.Path.{_≡_, refl, sym, ap, _∙_}
 use mathlib.Core.Bool.{true, false, and-false}
-use mathlib.Core.Logic.{inl, inr}
+use mathlib.Core.Logic.{⊎-elim, inl, inr}
 use Prim.Native.Nat.{ℕ, zero, suc, _+_, _-_, _*_, _≤_, _<_}
 use native.Mathlib.Omega.{arith}
 use lib.Dec.{ltb}
-use borrow.Author.Tests.{eq-eqb}
+use borrow.Author.Tests.{eq-eqb, le-ltb}
 use Rattle.homes.specs.declared.Shape.{Shape}
 use Rattle.homes.specs.declared.Stage.{Stage}
-use Rattle.homes.specs.Homes.{newPage, home, InRange, shapeOf}
+use Rattle.homes.specs.Homes.{np, newPage, home, InRange, shapeOf}
+use Rattle.homes.specs.Stages.{stageAt, nextStep, After, Sound}
 use Rattle.homes.specs.Last.{lastFrom, lastStep, staysAt}
-use Rattle.homes.proofs.Steps.{OneMore, last-later}
-use Rattle.homes.proofs.Homes.{home-more}
-use Rattle.homes.proofs.Turn.{Round, Next, round-starts, round-ends, round-runs}
+use Rattle.homes.proofs.Steps.{OneMore, grows, last-later}
+use Rattle.homes.proofs.Homes.{home-more, home-grown}
 
--- Before step i + 1: the round, and that the last step is that step or a later one, with enough steps left to come to it.
-pub record Seeking (n0 N P G F np : ℕ) : Type 0 where
+-- Before step i + 1: that t is that step, and that the last step is that one or a later one, with enough steps left to come to it.
+pub record Seeking (n0 P : ℕ) (last t : Stage) : Type 0 where
   pub i : ℕ
   pub left : ℕ
-  pub round : Round n0 i np G F
-  pub below : F < P
-  pub enough : P ≤ F + left
-  pub rest : lastFrom n0 P left (suc i) F G ≡ lastFrom n0 P (P - n0 * N) 1 (n0 * N) N
+  pub np-is : t .np ≡ np n0 (suc i)
+  pub sound : Sound n0 t
+  pub below : t .f < P
+  pub enough : P ≤ t .f + left
+  pub rest : lastFrom n0 P left (suc i) t ≡ last
 
 -- It holds at the start.
-pub seek-starts : (n0 N P : ℕ) → 1 ≤ n0 → 1 ≤ N → n0 * N < P → Seeking n0 N P N (n0 * N) n0
-seek-starts n0 N P hn hN h =
-    record { i = zero; left = P - n0 * N; round = round-starts n0 N hn hN; below = h; enough = omega arith; rest = refl }
+pub seek-starts : (n0 N P : ℕ) (t : Stage) → t ≡ stageAt n0 1 (n0 * N) N → Sound n0 t → n0 * N < P → Seeking n0 P (lastFrom n0 P (P - t .f) 1 t) t
+seek-starts n0 N P t e sound h =
+    let size : t .f ≡ n0 * N = ap (λ (u : Stage). u .f) e in
+    record {
+      i = zero;
+      left = P - t .f;
+      np-is = ap (λ (u : Stage). u .np) e;
+      sound = sound;
+      below = omega arith;
+      enough = omega arith;
+      rest = refl;
+    }
 
-module _ (n0 N P G F np : ℕ) (b : Seeking n0 N P G F np) (more : F + G < P) where
-  -- a turn, with the round after it
-  seek-turn : (np′ G′ : ℕ) → Next n0 (b .i) G F np′ G′ → Seeking n0 N P G′ (F + G) np′
-  seek-turn np′ G′ next =
-      let e : b .left ≡ suc (b .left - 1) = omega arith in
-      record {
-        i = suc (b .i);
-        left = b .left - 1;
-        round = next .0;
-        below = more;
-        enough = omega (arith, b .round .G-low);
-        rest = rw (← next .1, ← last-later n0 P (b .left - 1) (suc (b .i)) F G more, ← e) (b .rest);
-      }
-
-  -- A turn at the end of a round.
-  pub seek-over : np + 1 ≡ 2 * n0 → Seeking n0 N P (2 * G) (F + G) n0
-  seek-over h = seek-turn n0 (2 * G) (round-ends n0 (b .i) np G F (b .round) h)
-
-  -- Any other turn.
-  pub seek-on : 1 ≤ n0 → (np + 1 ≡ 2 * n0 → ⊥) → Seeking n0 N P G (F + G) (np + 1)
-  seek-on low h = seek-turn (np + 1) G (round-runs n0 (b .i) np G F (b .round) low h)
+-- A turn keeps it.
+pub seek-on : (n0 P : ℕ) (last t t′ : Stage) → Seeking n0 P last t → t .f + t .g < P → After n0 t t′ → Sound n0 t′ → Seeking n0 P last t′
+seek-on n0 P last t t′ b more after sound =
+    let x = suc (b .i) in
+    let next : t′ ≡ nextStep n0 x t = after x (omega arith) (b .np-is) in
+    let size : t′ .f ≡ t .f + t .g = grows n0 (b .i) t t′ (b .np-is) after in
+    let e : b .left ≡ suc (b .left - 1) = omega arith in
+    record {
+      i = x;
+      left = b .left - 1;
+      np-is = ap (λ (u : Stage). u .np) next;
+      sound = sound;
+      below = omega arith;
+      enough = omega (arith, b .sound .0);
+      rest = rw (next, ← last-later n0 P (b .left - 1) x t more, ← e) (b .rest);
+    }
 
 -- A page whose group grows into the last page isn't told to stay.
 leaves : (shape : Shape) (last : Stage) (a : ℕ) → newPage (shape .s) (last .f) (last .g) a ≡ shape .p - 1 → staysAt shape last a ≡ false
@@ -68,3 +73,18 @@ home-stays n0 N s P K a r stays here = go (home-more n0 N s P K r)
     go (inr w) =
         let no : staysAt shape (lastStep shape) a ≡ false = leaves shape (lastStep shape) a (rw here at (w .1) ∙ omega arith) in
         cc
+
+-- Nor is a page from the last on.
+ends : (n0 N s P a : ℕ) (last : Stage) → P ≤ a → staysAt (shapeOf n0 N s (P + 1)) last a ≡ false
+unfolding staysAt
+ends n0 N s P a last l =
+    let q : P + 1 - 1 ≡ P = omega arith in
+    rw (q, le-ltb a P l)
+
+-- And a key that has its home there after has had it before.
+pub home-stayed : (n0 N s P K a : ℕ) (last : Stage) → InRange n0 N s P → staysAt (shapeOf n0 N s (P + 1)) last a ≡ true → home n0 N s (P + 1) K ≡ a → home n0 N s P K ≡ a
+home-stayed n0 N s P K a last r stays here =
+    ⊎-elim
+    (λ e. sym e ∙ here)
+    (λ e. absurd (let no : staysAt (shapeOf n0 N s (P + 1)) last a ≡ false = ends n0 N s P a last (omega arith) in let z : _≡_ {A = ℕ} 0 1 = cc in omega arith))
+    (home-grown n0 N s P K r)

@@ -8,7 +8,8 @@ use native.Mathlib.Omega.{arith}
 use lib.Dec.{ltb, eqb}
 use borrow.Author.Tests.{ltb-true, ltb-false, lt-ltb, le-ltb}
 use Rattle.homes.specs.declared.Stage.{Stage}
-use Rattle.homes.specs.Homes.{moved, nextGroups, steps}
+use Rattle.homes.specs.Homes.{np, moved, nextGroups, steps}
+use Rattle.homes.specs.Stages.{stageAt, nextStep, After}
 use Rattle.homes.specs.Last.{lastFrom}
 use Rattle.homes.proofs.New.{split}
 
@@ -67,16 +68,20 @@ groups-pos n0 x G h = go (eqb ((x - 1) % n0) (n0 - 1))
     go true = omega arith
     go false = h
 
+-- A step adds a page for each group.
+pub grows : (n0 i : ℕ) (t r : Stage) → t .np ≡ np n0 (suc i) → After n0 t r → r .f ≡ t .f + t .g
+grows n0 i t r e after = ap (λ (u : Stage). u .f) (after (suc i) (omega arith) e)
+
 -- A step that reaches size P is the last.
-pub last-here : (n0 P left x F G : ℕ) → P ≤ F + G → lastFrom n0 P left x F G ≡ record { f = F; g = G }
+pub last-here : (n0 P left x : ℕ) (t : Stage) → P ≤ t .f + t .g → lastFrom n0 P left x t ≡ t
 unfolding lastFrom
-last-here n0 P zero x F G h = refl
-last-here n0 P (suc left) x F G h = rw (le-ltb (F + G) P h)
+last-here n0 P zero x t h = refl
+last-here n0 P (suc left) x t h = rw (le-ltb (t .f + t .g) P h)
 
 -- After any other step the last is still to come.
-pub last-later : (n0 P left x F G : ℕ) → F + G < P → lastFrom n0 P (suc left) x F G ≡ lastFrom n0 P left (suc x) (F + G) (nextGroups n0 x G)
+pub last-later : (n0 P left x : ℕ) (t : Stage) → t .f + t .g < P → lastFrom n0 P (suc left) x t ≡ lastFrom n0 P left (suc x) (nextStep n0 x t)
 unfolding lastFrom
-last-later n0 P left x F G h = rw (lt-ltb (F + G) P h)
+last-later n0 P left x t h = rw (lt-ltb (t .f + t .g) P h)
 
 module _ (moves : ℕ → ℕ → Bool) (goes : ℕ → ℕ → ℕ → ℕ) (n0 P : ℕ) where
   -- At size P or past it no step is taken.
@@ -129,7 +134,7 @@ module _ (moves : ℕ → ℕ → Bool) (goes : ℕ → ℕ → ℕ → ℕ) (in
   -- what is shown of the steps with one page more
   abbrev Grown : (left x F G a : ℕ) → Type 0
   Grown left x F G a =
-      OneMore goes P (lastFrom n0 (P + 1) left x F G) (steps moves goes n0 P left x F G a) (steps moves goes n0 (P + 1) left x F G a)
+      OneMore goes P (lastFrom n0 (P + 1) left x (stageAt n0 x F G)) (steps moves goes n0 P left x F G a) (steps moves goes n0 (P + 1) left x F G a)
 
   -- one step, where `rest` shows it of the steps after
   grown-step : (left x F G a : ℕ) → 0 < G → Grown left (suc x) (F + G) (nextGroups n0 x G) (moved P (moves x F) (goes F G a) a) → Grown (suc left) x F G a
@@ -167,7 +172,7 @@ module _ (moves : ℕ → ℕ → Bool) (goes : ℕ → ℕ → ℕ → ℕ) (in
       further : F < P → F + G < P + 1 → b′ ≡ a′ → Grown left (suc x) (F + G) (nextGroups n0 x G) a′ → Grown (suc left) x F G a
       further lt more e (inl r) = inl (on (omega arith) ∙ ap (then (P + 1)) e ∙ r ∙ off lt)
       further lt more e (inr r) =
-          inr (on (omega arith) ∙ ap (then (P + 1)) e ∙ r .0, rw (last-later n0 (P + 1) left x F G more, ← off lt) (r .1))
+          inr (on (omega arith) ∙ ap (then (P + 1)) e ∙ r .0, rw (last-later n0 (P + 1) left x (stageAt n0 x F G) more, ← off lt) (r .1))
 
       -- both move alike, by the last step or one before it
       same : F < P → b′ ≡ a′ → Grown (suc left) x F G a
@@ -189,7 +194,7 @@ module _ (moves : ℕ → ℕ → Bool) (goes : ℕ → ℕ → ℕ → ℕ) (in
       to : F < P + 1 → (b′ ≡ P) × (new ≡ P) → Grown (suc left) x F G a
       to lt w =
           let over : P + 1 ≤ F + G = omega (arith, w .1, into .high F G a hG) in
-          inr (on lt ∙ ends (P + 1) b′ over ∙ w .0, rw (last-here n0 (P + 1) (suc left) x F G over, kept (omega (arith, w .1)) (omega arith)) (w .1))
+          inr (on lt ∙ ends (P + 1) b′ over ∙ w .0, rw (last-here n0 (P + 1) (suc left) x (stageAt n0 x F G) over, kept (omega (arith, w .1)) (omega arith)) (w .1))
 
       -- the size is P, and one takes a step more, by which it stays
       stays : P ≤ F → F < P + 1 → b′ ≡ a′ → Grown (suc left) x F G a
@@ -202,7 +207,7 @@ module _ (moves : ℕ → ℕ → Bool) (goes : ℕ → ℕ → ℕ → ℕ) (in
           inl (stopped moves goes n0 (P + 1) (suc left) x F G a gt ∙ sym (stopped moves goes n0 P (suc left) x F G a (omega arith)))
 
   -- With one page more and as many steps left, the steps lead to the same page or to that one.
-  pub steps-grown : (left x F G a : ℕ) → 0 < G → OneMore goes P (lastFrom n0 (P + 1) left x F G) (steps moves goes n0 P left x F G a) (steps moves goes n0 (P + 1) left x F G a)
+  pub steps-grown : (left x F G a : ℕ) → 0 < G → OneMore goes P (lastFrom n0 (P + 1) left x (stageAt n0 x F G)) (steps moves goes n0 P left x F G a) (steps moves goes n0 (P + 1) left x F G a)
   unfolding steps
   steps-grown zero x F G a hG = inl refl
   steps-grown (suc left) x F G a hG =
@@ -210,6 +215,6 @@ module _ (moves : ℕ → ℕ → Bool) (goes : ℕ → ℕ → ℕ → ℕ) (in
       (steps-grown left (suc x) (F + G) (nextGroups n0 x G) (moved P (moves x F) (goes F G a) a) (groups-pos n0 x G hG))
 
   -- The same with just enough steps left in both.
-  pub grown : (x F G a : ℕ) → 0 < G → OneMore goes P (lastFrom n0 (P + 1) (P + 1 - F) x F G) (steps moves goes n0 P (P - F) x F G a) (steps moves goes n0 (P + 1) (P + 1 - F) x F G a)
+  pub grown : (x F G a : ℕ) → 0 < G → OneMore goes P (lastFrom n0 (P + 1) (P + 1 - F) x (stageAt n0 x F G)) (steps moves goes n0 P (P - F) x F G a) (steps moves goes n0 (P + 1) (P + 1 - F) x F G a)
   grown x F G a hG =
       rw (← enough moves goes n0 P (P + 1 - F) (P - F) x F G a hG (omega arith) (omega arith)) (steps-grown (P + 1 - F) x F G a hG)

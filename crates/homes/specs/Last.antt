@@ -4,16 +4,17 @@ use mathlib.Core.Bool.{Bool, cond, not, _&&_}
 use lib.Dec.{ltb, eqb}
 use Rattle.homes.specs.declared.Shape.{Shape}
 use Rattle.homes.specs.declared.Stage.{Stage}
-use Rattle.homes.specs.Homes.{newPage, nextGroups}
+use Rattle.homes.specs.Homes.{newPage}
+use Rattle.homes.specs.Stages.{firstStep, nextStep}
 
--- the step after which the size is P at least, from step x on, with at most `left` steps more
-unfoldable pub lastFrom : (n0 P left x F G : ℕ) → Stage
-lastFrom n0 P zero x F G = record { f = F; g = G }
-lastFrom n0 P (suc left) x F G = cond (ltb (F + G) P) (lastFrom n0 P left (suc x) (F + G) (nextGroups n0 x G)) (record { f = F; g = G })
+-- the step after which the size is P at least, from t on, where t is step x, with at most `left` steps more
+unfoldable pub lastFrom : (n0 P left x : ℕ) → Stage → Stage
+lastFrom n0 P zero x t = t
+lastFrom n0 P (suc left) x t = cond (ltb (t .f + t .g) P) (lastFrom n0 P left (suc x) (nextStep n0 x t)) t
 
 -- the last step of a file of that shape
 abbrev pub lastStep : Shape → Stage
-lastStep shape = lastFrom (shape .n0) (shape .p) (shape .p - shape .n0 * shape .n) 1 (shape .n0 * shape .n) (shape .n)
+lastStep shape = lastFrom (shape .n0) (shape .p) (shape .p - shape .n0 * shape .n) 1 (firstStep shape)
 
 -- a step has a group at least, and no more groups than pages
 abbrev pub Within : Stage → Type 0

@@ -1,2 +1,3 @@
 pub mod Homes
+pub mod Stages
 pub mod Last

@@ -2,6 +2,7 @@
 ghost use mathlib.Core.Path.{_≡_};
 ghost use Prim.Native.Nat.{_*_, _%_, _≤_, _<_, min};
 ghost use Rattle.homes.specs.Homes.{InRange, Ready, shapeOf, homeIn, newPage, moved};
+ghost use Rattle.homes.specs.Stages.{firstStep, After, Sound};
 ghost use Rattle.homes.specs.Last.{Within, lastStep, staysAt};
 
 // The numbers of a file that its homes depend on: pages a group and groups at the start, sweeps, pages grown to.
@@ -12,19 +13,26 @@ pub struct Shape {
     pub p: u64,
 }
 
-// A step: size and groups before it.
+// A step: groups and size before it, and pages of a group.
 pub struct Stage {
-    pub f: u64,
     pub g: u64,
+    pub f: u64,
+    pub np: u64,
 }
 
-// The draw after a draw; after the seed, the first.
+// The draw after a draw; after the seed, the first. The modulus is 2^31 - 1, so 2^31 counts as 1: the high bits are added to the low ones, and nothing is divided.
 pub fn next_draw(draw: u64) -> u64
     requires { ⌜ draw < 2147483647 ⌝ }
     ensures { λ r. ⌜ r ≡ 16807 * draw % 2147483647 ⌝ }
     ensures within { λ r. ⌜ r < 2147483647 ⌝ }
 {
-    16807 * draw % 2147483647
+    let product = 16807 * draw;
+    let folded = product / 2147483648 + product % 2147483648;
+    if folded < 2147483647 {
+        folded
+    } else {
+        folded - 2147483647
+    }
 }
 
 fn least(a: u64, b: u64) -> u64
@@ -55,6 +63,23 @@ fn step(s: u64, f: u64, g: u64, p: u64, moves: bool, address: u64) -> u64
     if new < p { new } else { address }
 }
 
+impl Stage {
+    // The step after a step.
+    fn next(mut self, n0: u64) -> Self
+        requires { ⌜ Sound n0 self × (n0 ≤ 4) × (self .f < 4096) ⌝ }
+        ensures { λ r. ⌜ After n0 self r ⌝ }
+        ensures sound { λ r. ⌜ Sound n0 r ⌝ }
+    {
+        self.f += self.g;
+        self.np += 1;
+        if self.np == 2 * n0 {
+            self.np = n0;
+            self.g = 2 * self.g;
+        }
+        self
+    }
+}
+
 impl Shape {
     // The shape of a file of these numbers, made once for many keys.
     pub fn new(n0: u64, n: u64, s: u64, p: u64) -> Self
@@ -63,6 +88,19 @@ impl Shape {
         ensures ready { λ r. ⌜ Ready r ⌝ }
     {
         Self { n0, n, s, p }
+    }
+
+    // The first step.
+    fn first(self) -> Stage
+        requires { ⌜ Ready self ⌝ }
+        ensures { λ r. ⌜ r ≡ firstStep self ⌝ }
+        ensures sound { λ r. ⌜ Sound (self .n0) r ⌝ }
+    {
+        Stage {
+            g: self.n,
+            f: self.n0 * self.n,
+            np: self.n0,
+        }
     }
 
     // The home of a key.
@@ -74,20 +112,14 @@ impl Shape {
         let s = self.s;
         let p = self.p;
         let seed = key % 2147483646 + 1;
-        let mut g = self.n;
-        let mut f = n0 * g;
-        let mut address = key % f;
+        let mut stage = self.first();
+        let mut address = key % stage.f;
         let mut draw = seed;
-        let mut np = n0;
-        while f < p {
+        while stage.f < p {
             draw = next_draw(draw);
-            address = step(s, f, g, p, draw * (np + 1) <= 2147483647, address);
-            f += g;
-            np += 1;
-            if np == 2 * n0 {
-                np = n0;
-                g = 2 * g;
-            }
+            let moves = draw * (stage.np + 1) <= 2147483647;
+            address = step(s, stage.f, stage.g, p, moves, address);
+            stage = stage.next(n0);
         }
         address
     }
@@ -100,18 +132,11 @@ impl Shape {
     {
         let n0 = self.n0;
         let p = self.p;
-        let mut g = self.n;
-        let mut f = n0 * g;
-        let mut np = n0;
-        while f + g < p {
-            f += g;
-            np += 1;
-            if np == 2 * n0 {
-                np = n0;
-                g = 2 * g;
-            }
+        let mut stage = self.first();
+        while stage.f + stage.g < p {
+            stage = stage.next(n0);
         }
-        Stage { f, g }
+        stage
     }
 
     // Whether all keys that had their home on a page before the last page was added have it there still. It tells so by the page's group alone, and may say no where all stay.

@@ -1,0 +1,57 @@
+// Costs at any page size, by counting alone. In linear probing without wrapping round, the number of records on each page and the sum of their distances from home follow from the number of records of each home. So Larson's own page sizes can be counted again, without the product, to see whether the harness measures what he measured.
+#include "paper.h"
+
+static void count_homes(int homes[COUNTED], Kind kind, uint64_t loading, int pages, int records) {
+    for (int page = 0; page < COUNTED; page++)
+        homes[page] = 0;
+    for (int place = 0; place < records; place++)
+        homes[home_of(random_at(loading, RECORD_KEYS, (uint64_t)place), kind, pages)]++;
+}
+
+// Turns numbers of records a home into numbers of records a page, and gives the sum of the distances.
+static long spread(int counts[COUNTED], int slots) {
+    long distances = 0;
+    int over = 0;
+    for (int page = 0; page < COUNTED; page++) {
+        int here = counts[page] + over;
+        counts[page] = here < slots ? here : slots;
+        over = here - counts[page];
+        distances += over;
+    }
+    if (over != 0)
+        stop("counted records overflow the last page", over);
+    return distances;
+}
+
+// The product's pages have to hold as many records as counting says.
+void must_be_counted(const File *file) {
+    static int counts[COUNTED];
+    count_homes(counts, file->kind, file->loading, file->slip.pages, (int)file->slip.records);
+    spread(counts, SLOTS);
+    for (int page = 0; page < CAP; page++) {
+        if (used_on(file, page) != counts[page])
+            stop("a page holds another number of records than counting says", page);
+    }
+}
+
+static int counted_search(const int counts[COUNTED], int slots, int home) {
+    int page = home;
+    while (page < COUNTED - 1 && counts[page] == slots)
+        page++;
+    return page - home + 1;
+}
+
+// The costs in Larson's placement; an unsuccessful search is by his rule.
+Cost counted_at(Kind kind, uint64_t loading, int pages, int slots) {
+    static int counts[COUNTED];
+    int records = kind.tenths * slots * pages / 10 + 1;
+    count_homes(counts, kind, loading, pages, records);
+    double hit = 1 + (double)spread(counts, slots) / records;
+    long read = 0;
+    for (uint64_t i = 0; i < SEARCHES; i++) {
+        uint64_t key = random_at(loading, MISS_KEYS, SEARCHES * (uint64_t)pages + i);
+        read += counted_search(counts, slots, home_of(key, kind, pages));
+    }
+    double miss = (double)read / SEARCHES;
+    return (Cost){hit, miss, miss};
+}

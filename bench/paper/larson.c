@@ -1,0 +1,49 @@
+// Larson's figures: pages read (his disk accesses) in successful and unsuccessful searches, averages over a full expansion. They are facts of his paper (ACM Transactions on Database Systems 10, 1, 1985), Tables I and II; his report CS-83-38 prints the same numbers.
+#include <stddef.h>
+#include "paper.h"
+
+// Table, then pages a group, sweeps and load in tenths, then records a page. Both tables tell of page 20, n0 2, load 0.8 and five sweeps: the one says 1.59, the other 1.60.
+static const Larson figures[] = {
+    {1, {2, 1, 8}, 20, 1.48, 9.66},
+    {1, {2, 2, 8}, 20, 1.07, 1.92},
+    {1, {2, 3, 8}, 20, 1.06, 1.65},
+    {1, {2, 4, 8}, 20, 1.06, 1.59},
+    {1, {2, 5, 8}, 20, 1.06, 1.59},
+    {1, {2, 6, 8}, 20, 1.06, 1.61},
+    {1, {2, 8, 8}, 20, 1.07, 1.66},
+    {1, {2, 10, 8}, 20, 1.07, 1.70},
+
+    {2, {2, 5, 7}, 10, 1.06, 1.40},
+    {2, {2, 5, 7}, 20, 1.02, 1.17},
+    {2, {2, 5, 7}, 40, 1.01, 1.07},
+    {2, {2, 5, 8}, 10, 1.14, 2.22},
+    {2, {2, 5, 8}, 20, 1.06, 1.60},
+    {2, {2, 5, 8}, 40, 1.03, 1.32},
+    {2, {2, 5, 9}, 10, 1.51, 9.93},
+    {2, {2, 5, 9}, 20, 1.25, 5.49},
+    {2, {2, 5, 9}, 40, 1.13, 3.42},
+
+    {2, {3, 5, 7}, 10, 1.05, 1.36},
+    {2, {3, 5, 7}, 20, 1.01, 1.13},
+    {2, {3, 5, 7}, 40, 1.00, 1.03},
+    {2, {3, 5, 8}, 10, 1.12, 2.10},
+    {2, {3, 5, 8}, 20, 1.05, 1.49},
+    {2, {3, 5, 8}, 40, 1.02, 1.22},
+    {2, {3, 5, 9}, 10, 1.40, 6.81},
+    {2, {3, 5, 9}, 20, 1.18, 3.85},
+    {2, {3, 5, 9}, 40, 1.08, 2.38},
+};
+
+bool same_kind(Kind a, Kind b) {
+    return a.n0 == b.n0 && a.sweeps == b.sweeps && a.tenths == b.tenths;
+}
+
+// Nothing where his table has no such cell.
+const Larson *larson(int table, Kind kind, int slots) {
+    for (size_t i = 0; i < sizeof figures / sizeof figures[0]; i++) {
+        const Larson *row = &figures[i];
+        if (row->table == table && row->slots == slots && same_kind(row->kind, kind))
+            return row;
+    }
+    return NULL;
+}

@@ -1,0 +1,121 @@
+// One call made to the proved side and to the plain side, with everything compared afterwards.
+#include <stdio.h>
+#include <stdlib.h>
+#include <string.h>
+#include "agree.h"
+#include "ours.h"
+
+enum { REFUSALS = 10 };
+struct side ours, plain;
+static const char *const names[CALLS] = {"format", "find", "put", "remove", "grow", "check", "due"};
+static unsigned long seen[CALLS][REFUSALS];
+
+// The refusals of the scope's table, by call, as bits; for due its two answers.
+static const unsigned expected[CALLS] = {
+    1 << 0 | 1 << 1 | 1 << 2,
+    1 << 0 | 1 << 1 | 1 << 2 | 1 << 4 | 1 << 5,
+    1 << 0 | 1 << 1 | 1 << 2 | 1 << 4 | 1 << 6 | 1 << 7 | 1 << 9,
+    1 << 0 | 1 << 1 | 1 << 2 | 1 << 4 | 1 << 5 | 1 << 9,
+    1 << 0 | 1 << 1 | 1 << 2 | 1 << 3 | 1 << 4 | 1 << 7 | 1 << 8 | 1 << 9,
+    1 << 0 | 1 << 1 | 1 << 2 | 1 << 4 | 1 << 9,
+    1 << 0 | 1 << 1,
+};
+
+static void differ(enum call call, const char *what, unsigned long left, unsigned long right)
+{
+    const struct slip *at = &plain.slip;
+    fprintf(stderr, "%s: %s: ours %lu, plain %lu; the plain slip says n0 %u N %u s %u P %u cap %u r %u\n", names[call], what, left, right,
+            at->n0, at->groups, at->sweeps, at->pages, at->cap, at->records);
+    exit(1);
+}
+
+static void compare_bytes(enum call call, const char *what, const void *left, const void *right, size_t bytes)
+{
+    const uint8_t *l = left, *r = right;
+    size_t at = 0;
+    if (!memcmp(left, right, bytes))
+        return;
+    while (l[at] == r[at])
+        at++;
+    fprintf(stderr, "byte %lu of ", (unsigned long)at);
+    differ(call, what, l[at], r[at]);
+}
+
+static uint32_t ask_ours(enum call call, const struct asked *ask, struct slip *slip, size_t length)
+{
+    switch (call) {
+    case FORMAT: return reefcushion_format(slip, length, ours.area, ask->bytes, ask->n0, ask->groups, ask->sweeps, ask->cap);
+    case FIND: return reefcushion_find(slip, length, ours.area, ask->bytes, ask->key);
+    case PUT: return reefcushion_put(slip, length, ours.area, ask->bytes, ask->key, ask->value);
+    case REMOVE: return reefcushion_remove(slip, length, ours.area, ask->bytes, ask->key);
+    case GROW: return reefcushion_grow(slip, length, ours.area, ask->bytes, ours.row, ask->counts);
+    case CHECK: return reefcushion_check(slip, length, ours.area, ask->bytes);
+    default: return reefcushion_due(slip, length);
+    }
+}
+
+static uint32_t ask_plain(enum call call, const struct asked *ask)
+{
+    struct slip *slip = &plain.slip;
+    switch (call) {
+    case FORMAT: return baseline_format(slip, plain.area, ask->bytes, ask->n0, ask->groups, ask->sweeps, ask->cap);
+    case FIND: return baseline_find(slip, plain.area, ask->bytes, ask->key);
+    case PUT: return baseline_put(slip, plain.area, ask->bytes, ask->key, ask->value);
+    case REMOVE: return baseline_remove(slip, plain.area, ask->bytes, ask->key);
+    case GROW: return baseline_grow(slip, plain.area, ask->bytes, plain.row, ask->counts);
+    case CHECK: return baseline_check(slip, plain.area, ask->bytes);
+    default: return baseline_due(slip);
+    }
+}
+
+// A page beyond the file is compared too, since nothing may be written there.
+static void compare_sides(enum call call, uint32_t left, uint32_t right, size_t bytes)
+{
+    size_t pages = bytes / PAGE < MOST ? bytes / PAGE + 1 : MOST + 1;
+    if (left != right)
+        differ(call, "the result", left, right);
+    compare_bytes(call, "the slip", &ours.slip, &plain.slip, sizeof plain.slip);
+    compare_bytes(call, "the area", ours.area, plain.area, PAGE * pages);
+    compare_bytes(call, "the row", ours.row, plain.row, sizeof plain.row);
+}
+
+uint32_t ask(enum call call, const struct asked *asked)
+{
+    uint32_t left = ask_ours(call, asked, &ours.slip, sizeof ours.slip), right = ask_plain(call, asked);
+    compare_sides(call, left, right, asked->bytes);
+    if (right >= REFUSALS)
+        differ(call, "a refusal that no call gives", left, right);
+    seen[call][right]++;
+    return right;
+}
+
+void ask_with_wrong_slip(const struct asked *asked)
+{
+    for (int call = 0; call < CALLS; call++) {
+        size_t length = call % 2 ? sizeof ours.slip - 1 : sizeof ours.slip + 1;
+        struct { struct slip slip; uint8_t more; } longer = {.slip = plain.slip};
+        uint32_t result = ask_ours(call, asked, &longer.slip, length);
+        if (result != (call == DUE ? 0 : 100))
+            differ(call, "the result for a slip of another length", result, 100);
+        compare_bytes(call, "a slip of another length", &longer.slip, &plain.slip, sizeof plain.slip);
+        compare_sides(call, 0, 0, asked->bytes);
+    }
+}
+
+bool tell_what_was_seen(void)
+{
+    bool all = true;
+    for (int call = 0; call < CALLS; call++) {
+        printf("%-7s", names[call]);
+        for (int refusal = 0; refusal < REFUSALS; refusal++) {
+            bool due = expected[call] >> refusal & 1;
+            if (seen[call][refusal] || due)
+                printf("  %d: %lu", refusal, seen[call][refusal]);
+            all &= due == (seen[call][refusal] > 0);
+        }
+        puts("");
+    }
+    if (!all)
+        puts("not every refusal of the table was seen, or one that isn't in it");
+    return all;
+}

@@ -1,7 +1,7 @@
 -- What a page in memory holds, and how that changes with a record more or a record less.
-use mathlib.Core.Path.{_≡_, refl, ap, _∙_}
+use mathlib.Core.Path.{_≡_, ap, _∙_}
 use mathlib.Core.List.{List, [], _∷_, _++_, map}
-use Prim.Native.Nat.{ℕ, zero, suc, _+_, _-_, _≤_, _<_, min}
+use Prim.Native.Nat.{ℕ, _+_, _-_, _≤_, _<_, min}
 use native.Mathlib.Omega.{arith}
 use lib.ListN.{length, take, drop, getD, replicate, length-map, List·getD-eq-default}
 use lib.Seq.{take-all, take-at, getD-at}
@@ -9,7 +9,7 @@ use Rattle.pages.specs.Page.{Record, key, value, padded, inMemory}
 use Rattle.pages.specs.Slots.{opened, closed, recordsOf, pushed}
 use Rattle.pages.specs.declared.Page.{Page}
 use Rattle.pages.specs.declared.Pushed.{Pushed}
-use Rattle.pages.proofs.Rows.{opened-length, opened-count, closed-length, opened-after, map-take, map-opened, map-closed, padded-opened, padded-closed}
+use Rattle.pages.proofs.Rows.{row-at, opened-length, opened-count, closed-length, opened-after, map-take, map-opened, map-closed, padded-opened, padded-closed}
 
 -- a count and two rows hold these records
 abbrev pub Held : ℕ → List ℕ → List ℕ → List Record → Type 0
@@ -38,12 +38,6 @@ row-closed : (f : Record → ℕ) (at : ℕ) (rs : List Record) → length rs �
 row-closed f at rs n h =
     let m : length (map f rs) ≡ length rs = length-map rs f in
     rw map-closed (padded-closed at (map f rs) (omega arith) (omega arith))
-
--- what stands in a row at a record's place
-row-at : (f : Record → ℕ) (rs : List Record) (zs : List ℕ) (k : ℕ) (d : Record) → k < length rs → getD (map f rs ++ zs) k 0 ≡ f (getD rs k d)
-row-at f [] zs k d h = absurd (omega arith)
-row-at f (x ∷ rs) zs zero d h = refl
-row-at f (x ∷ rs) zs (suc k) d h = row-at f rs zs k d (omega arith)
 
 -- a page that took a record, and the record that it does not hold
 given-back : (at : ℕ) (x : Record) (rs : List Record) (q : Page) (y : Record)

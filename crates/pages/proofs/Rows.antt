@@ -11,6 +11,12 @@ use Rattle.pages.specs.Page.{padded}
 use Rattle.pages.specs.Slots.{opened, closed}
 
 module _ {A : Type 0} where
+  -- a number of an element stands in the row of these numbers at the element's place
+  pub row-at : (f : A → ℕ) (s : List A) (zs : List ℕ) (k : ℕ) (d : A) → k < length s → getD (map f s ++ zs) k 0 ≡ f (getD s k d)
+  row-at f [] zs k d h = absurd (omega arith)
+  row-at f (x ∷ s) zs zero d h = refl
+  row-at f (x ∷ s) zs (suc k) d h = row-at f s zs k d (omega arith)
+
   -- a row opened has one element more
   pub opened-length : (at : ℕ) (x : A) (s : List A) → length (opened at x s) ≡ suc (length s)
   unfolding opened

@@ -1,7 +1,7 @@
 -- Places among records in order: how many stand before a rank, from the front or from the back.
 use mathlib.Core.Path.{_≡_, refl, sym, ap, _∙_}
 use mathlib.Core.Bool.{Bool, true, false, cond, _&&_, _||_}
-use mathlib.Core.List.{List, [], _∷_, _++_, map}
+use mathlib.Core.List.{List, [], _∷_, map}
 use Prim.Native.Nat.{ℕ, zero, suc, _+_, _-_, _^_, _≤_, _<_}
 use native.Mathlib.Nat.{add-zero, zero-add}
 use native.Mathlib.Numerals.{add-one}
@@ -13,6 +13,7 @@ use Rattle.pages.specs.declared.Page.{Page}
 use Rattle.pages.specs.Page.{Record, key, homeFor, rank, padded}
 use Rattle.placing.specs.Lay.{ranked}
 use Rattle.pages.specs.Slots.{ahead, upToBack, aheadIn, paired, recordsOf}
+use Rattle.pages.proofs.Rows.{row-at}
 
 -- the order of (home, key) is that of the ranks
 pub before-ranked : (h k h2 k2 : ℕ) → k < 2 ^ 64 → k2 < 2 ^ 64 → (ltb h h2 || (eqb h h2 && ltb k k2)) ≡ ltb (ranked h k) (ranked h2 k2)
@@ -98,17 +99,11 @@ paired-key zero ks vs j h = absurd (omega arith)
 paired-key (suc n) ks vs zero h = refl
 paired-key (suc n) ks vs (suc j) h = paired-key n (drop 1 ks) (drop 1 vs) j (omega arith) ∙ getD-tail ks j
 
--- a record's number stands in its row at the record's place
-getD-row : (g : Record → ℕ) (rs : List Record) (zs : List ℕ) (j : ℕ) → j < length rs → getD (map g rs ++ zs) j 0 ≡ g (getD rs j (0, 0))
-getD-row g [] zs j h = absurd (omega arith)
-getD-row g (x ∷ rs) zs zero h = refl
-getD-row g (x ∷ rs) zs (suc j) h = getD-row g rs zs j (omega arith)
-
--- so does its home in a row of homes, which is the home of the key at that place
+-- in a row of homes stands the home of the key at that place
 pub homes-key : (h : ℕ → ℕ) (n : ℕ) (ks vs hs : List ℕ) → hs ≡ padded (map (homeFor h) (paired n ks vs)) → (j : ℕ) → j < n
     → getD hs j 0 ≡ h (getD ks j 0)
 homes-key h n ks vs hs e j l =
-    rw (e, getD-row (homeFor h) (paired n ks vs) _ j (omega (arith, paired-length n ks vs)), paired-key n ks vs j l)
+    rw (e, row-at (homeFor h) (paired n ks vs) _ j (0, 0) (omega (arith, paired-length n ks vs)), paired-key n ks vs j l)
 
 module _ (h : ℕ → ℕ) (r : ℕ) where
   -- on a judged page its rows give the records ahead of r
@@ -118,7 +113,7 @@ module _ (h : ℕ → ℕ) (r : ℕ) where
       let ks : List ℕ = padded (map key rs) in
       sym (rows-passed (length rs) 0 hs ks r)
       ∙ passed-ahead (rank h) (rowRank hs ks) r (0, 0) 0 rs
-      (λ j l. rw (zero-add, getD-row (λ x. h (key x)) rs _ j l, getD-row key rs _ j l))
+      (λ j l. rw (zero-add, row-at (λ x. h (key x)) rs _ j (0, 0) l, row-at key rs _ j (0, 0) l))
       ∙ zero-add (ahead (rank h) r rs)
 
   -- the test of a key whose home was worked out

@@ -1,6 +1,9 @@
 pub mod New
+pub mod Round
 pub mod Steps
 pub mod Forty
 pub mod Homes
 pub mod Turn
 pub mod Last
+pub mod Rowed
+pub mod Together

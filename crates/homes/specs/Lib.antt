@@ -1,3 +1,4 @@
 pub mod Homes
 pub mod Stages
 pub mod Last
+pub mod Lanes

@@ -1,4 +1,6 @@
 // Where a key lives: its home page, from the numbers of the file and the key.
+pub mod lanes;
+
 ghost use mathlib.Core.Path.{_≡_};
 ghost use Prim.Native.Nat.{_*_, _%_, _≤_, _<_, min};
 ghost use Rattle.homes.specs.Homes.{InRange, Ready, shapeOf, homeIn, newPage, moved};

@@ -8,7 +8,7 @@ use native.Mathlib.Numerals.{add-one}
 use native.Mathlib.Omega.{arith}
 use borrow.Author.Tests.{ne-eqb}
 use lib.Dec.{eqb, ltb, leb}
-use lib.ListN.{length, drop, getD, set, replicate, length-map, drop-of-length-le}
+use lib.ListN.{length, drop, getD, set, replicate, length-append, length-replicate, length-map, drop-of-length-le}
 use lib.Seq.{sets, drop-cons}
 use Rattle.pages.specs.declared.Page.{Page}
 use Rattle.pages.specs.declared.Judged.{Judged}
@@ -16,6 +16,7 @@ use Rattle.pages.specs.Page.{Record, key, rank, homesTo, rises, wellForm
 use Rattle.placing.specs.Lay.{ranked}
 use Rattle.pages.specs.Slots.{recordsOf}
 use Rattle.pages.proofs.Memory.{memory}
+use Rattle.pages.proofs.Held.{Held, held}
 use Rattle.pages.proofs.Read.{row-starts}
 use Rattle.pages.proofs.Seeking.{paired-length, paired-key}
 
@@ -47,6 +48,16 @@ module _ (h : ℕ → ℕ) (address : ℕ) where
   keeps-all : (r : ℕ) (rs : List Record) → keeps true r rs ≡ (homesTo h address rs && rises h rs)
   keeps-all r [] = refl
   keeps-all r (x ∷ rs) = rw (keeps-on x rs) (swap (leb (h (key x)) address) true (homesTo h address rs) (rises h (x ∷ rs)))
+
+-- a page in memory has twelve places for keys
+pub keys-long : (p : Page) → p .count ≤ 12 → p ≡ inMemory (recordsOf p) → length (p .keys) ≡ 12
+keys-long p few e =
+    let h : Held (p .count) (p .keys) (p .values) (recordsOf p) = held p e in
+    rw (h .1) (simp (length-append, length-replicate, length-map) (omega (arith, h .0)))
+
+-- in the first n places stand the homes of the keys
+abbrev pub Found : (ℕ → ℕ) → (n : ℕ) → (ks hs : List ℕ) → Type 0
+Found h n ks hs = (i : ℕ) → i < n → getD hs i 0 ≡ h (getD ks i 0)
 
 module _ (h : ℕ → ℕ) (address : ℕ) (p : Page) where
   -- the records

@@ -7,8 +7,8 @@ ghost use mathlib.Core.Path.{_≡_};
 ghost use mathlib.Core.Bool.{cond, _&&_};
 ghost use mathlib.Core.Option.{none, some};
 ghost use mathlib.Core.List.{[]};
-ghost use Prim.Native.Nat.{_+_, _*_, _≤_, _<_};
-ghost use lib.ListN.{length};
+ghost use Prim.Native.Nat.{ℕ, _+_, _*_, _≤_, _<_};
+ghost use lib.ListN.{length, getD};
 ghost use lib.Dec.{ltb};
 ghost use Rattle.numbers.specs.Fields.{encode, matches};
 ghost use Rattle.numbers.specs.Little.{numberAt, written};
@@ -151,6 +151,18 @@ fn well_formed(part: &[u8], address: u32) -> bool
     slots_formed(part, count)
 }
 
+// The homes of a page's records, worked out together. A page without records has none.
+fn homes_of(page: Page, shape: Shape) -> [u64; 12]
+    requires { ⌜ (page .count ≤ 12) × (length (page .keys) ≡ 12) × Ready shape ⌝ }
+    ensures { λ r. ⌜ ((i : ℕ) → i < page .count → getD r i 0 ≡ homeIn shape (getD (page .keys) i 0)) ⌝ }
+{
+    let keys = page.keys;
+    if page.count == 0 {
+        return [0; 12];
+    }
+    homes::lanes::homes(shape, keys)
+}
+
 // The rules about homes and order. A home is worked out once, and kept.
 fn judge_records(page: Page, address: u64, shape: Shape) -> Judged
     requires { ⌜ (page .count ≤ 12) × (page ≡ inMemory (recordsOf page)) × Ready shape ⌝ }
@@ -158,13 +170,14 @@ fn judge_records(page: Page, address: u64, shape: Shape) -> Judged
 {
     let count = page.count;
     let keys = page.keys;
+    let found = homes_of(page, shape);
     let mut homes = [0; 12];
     let mut last_home = 0;
     let mut last_key = 0;
     let mut i = 0;
     while i < count {
         let key = keys[i];
-        let home = shape.home(key);
+        let home = found[i];
         let low = home <= address;
         let next = (i == 0) | before(last_home, last_key, home, key);
         if !(low & next) {

@@ -1,0 +1,39 @@
+-- A row of twelve numbers that a loop fills: the places passed hold what they are to hold.
+--
+use mathlib.Core.Path.{_≡_, _∙_}
+use mathlib.Core.List.{List}
+use mathlib.Core.Logic.{⊎-elim}
+use Prim.Native.Nat.{ℕ, _+_, _≤_, _<_}
+use native.Mathlib.Omega.{arith}
+use lib.ListN.{length, getD, set, length-set}
+use lib.Seq.{getD-set-same, getD-set-other}
+use Rattle.homes.specs.Lanes.{Lane}
+use Rattle.homes.proofs.New.{split}
+
+-- the first i places of the row are those that `new` says
+pub record Passed (new : ℕ → ℕ) (row : List ℕ) (i : ℕ) : Type 0 where
+  pub long : length row ≡ 12
+  pub done : (j : ℕ) → j < i → getD row j 0 ≡ new j
+
+-- It holds at the start.
+pub none : (new : ℕ → ℕ) (row : List ℕ) → length row ≡ 12 → Passed new row 0
+none new row e = record { long = e; done = λ j h. absurd (omega arith) }
+
+-- A turn keeps it.
+pub one : (new : ℕ → ℕ) (row : List ℕ) (i v : ℕ) → Passed new row i → i < 12 → v ≡ new i → Passed new (set row i v) (i + 1)
+one new row i v p h e =
+    record {
+      long = length-set row i v ∙ p .long;
+      done = λ j l. ⊎-elim (λ b. getD-set-other row i j v 0 (λ q. omega arith) ∙ p .done j b) (λ a. at j (omega arith)) (split j i);
+    }
+  where
+    at : (j : ℕ) → j ≡ i → getD (set row i v) j 0 ≡ new j
+    at j q = rw q (getD-set-same row i v 0 (omega (arith, p .long)) ∙ e)
+
+-- At the end all places are passed.
+pub over : {new : ℕ → ℕ} {row : List ℕ} {i : ℕ} → Passed new row i → 12 ≤ i → (j : ℕ) → j < 12 → getD row j 0 ≡ new j
+over p e j h = p .done j (omega arith)
+
+-- Two lanes are the same where their numbers are.
+pub same : {a b : Lane} → a .draw ≡ b .draw → a .turn ≡ b .turn → a .group ≡ b .group → a ≡ b
+same p q r = λ i. record { draw = p i; turn = q i; group = r i }

@@ -1,0 +1,126 @@
+-- `homes::lanes::homes` meets its contract. The loop's invariant is `Going`, for each lane and whichever key it started for.
+-- The measure is what is left to the size p.
+use mathlib.Core.Path.{_≡_, sym, ap, _∙_}
+use Prim.Native.Nat.{ℕ, _-_, _<_}
+use native.Mathlib.Omega.{arith}
+use borrow.Author.Needs.{needs}
+use lib.ListN.{length, getD}
+use Rattle.homes.specs.declared.Stage.{Stage}
+use Rattle.homes.specs.Homes.{home, homeIn}
+use Rattle.homes.specs.Lanes.{laneOf, startsAt}
+use Rattle.homes.proofs.Steps.{grows}
+use Rattle.homes.proofs.Together.{Going, begins, fitting, goes-on, doubles, arrived, mapped}
+use Rattle.homes.proofs.lanes.homes.Statement.{statement}
+use Rattle.homes.proofs.lanes.homes.Tie as tie
+
+abbrev Inv-loop : tie.InvT-loop
+Inv-loop n0 s p stage₀ lanes₀ stage lanes =
+    (i K : ℕ) → i < 12 → laneOf lanes₀ i ≡ startsAt (stage₀ .f) (stage₀ .g) K → Going n0 (stage₀ .g) s p K stage (laneOf lanes i)
+
+abbrev μ-loop : tie.MeasureT-loop
+μ-loop n0 s p stage₀ lanes₀ stage lanes = p - stage .f
+
+-- a lane, on the way of its key
+way : (c : tie.At-loop Inv-loop μ-loop) (i : ℕ) → i < 12
+    → Going (c .before .before .before .args .shape .n0) (c .before .before .first .result .g) (c .before .before .before .args .shape .s) (c .before .before .before .args .shape .p) (getD (c .before .before .before .args .keys) i 0) (c .loop .stage) (laneOf (c .loop .lanes) i)
+way c i h = c .loop .inv i (getD (c .before .before .before .args .keys) i 0) h (c .before .start .ensures i h)
+
+first-requires : tie.Need-first-requires Inv-loop μ-loop
+first-requires c κs = search needs
+
+start-requires : tie.Need-start-requires Inv-loop μ-loop
+start-requires c κs =
+    let first = c .first .ensures in
+    let size = ap (λ (t : Stage). t .f) (first .0) in
+    (first .1 .0, first .1 .1, omega (arith, size, c .before .pre .P-low, c .before .pre .P-high))
+
+loop-holds : tie.Need-loop-holds Inv-loop μ-loop
+loop-holds c i K h e =
+    let first = c .before .first .ensures in
+    begins _ _ _ _ K _ _ (c .before .before .pre) (first .0) (first .1) e
+
+step-all-requires : tie.Need-step-all-requires Inv-loop μ-loop
+step-all-requires c κs =
+    let at = c .before .before in
+    let ranges = at .before .before .before .pre in
+    let sound = way at 0 (omega arith) .before .sound in
+    ((ranges .s-low, ranges .s-high, sound .0, sound .1, c .if1 .taken), (ranges .P-high, omega (arith, sound .2, ranges .n0-high), λ i h. way at i h .fits))
+
+next-requires : tie.Need-next-requires Inv-loop μ-loop
+next-requires c κs =
+    let at = c .before .before .before in
+    let ranges = at .before .before .before .pre in
+    (way at 0 (omega arith) .before .sound, ranges .n0-high, omega (arith, c .before .if1 .taken, ranges .P-high))
+
+regroup-requires : tie.Need-regroup-requires Inv-loop μ-loop
+regroup-requires c κs =
+    let step = c .before .before .before .before in
+    let at = step .before .before .before in
+    let ranges = at .before .before .before .pre in
+    let sound = way at 0 (omega arith) .before .sound in
+    (omega (arith, sound .1, step .before .if1 .taken, ranges .P-high), λ i h. fitting _ _ _ _ _ _ _ _ _ ranges (way at i h) (step .step-all .ensures i h))
+
+-- a step adds a page at least
+more : (c : tie.After-next Inv-loop μ-loop) → c .before .before .before .before .loop .stage .f < c .next .result .f
+more c =
+    let b = way (c .before .before .before .before) 0 (omega arith) .before in
+    omega (arith, grows _ (b .i) _ _ (b .np-is) (c .next .ensures .0), b .sound .0)
+
+loop-less : tie.Need-loop-less Inv-loop μ-loop
+loop-less c =
+    let next = c .before .before .before .before in
+    omega (arith, more next, next .before .before .if1 .taken)
+
+loop-again : tie.Need-loop-again Inv-loop μ-loop
+loop-again c i K h e =
+    let next = c .before .before .before .before in
+    let at = next .before .before .before .before in
+    doubles _ _ _ _ _ K (at .before .before .before .pre) _ _ _ (at .loop .inv i K h e) (next .before .before .if1 .taken) (next .next .ensures .0) (next .next .ensures .1) _ _ (next .before .step-all .ensures i h) (c .regroup .ensures i h) (c .before .if2 .taken)
+
+loop-less-2 : tie.Need-loop-less-2 Inv-loop μ-loop
+loop-less-2 c =
+    let next = c .before .before .before in
+    omega (arith, more next, next .before .before .if1 .taken)
+
+loop-again-2 : tie.Need-loop-again-2 Inv-loop μ-loop
+loop-again-2 c i K h e =
+    let next = c .before .before .before in
+    let at = next .before .before .before .before in
+    goes-on _ _ _ _ _ K (at .before .before .before .pre) _ _ _ (at .loop .inv i K h e) (next .before .before .if1 .taken) (next .next .ensures .0) (next .next .ensures .1) _ (next .before .step-all .ensures i h) (c .if2 .left)
+
+pages-of-requires : tie.Need-pages-of-requires Inv-loop μ-loop
+pages-of-requires c κs =
+    let at = c .before .before in
+    let one = way at 0 (omega arith) in
+    (omega (arith, one .small, one .before .sound), λ i h. way at i h .fits)
+
+returns : tie.Need-returns Inv-loop μ-loop
+returns c =
+    let at = c .before .before .before in
+    let first = at .before .before in
+    let shape = first .before .args .shape in
+    let keys = first .before .args .keys in
+    let long : length (first .before .args .keys) ≡ 12 = search needs in
+    let pages = c .pages-of .ensures in
+    let groups : (K : ℕ) → home (shape .n0) (first .first .result .g) (shape .s) (shape .p) K ≡ homeIn shape K = λ K. ap (λ (t : Stage). home (shape .n0) (t .g) (shape .s) (shape .p) K) (first .first .ensures .0) in
+    let each : (i : ℕ) → i < 12 → getD (c .pages-of .result) i 0 ≡ homeIn shape (getD keys i 0) = λ i h. pages .0 i h ∙ arrived _ _ _ _ _ _ _ (way at i h) (c .before .if1 .left) ∙ groups (getD keys i 0) in
+    mapped (homeIn shape) (c .pages-of .result) keys (pages .1 ∙ sym long) (λ i h. each i (omega (arith, pages .1)))
+
+pub homes-spec : {M : Type 1} → statement M
+homes-spec =
+    tie.close
+    (tie.spec
+    Inv-loop
+    μ-loop
+    first-requires
+    start-requires
+    loop-holds
+    step-all-requires
+    next-requires
+    regroup-requires
+    loop-less
+    loop-again
+    loop-less-2
+    loop-again-2
+    pages-of-requires
+    returns)

@@ -1,5 +1,5 @@
 -- What format, check and grow come to, on each way out of their gates.
-use mathlib.Core.Path.{_≡_, refl, sym}
+use mathlib.Core.Path.{_≡_, refl, sym, _∙_}
 use mathlib.Core.Bool.{Bool, true, false}
 use mathlib.Core.List.{List, []}
 use Prim.Native.Nat.{ℕ, _*_, _≤_, _<_}
@@ -14,7 +14,8 @@ use Rattle.state.specs.State.{inRange, fresh}
 use Rattle.state.proofs.Ranges.{Ranged, ranged}
 use Rattle.register.specs.declared.Gate.{Gate}
 use Rattle.register.specs.declared.Gate.the-variants.{Open, Shut}
-use Rattle.register.specs.Gates.{gateOf, imageGate, growGate}
+use Rattle.register.specs.Gates.{gateOf, imageGate, growEntry, growGate}
+use Rattle.register.specs.Past.{grewEntered}
 use Rattle.register.specs.Calls.{done, Outcome, formatted, checked, Growth, grownFile, grew}
 use Rattle.register.proofs.Gating.{range-shut}
 
@@ -25,6 +26,10 @@ Comes d area o = (d ≡ o .done) × (area ≡ o .area)
 -- the same of a growth, with the row
 abbrev pub Grows : Done → List ℕ → List ℕ → Growth → Type 0
 Grows d area row o = (d ≡ o .done) × ((area ≡ o .area) × (row ≡ o .row))
+
+-- and the same row by another name
+pub with-row : {d : Done} {area row : List ℕ} {o : Growth} (other : List ℕ) → other ≡ row → Grows d area row o → Grows d area other o
+with-row other e k = (k .0, (k .1 .0, e ∙ k .1 .1))
 
 -- more pages than 16 bits count are out of range
 wide-range : (n0 N s cap : ℕ) → 65535 < n0 * N → cap < 65536 → inRange (fresh n0 N s cap) ≡ false
@@ -66,9 +71,18 @@ module _ (s : State) (area : List ℕ) (g : Gate) (gate : g ≡ gateOf s (length
     pub check-yes : i ≡ Open → done s (Accepted 0 (s .cap) 0) ≡ checked s area
     check-yes k = rw (← gate, e, ← image, k)
 
-module _ (s : State) (area row : List ℕ) (g : Gate) (gate : g ≡ growGate s area (length row)) where
+module _ (s : State) (area row : List ℕ) (g : Gate) (gate : g ≡ growEntry s (length area) (length row)) where
   pub grew-shut : (why : Answer) → g ≡ Shut why → Grows (done s why) area row (grew s area row)
+  unfolding growGate
   grew-shut why e = rw (← gate, e) (refl, (refl, refl))
 
-  pub grew-open : g ≡ Open → (d : Done) (new filled : List ℕ) → Grows d new filled (grownFile s area) → Grows d new filled (grew s area row)
+  pub grew-open : g ≡ Open → (d : Done) (new filled : List ℕ) → Grows d new filled (grewEntered s area row) → Grows d new filled (grew s area row)
+  unfolding growGate
   grew-open e d new filled k = rw (← gate, e) k
+
+module _ (s : State) (area row : List ℕ) (g : Gate) (gate : g ≡ imageGate s area) where
+  pub entered-shut : (why : Answer) → g ≡ Shut why → Grows (done s why) area row (grewEntered s area row)
+  entered-shut why e = rw (← gate, e) (refl, (refl, refl))
+
+  pub entered-open : g ≡ Open → (d : Done) (new filled : List ℕ) → Grows d new filled (grownFile s area) → Grows d new filled (grewEntered s area row)
+  entered-open e d new filled k = rw (← gate, e) k

@@ -13,8 +13,8 @@ use Rattle.state.specs.State.{inRange}
 use Rattle.state.proofs.Ranges.{Ranged, ranged}
 use Rattle.register.specs.declared.Gate.{Gate}
 use Rattle.register.specs.declared.Gate.the-variants.{Open, Shut}
-use Rattle.register.specs.Gates.{gateOf, imageGate, growGate}
-use Rattle.register.specs.Past.{OpenFor, OpenToGrow}
+use Rattle.register.specs.Gates.{gateOf, imageGate, growEntry, growGate}
+use Rattle.register.specs.Past.{OpenFor, EnteredToGrow}
 
 module _ (s : State) (n : ℕ) where
   -- a number out of range
@@ -36,36 +36,42 @@ module _ (s : State) (n : ℕ) where
 pub past : (s : State) (n : ℕ) (g : Gate) → OpenFor s n g → g ≡ Open → (inRange s ≡ true) × (n ≡ 256 * s .cap)
 past s n g k e = rw e at k
 
-module _ (s : State) (area : List ℕ) (n : ℕ) (g : Gate) (gate : g ≡ gateOf s (length area)) where
-  -- a growth refuses as every call does
-  pub grow-shut : (why : Answer) → g ≡ Shut why → Shut why ≡ growGate s area n
-  unfolding growGate
-  grow-shut why e = rw (← gate, e)
+-- what a growth refuses before it looks at a page, with an area of m bytes and a row of n counts
+module _ (s : State) (m n : ℕ) (g : Gate) (gate : g ≡ gateOf s m) where
+  -- as every call does
+  pub entry-shut : (why : Answer) → g ≡ Shut why → Shut why ≡ growEntry s m n
+  entry-shut why e = rw (← gate, e)
 
   module _ (e : g ≡ Open) where
     -- a row of another length
-    pub row-shut : (n ≡ s .cap → ⊥) → Shut WrongRow ≡ growGate s area n
-    unfolding growGate
-    row-shut f = rw (← gate, e, ne-eqb n (s .cap) f)
+    pub entry-row : (n ≡ s .cap → ⊥) → Shut WrongRow ≡ growEntry s m n
+    entry-row f = rw (← gate, e, ne-eqb n (s .cap) f)
 
     -- no page to grow to
-    pub cap-shut : n ≡ s .cap → s .p ≡ s .cap → Shut AtCap ≡ growGate s area n
-    unfolding growGate
-    cap-shut f m = rw (← gate, e, eq-eqb n (s .cap) f, eq-eqb (s .p) (s .cap) m)
+    pub entry-cap : n ≡ s .cap → s .p ≡ s .cap → Shut AtCap ≡ growEntry s m n
+    entry-cap f k = rw (← gate, e, eq-eqb n (s .cap) f, eq-eqb (s .p) (s .cap) k)
 
-    -- else the pages decide
-    pub pages-decide : (i : Gate) → i ≡ imageGate s area → n ≡ s .cap → (s .p ≡ s .cap → ⊥) → i ≡ growGate s area n
-    unfolding growGate
-    pages-decide i k f m = rw (k, ← gate, e, eq-eqb n (s .cap) f, ne-eqb (s .p) (s .cap) m)
+    pub entry-open : n ≡ s .cap → (s .p ≡ s .cap → ⊥) → Open ≡ growEntry s m n
+    entry-open f k = rw (← gate, e, eq-eqb n (s .cap) f, ne-eqb (s .p) (s .cap) k)
 
--- what is known past the gate of a growth
-pub past-grow : (s : State) (area : List ℕ) (n : ℕ) (i : Gate) → i ≡ imageGate s area → inRange s ≡ true → length area ≡ 256 * s .cap → n ≡ s .cap
-    → (s .p ≡ s .cap → ⊥) → OpenToGrow s area n i
-past-grow s area n (Shut why) k r l f m = tt
-past-grow s area n Open k r l f m =
-    let w : Ranged s = ranged s r in
-    (r, l, f, omega arith, cc)
+-- what is known past them
+pub past-entry : (s : State) (m n : ℕ) → inRange s ≡ true → m ≡ 256 * s .cap → n ≡ s .cap → (s .p ≡ s .cap → ⊥) → EnteredToGrow s m n Open
+past-entry s m n r l f k = let w : Ranged s = ranged s r in (r, l, f, omega arith)
 
--- and is known where it was found open
-pub past-open : (s : State) (area : List ℕ) (n : ℕ) (g : Gate) → OpenToGrow s area n g → g ≡ Open → OpenToGrow s area n Open
-past-open s area n g k e = rw e at k
+-- and is known where they were found open
+pub past-open : (s : State) (m n : ℕ) (g : Gate) → EnteredToGrow s m n g → g ≡ Open → EnteredToGrow s m n Open
+past-open s m n g k e = rw e at k
+
+-- after them the pages decide
+module _ (s : State) (area : List ℕ) (n : ℕ) (g : Gate) (gate : g ≡ gateOf s (length area)) (e : g ≡ Open) where
+  pub row-shut : (n ≡ s .cap → ⊥) → Shut WrongRow ≡ growGate s area n
+  unfolding growGate
+  row-shut f = rw (← entry-row s (length area) n g gate e f)
+
+  pub cap-shut : n ≡ s .cap → s .p ≡ s .cap → Shut AtCap ≡ growGate s area n
+  unfolding growGate
+  cap-shut f m = rw (← entry-cap s (length area) n g gate e f m)
+
+  pub pages-decide : (i : Gate) → i ≡ imageGate s area → n ≡ s .cap → (s .p ≡ s .cap → ⊥) → i ≡ growGate s area n
+  unfolding growGate
+  pages-decide i k f m = rw (k, ← entry-open s (length area) n g gate e f m)

@@ -30,6 +30,7 @@ use Rattle.state.specs.State.{inRange, homes, grown}
 use Rattle.state.proofs.Ranges.{Ranged, ranged, in-shape, grown-range}
 use Rattle.register.specs.declared.Gate.the-variants.{Open}
 use Rattle.register.specs.Gates.{imageGate}
+use Rattle.register.specs.Past.{grownCounts}
 use Rattle.register.specs.Calls.{done, grownFile}
 use Rattle.register.proofs.Judging.{Sound, open-sound}
 use Rattle.register.proofs.Answers.{Grows}
@@ -46,9 +47,9 @@ all-of : (P : Record → Type 0) → ((x : Record) → P x) → (rs : List Recor
 all-of P f [] = tt
 all-of P f (x ∷ rs) = (f x, all-of P f rs)
 
--- a row of counts is as long as the area has pages
-pub row-few : (h : ℕ → ℕ) (rs : List Record) (cap : ℕ) (row : List ℕ) → cap ≤ 4096 → row ≡ counts (homeFor h) rs cap 0 → length row ≤ 4096
-row-few h rs cap row l e = omega (arith, ap length e, counts-length (homeFor h) rs cap 0)
+-- the counts are as many as the area has pages
+pub counts-many : (s : State) (area row : List ℕ) → row ≡ grownCounts s area → length row ≡ s .cap
+counts-many s area row e = ap length e ∙ counts-length (homeFor (homes (grown s))) (cat (heldFrom area (s .cap) 0) []) (s .cap) 0
 
 -- a file of one page more: its state and its shape
 module _ (s : State) (range : inRange s ≡ true) (low : s .p < s .cap) where
@@ -69,57 +70,63 @@ module _ (s : State) (range : inRange s ≡ true) (low : s .p < s .cap) where
     grown-shape : shape ≡ shapeOf (s .n0) (s .n) (s .s) (s .p + 1)
     grown-shape = rw (of, more)
 
+    -- on a page that stays, a record has its home before exactly where it has it after
+    pub same-page : (last : Stage) → last ≡ lastStep shape → (k a : ℕ) → staysAt shape last a ≡ true → (homes s k ≡ a → homeIn shape k ≡ a) × (homeIn shape k ≡ a → homes s k ≡ a)
+    same-page last is k a on =
+        let at = rw (is, grown-shape) at on in (
+          λ e. rw grown-shape (home-stays (s .n0) (s .n) (s .s) (s .p) k a (in-shape s range) at e),
+          λ e. home-stayed (s .n0) (s .n) (s .s) (s .p) k a _ (in-shape s range) at (rw grown-shape at e),
+        )
+
+    -- so it stays at home there, by the shape of the file as it was
+    pub stays-home : (last : Stage) → last ≡ lastStep shape → (old : Shape) → old ≡ shapeOf (s .n0) (s .n) (s .s) (s .p) → (k a : ℕ) → staysAt shape last a ≡ true
+        → homeIn old k ≡ a → homeIn shape k ≡ a
+    stays-home last is old f k a on e = same-page last is k a on .0 (rw f at e)
+
     -- what is known of the homes on its pages, if they are an image for the file as it was
     pub grown-known : (area : List ℕ) → Bytes area → length area ≡ 256 * s .cap → imageGate s area ≡ Open → (last : Stage) → last ≡ lastStep shape
         → (a : ℕ) → a < s .cap → KnownAt (homeIn shape) (staysAt shape last) area a
     grown-known area b l e last is =
         let k : Sound s area = open-sound s area e in
-        image-known (homes s) (homeIn shape) (staysAt shape last) same area (s .cap) (good-pages (homes s) area b (s .cap) 0 (omega arith) (k .whole)) (k .image)
-      where
-        same : (k a : ℕ) → staysAt shape last a ≡ true → (homes s k ≡ a → homeIn shape k ≡ a) × (homeIn shape k ≡ a → homes s k ≡ a)
-        same k a on =
-            let at = rw (is, grown-shape) at on in (
-              λ e. rw grown-shape (home-stays (s .n0) (s .n) (s .s) (s .p) k a (in-shape s range) at e),
-              λ e. home-stayed (s .n0) (s .n) (s .s) (s .p) k a _ (in-shape s range) at (rw grown-shape at e),
-            )
+        image-known (homes s) (homeIn shape) (staysAt shape last) (same-page last is) area (s .cap) (good-pages (homes s) area b (s .cap) 0 (omega arith) (k .whole)) (k .image)
 
     -- its homes are those of the grown state
-    same-homes : homeIn shape ≡ homes (grown s)
+    pub same-homes : homeIn shape ≡ homes (grown s)
     same-homes = rw (of, more)
 
-    -- and pages of the area
-    homes-low : (rs : List Record) → All (λ x. homeFor (homeIn shape) x < s .cap) rs
-    homes-low rs =
-        all-of (λ x. homeFor (homeIn shape) x < s .cap)
-        (λ x. rw same-homes (omega (arith, home-below (s .n0) (s .n) (s .s) (s .p + 1) (key x) (in-shape (grown s) (grown-range s range low)))))
-        rs
+    -- so its counts are those of the growth
+    pub same-counts : (area row : List ℕ) → row ≡ counts (homeFor (homeIn shape)) (cat (heldFrom area (s .cap) 0) []) (s .cap) 0 → row ≡ grownCounts s area
+    same-counts area row e = rw same-homes at e
 
-    module _ (area row : List ℕ) (filled : row ≡ counts (homeFor (homeIn shape)) (cat (heldFrom area (s .cap) 0) []) (s .cap) 0) (room : Bool) (told : room ≡ eqb (leftOver 12 row 0) 0) where
-      -- the counts tell whether the pages can take all
-      room-taken : room ≡ eqb (taken (homeFor (homeIn shape)) 12 (cat (heldFrom area (s .cap) 0) []) (s .cap)) (length (cat (heldFrom area (s .cap) 0) []))
-      room-taken =
-          let rs : List Record = cat (heldFrom area (s .cap) 0) [] in
-          told ∙ (rw filled (row-room (homeFor (homeIn shape)) 12 rs (s .cap) (homes-low rs)))
+  -- and pages of the area
+  homes-low : (rs : List Record) → All (λ x. homeFor (homes (grown s)) x < s .cap) rs
+  homes-low rs =
+      all-of (λ x. homeFor (homes (grown s)) x < s .cap)
+      (λ x. omega (arith, home-below (s .n0) (s .n) (s .s) (s .p + 1) (key x) (in-shape (grown s) (grown-range s range low))))
+      rs
 
-      -- which a rebuild requires
-      pub takes-all : room ≡ true → taken (homeFor (homeIn shape)) 12 (cat (heldFrom area (s .cap) 0) []) (s .cap) ≡ length (cat (heldFrom area (s .cap) 0) [])
-      takes-all e = eqb-true _ _ (sym room-taken ∙ e)
+  -- the counts tell whether the pages can take all
+  module _ (area row : List ℕ) (filled : row ≡ grownCounts s area) (room : Bool) (told : room ≡ eqb (leftOver 12 row 0) 0) where
+    decided : eqb (taken (homeFor (homes (grown s))) 12 (cat (heldFrom area (s .cap) 0) []) (s .cap)) (length (cat (heldFrom area (s .cap) 0) [])) ≡ room
+    decided =
+        let rs : List Record = cat (heldFrom area (s .cap) 0) [] in
+        sym (told ∙ rw filled (row-room (homeFor (homes (grown s))) 12 rs (s .cap) (homes-low rs)))
 
-      -- both in the words of the grown state
-      decided : eqb (taken (homeFor (homes (grown s))) 12 (cat (heldFrom area (s .cap) 0) []) (s .cap)) (length (cat (heldFrom area (s .cap) 0) [])) ≡ room
-      decided = rw same-homes at (sym room-taken)
+    -- without room the area stays, and the row is filled
+    pub grow-full : room ≡ false → Grows (done s (NoRoom (s .cap))) area row (grownFile s area)
+    unfolding grownFile
+    grow-full e = rw (decided, e) (refl, (refl, filled))
 
-      row-filled : row ≡ counts (homeFor (homes (grown s))) (cat (heldFrom area (s .cap) 0) []) (s .cap) 0
-      row-filled = rw same-homes at filled
+    module _ (yes : room ≡ true) (next : State) (more : next ≡ grown s) (shape : Shape) (of : shape ≡ shapeOf (next .n0) (next .n) (next .s) (next .p)) where
+      -- with room a rebuild may go on
+      pub takes-all : taken (homeFor (homeIn shape)) 12 (cat (heldFrom area (s .cap) 0) []) (s .cap) ≡ length (cat (heldFrom area (s .cap) 0) [])
+      takes-all = rw (same-homes next more shape of) (eqb-true _ _ (decided ∙ yes))
 
-      -- without room the area stays, and the row is filled
-      pub grow-full : room ≡ false → Grows (done s (NoRoom (s .cap))) area row (grownFile s area)
-      unfolding grownFile
-      grow-full e = rw (decided, e) (refl, (refl, row-filled))
-
-      -- with room the file is made anew
-      pub grow-done : room ≡ true → (moved : ℕ) → moved ≡ strayed key (heldFrom area (s .cap) 0) (relaid (homeIn shape) (s .cap) (heldFrom area (s .cap) 0))
+      -- and makes the file anew
+      pub grow-done : (moved : ℕ) → moved ≡ strayed key (heldFrom area (s .cap) 0) (relaid (homeIn shape) (s .cap) (heldFrom area (s .cap) 0))
           → (new : List ℕ) → new ≡ areaFrom 0 (relaid (homeIn shape) (s .cap) (heldFrom area (s .cap) 0))
           → Grows (done next (Accepted 0 (s .cap) moved)) new row (grownFile s area)
       unfolding grownFile
-      grow-done e moved m new n = rw (decided, e, ← same-homes) (rw (more, m), (n, filled))
+      grow-done moved m new n =
+          let h = same-homes next more shape of in
+          rw (decided, yes) (rw (more, m, h), (n ∙ rw h, filled))

@@ -22,6 +22,7 @@ use Rattle.survey.specs.Survey.{lowestBroken, isImage, onBroken, surveyed}
 use Rattle.state.specs.declared.State.{State}
 use Rattle.state.specs.declared.Answer.the-variants.{Broken, NotImage}
 use Rattle.state.specs.State.{homes}
+use Rattle.register.specs.declared.Gate.{Gate}
 use Rattle.register.specs.declared.Gate.the-variants.{Open, Shut}
 use Rattle.register.specs.Gates.{imageOf, imageGate}
 
@@ -45,23 +46,32 @@ sick-below h area cap v a t e = go (lowestBroken 0 (pagesFrom h area cap 0)) ref
         let w : b ≡ a = cc in
         omega (arith, lowest-below 0 b (pagesFrom h area cap 0) q, pages-length h area cap 0)
 
-module _ (s : State) (area : List ℕ) (shape : Shape) (f : shape ≡ shapeOf (s .n0) (s .n) (s .s) (s .p)) (v : Verdict) (t : v ≡ surveyed (homeIn shape) area (s .cap)) where
-  -- the verdict is that of the state's own homes
-  told : imageOf s v ≡ imageGate s area
-  unfolding imageGate
-  told = rw (t, f)
-
+module _ (s : State) (v : Verdict) where
   -- a broken page, which is the last that was read
-  pub broken-shut : (a : ℕ) → v ≡ Sick a → Shut (Broken a (a + 1)) ≡ imageGate s area
-  broken-shut a e = rw add-one (rw e at told)
+  pub broken-shut : (a : ℕ) → v ≡ Sick a → Shut (Broken a (a + 1)) ≡ imageOf s v
+  broken-shut a e = rw (e, add-one)
 
   module _ (image : Bool) (records : ℕ) (e : v ≡ Whole image records) where
     -- an image of the right number of records, or not
-    pub image-open : (image && eqb records (s .r)) ≡ true → Open ≡ imageGate s area
-    image-open u = rw (e, u) at told
+    pub image-open : (image && eqb records (s .r)) ≡ true → Open ≡ imageOf s v
+    image-open u = rw (e, u)
 
-    pub image-shut : (image && eqb records (s .r)) ≡ false → Shut (NotImage (s .cap)) ≡ imageGate s area
-    image-shut u = rw (e, u) at told
+    pub image-shut : (image && eqb records (s .r)) ≡ false → Shut (NotImage (s .cap)) ≡ imageOf s v
+    image-shut u = rw (e, u)
+
+  -- where it is open, no page is broken
+  pub open-whole : imageOf s v ≡ Open → (A : Type 0) → ((image : Bool) (records : ℕ) → v ≡ Whole image records → A) → A
+  open-whole e A f = go v refl e
+    where
+      go : (w : Verdict) → v ≡ w → imageOf s w ≡ Open → A
+      go (Sick a) q k = absurd (let z : _≡_ {A = ℕ} 0 1 = cc in omega arith)
+      go (Whole image records) q k = f image records q
+
+  -- the verdict of a survey by the state's own homes is the gate
+  pub gate-told : (area : List ℕ) (shape : Shape) → shape ≡ shapeOf (s .n0) (s .n) (s .s) (s .p) → v ≡ surveyed (homeIn shape) area (s .cap)
+      → (g : Gate) → g ≡ imageOf s v → g ≡ imageGate s area
+  unfolding imageGate
+  gate-told area shape f t g e = e ∙ rw (t, f)
 
 -- what an open gate tells of the pages: none is broken, and they are an image of as many records as the state tells
 pub record Sound (s : State) (area : List ℕ) : Type 0 where

@@ -30,8 +30,10 @@ imageOf s (Whole image records) = cond (image && eqb records (s .r)) Open (Shut 
 unfoldable pub imageGate : State → List ℕ → Gate
 imageGate s area = imageOf s (surveyed (homes s) area (s .cap))
 
--- "Grow 1, 2, 3, 8, 4, 9", with a row of n counts
+-- "Grow 1, 2, 3, 8", with an area of m bytes and a row of n counts
+abbrev pub growEntry : State → (m n : ℕ) → Gate
+growEntry s m n = onGate (gateOf s m) Shut (cond (eqb n (s .cap)) (cond (eqb (s .p) (s .cap)) (Shut AtCap) Open) (Shut WrongRow))
+
+-- then "4, 9"
 unfoldable pub growGate : State → List ℕ → (n : ℕ) → Gate
-growGate s area n =
-    onGate (gateOf s (length area)) Shut
-    (cond (eqb n (s .cap)) (cond (eqb (s .p) (s .cap)) (Shut AtCap) (imageGate s area)) (Shut WrongRow))
+growGate s area n = onGate (growEntry s (length area) n) Shut (imageGate s area)

@@ -5,11 +5,12 @@ use state::State;
 use survey::Verdict;
 ghost use mathlib.Core.Path.{_≡_};
 ghost use mathlib.Core.Bool.{true};
-ghost use Prim.Native.Nat.{_*_};
+ghost use Prim.Native.Nat.{ℕ, _*_, _<_};
 ghost use lib.ListN.{length};
 ghost use Rattle.state.specs.State.{inRange};
-ghost use Rattle.register.specs.Gates.{gateOf, imageGate, growGate};
-ghost use Rattle.register.specs.Past.{OpenFor, OpenToGrow};
+ghost use Rattle.survey.specs.declared.Verdict.the-variants.{Sick};
+ghost use Rattle.register.specs.Gates.{gateOf, imageOf, imageGate, growEntry};
+ghost use Rattle.register.specs.Past.{OpenFor, EnteredToGrow};
 
 // The refusals that need no page: a number out of range, an area of another length.
 pub(crate) fn enter(state: State, length: usize) -> Gate
@@ -29,13 +30,11 @@ pub(crate) fn enter(state: State, length: usize) -> Gate
     Gate::Open
 }
 
-// Whether the area is the image of the records that the state tells of.
-pub(crate) fn image_gate(state: State, area: &[u8]) -> Gate
-    requires { ⌜ (inRange state ≡ true) × (length (now area) ≡ 256 * state .cap) ⌝ }
-    ensures { λ r. ⌜ r ≡ imageGate state (now (area .entry)) ⌝ }
+// What a look at all pages comes to.
+pub(crate) fn image_of(state: State, verdict: Verdict) -> Gate
+    requires { ⌜ ((a : ℕ) → verdict ≡ Sick a → a < 4096) ⌝ }
+    ensures { λ r. ⌜ r ≡ imageOf state verdict ⌝ }
 {
-    let shape = state.shape();
-    let verdict = survey::survey(area, state.cap as usize, shape);
     match verdict {
         Verdict::Sick { page } => Gate::Shut {
             why: Answer::Broken {
@@ -56,12 +55,22 @@ pub(crate) fn image_gate(state: State, area: &[u8]) -> Gate
     }
 }
 
-// Whether a growth may go on, with a row of n counts.
-pub(crate) fn grow_gate(state: State, area: &[u8], n: usize) -> Gate
-    ensures { λ r. ⌜ r ≡ growGate state (now (area .entry)) n ⌝ }
-    ensures within { λ r. ⌜ OpenToGrow state (now (area .entry)) n r ⌝ }
+// Whether the area is the image of the records that the state tells of.
+pub(crate) fn image_gate(state: State, area: &[u8]) -> Gate
+    requires { ⌜ (inRange state ≡ true) × (length (now area) ≡ 256 * state .cap) ⌝ }
+    ensures { λ r. ⌜ r ≡ imageGate state (now (area .entry)) ⌝ }
 {
-    let gate = enter(state, area.len());
+    let shape = state.shape();
+    let verdict = survey::survey(area, state.cap as usize, shape);
+    image_of(state, verdict)
+}
+
+// What a growth refuses before it looks at a page, with an area of m bytes and a row of n counts.
+pub(crate) fn grow_entry(state: State, m: usize, n: usize) -> Gate
+    ensures { λ r. ⌜ r ≡ growEntry state m n ⌝ }
+    ensures within { λ r. ⌜ EnteredToGrow state m n r ⌝ }
+{
+    let gate = enter(state, m);
     match gate {
         Gate::Shut { why } => Gate::Shut { why },
         Gate::Open => {
@@ -73,7 +82,7 @@ pub(crate) fn grow_gate(state: State, area: &[u8], n: usize) -> Gate
             if state.p == state.cap {
                 return Gate::Shut { why: Answer::AtCap };
             }
-            image_gate(state, area)
+            Gate::Open
         }
     }
 }

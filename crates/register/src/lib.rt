@@ -17,7 +17,7 @@ ghost use Rattle.state.specs.declared.Answer.the-variants.{Accepted};
 ghost use Rattle.walks.specs.Walks.{findAnswer};
 ghost use Rattle.walks.specs.Plans.{metIn};
 ghost use Rattle.register.specs.declared.Gate.the-variants.{Open};
-ghost use Rattle.register.specs.Past.{OpenToGrow};
+ghost use Rattle.register.specs.Past.{EnteredToGrow, OpenToGrow, grewEntered, grownCounts};
 ghost use Rattle.register.specs.Calls.{done, formatted, found, putOpen, stored, removeOpen, removed, checked, grownFile, grew};
 
 // Whether a call may go on, or why not.
@@ -238,9 +238,21 @@ pub fn check(state: State, area: &[u8]) -> Done
     }
 }
 
-// A growth past its gate: the row is filled and decides; then the file is made anew in its own area.
-fn grow_open(state: State, area: &mut [u8], row: &mut [u32]) -> Done
-    requires { ⌜ OpenToGrow state (now area) (length (now row)) Open ⌝ }
+// The counts into the row.
+fn fill_row(row: &mut [u32], counts: &[u32])
+    requires { ⌜ length (now row) ≡ length (now counts) ⌝ }
+    ensures { λ _. ⌜ now (row .exit) ≡ now (counts .entry) ⌝ }
+{
+    let mut i = 0;
+    while i < row.len() {
+        row[i] = counts[i];
+        i += 1;
+    }
+}
+
+// A growth of an image, with the counts of its records' homes after it: they decide whether there is room; then the file is made anew in its own area.
+fn grow_image(state: State, area: &mut [u8], row: &mut [u32], counts: &[u32]) -> Done
+    requires { ⌜ OpenToGrow state (now area) (length (now row)) Open × (now counts ≡ grownCounts state (now area)) ⌝ }
     ensures { λ r. ⌜ r ≡ grownFile state (now (area .entry)) .done ⌝ }
     ensures { λ _. ⌜ now (area .exit) ≡ grownFile state (now (area .entry)) .area ⌝ }
     ensures { λ _. ⌜ now (row .exit) ≡ grownFile state (now (area .entry)) .row ⌝ }
@@ -249,8 +261,8 @@ fn grow_open(state: State, area: &mut [u8], row: &mut [u32]) -> Done
     let next = state.grown();
     let shape = next.shape();
     let last = shape.last_step();
-    survey::count_row(&area[..], cap, shape, last, row);
-    if !survey::has_room(&row[..]) {
+    fill_row(row, counts);
+    if !survey::has_room(counts) {
         return Done {
             state,
             answer: Answer::NoRoom { read: cap as u32 },
@@ -268,15 +280,47 @@ fn grow_open(state: State, area: &mut [u8], row: &mut [u32]) -> Done
     }
 }
 
+// A growth that is not refused before it looks at a page. The homes after it are counted while the pages are judged.
+fn grow_counting(state: State, area: &mut [u8], row: &mut [u32], counts: &mut [u32]) -> Done
+    requires { ⌜ EnteredToGrow state (length (now area)) (length (now row)) Open × (length (now counts) ≡ state .cap) ⌝ }
+    ensures { λ r. ⌜ r ≡ grewEntered state (now (area .entry)) (now (row .entry)) .done ⌝ }
+    ensures { λ _. ⌜ now (area .exit) ≡ grewEntered state (now (area .entry)) (now (row .entry)) .area ⌝ }
+    ensures { λ _. ⌜ now (row .exit) ≡ grewEntered state (now (area .entry)) (now (row .entry)) .row ⌝ }
+{
+    let cap = state.cap as usize;
+    let old = state.shape();
+    let after = state.grown();
+    let shape = after.shape();
+    let last = shape.last_step();
+    let verdict = survey::survey_counting(&area[..], cap, old, shape, last, counts);
+    let gate = gates::image_of(state, verdict);
+    match gate {
+        Gate::Shut { why } => Done { state, answer: why },
+        Gate::Open => grow_image(state, area, row, &counts[..]),
+    }
+}
+
+// The counts have memory of their own: the row stays as it is until all pages are judged.
+fn grow_entered(state: State, area: &mut [u8], row: &mut [u32]) -> Done
+    requires { ⌜ EnteredToGrow state (length (now area)) (length (now row)) Open ⌝ }
+    ensures { λ r. ⌜ r ≡ grewEntered state (now (area .entry)) (now (row .entry)) .done ⌝ }
+    ensures { λ _. ⌜ now (area .exit) ≡ grewEntered state (now (area .entry)) (now (row .entry)) .area ⌝ }
+    ensures { λ _. ⌜ now (row .exit) ≡ grewEntered state (now (area .entry)) (now (row .entry)) .row ⌝ }
+{
+    let cap = state.cap as usize;
+    let mut counts = [0; 4096];
+    grow_counting(state, area, row, &mut counts[..cap])
+}
+
 // One page more, with a lent row of counts, one a page.
 pub fn grow(state: State, area: &mut [u8], row: &mut [u32]) -> Done
     ensures { λ r. ⌜ r ≡ grew state (now (area .entry)) (now (row .entry)) .done ⌝ }
     ensures { λ _. ⌜ now (area .exit) ≡ grew state (now (area .entry)) (now (row .entry)) .area ⌝ }
     ensures { λ _. ⌜ now (row .exit) ≡ grew state (now (area .entry)) (now (row .entry)) .row ⌝ }
 {
-    let gate = gates::grow_gate(state, &area[..], row.len());
+    let gate = gates::grow_entry(state, area.len(), row.len());
     match gate {
         Gate::Shut { why } => Done { state, answer: why },
-        Gate::Open => grow_open(state, area, row),
+        Gate::Open => grow_entered(state, area, row),
     }
 }

@@ -2,13 +2,13 @@
 use mathlib.Core.Path.{_≡_, refl, sym, ap, _∙_}
 use mathlib.Core.Bool.{Bool, true, false}
 use mathlib.Core.List.{List, [], _∷_, _++_, map, append-nil, map-append}
-use Prim.Native.Nat.{ℕ, zero, suc, _+_, _*_, _-_, _≤_, _<_}
+use Prim.Native.Nat.{ℕ, suc, _+_, _*_, _-_, _≤_, _<_}
 use native.Mathlib.Nat.{zero-add}
 use native.Mathlib.Numerals.{add-one}
 use native.Mathlib.Omega.{arith}
 use lib.Dec.{ltb, eqb}
 use lib.ListN.{length, getD, set, take, drop, replicate, length-take, length-set, length-replicate, getD-replicate, length-append, length-drop, length-map, List·getD-eq-default}
-use lib.Seq.{getD-set-same, getD-set-other, take-suc, take-at, drop-cons, drop-length, ext-getD}
+use lib.Seq.{getD-set-same, getD-set-other, getD-take, length-take-le, take-suc, drop-cons, drop-length, ext-getD}
 use borrow.Author.Tests.{ltb-true, ltb-false, eqb-true, eqb-false}
 use borrow.Author.Fill.{fill-more}
 use Rattle.placing.specs.Image.{cat}
@@ -16,10 +16,9 @@ use Rattle.placing.specs.Lay.{one}
 use Rattle.placing.specs.Rows.{atHome, counts, leftOver}
 use Rattle.placing.proofs.Rows.{counts-length, counts-at}
 use Rattle.placing.proofs.Lists.{count-le}
-use Rattle.pages.specs.declared.Page.{Page}
-use Rattle.pages.specs.Page.{Record, key, homeFor, recordsIn, padded, inMemory}
+use Rattle.pages.specs.Page.{Record, homeFor, recordsIn}
 use Rattle.pages.specs.Area.{partAt, heldFrom}
-use Rattle.pages.proofs.Memory.{page-count}
+use Rattle.pages.proofs.Rows.{row-at}
 use Rattle.pages.proofs.Read.{held-few}
 use Rattle.pages.proofs.Write.{zeros}
 use Rattle.survey.specs.Looks.{tallied}
@@ -111,11 +110,22 @@ module _ {R : Type 0} (home : R → ℕ) where
           ∙ (rw (getD-replicate {A = ℕ} n k 0 0 l, zero-add, at-homes s k))
           ∙ sym (rw z at (counts-at home s n 0 k l))
 
-  -- homes that are all below cap are so in a row too, before its zeros
-  homes-below : (s : List R) (zs : List ℕ) (cap : ℕ) → ((x : R) → home x < cap) → (i : ℕ) → i < length s → getD (map home s ++ zs) i 0 < cap
-  homes-below [] zs cap b i l = absurd (omega arith)
-  homes-below (x ∷ s) zs cap b zero l = b x
-  homes-below (x ∷ s) zs cap b (suc i) l = homes-below s zs cap b i (omega arith)
+-- the first n of these numbers are the homes of n records
+pub record HomesOf (h : ℕ → ℕ) (rs : List Record) (n : ℕ) (homes : List ℕ) : Type 0 where
+  pub count : n ≡ length rs
+  pub long : n ≤ length homes
+  pub each : (i : ℕ) → i < n → getD homes i 0 ≡ homeFor h (getD rs i (0, 0))
+
+-- so, taken, they are those homes
+first-homes : (h : ℕ → ℕ) (rs : List Record) (n : ℕ) (homes : List ℕ) → HomesOf h rs n homes → take n homes ≡ map (homeFor h) rs
+first-homes h rs n homes f =
+    ext-getD 0 (take n homes) (map (homeFor h) rs) (m ∙ f .count ∙ sym (length-map rs (homeFor h))) (λ i l. at i (omega (arith, m)))
+  where
+    m : length (take n homes) ≡ n
+    m = length-take-le n homes (f .long)
+
+    at : (i : ℕ) → i < n → getD (take n homes) i 0 ≡ getD (map (homeFor h) rs) i 0
+    at i l = getD-take n homes i 0 l ∙ f .each i l ∙ sym (rw append-nil at (row-at (homeFor h) rs [] i (0, 0) (omega (arith, f .count))))
 
 -- the pages below a are counted, and those from a on are left to tally
 pub record Counted (h : ℕ → ℕ) (area : List ℕ) (cap : ℕ) (row : List ℕ) (a : ℕ) : Type 0 where
@@ -135,25 +145,22 @@ count-starts h area cap row e =
 
 module _ {h : ℕ → ℕ} {area : List ℕ} {cap : ℕ} {row : List ℕ} {a : ℕ} (c : Counted h area cap row a) where
   -- the page that is read next, and the homes of its records
-  module _ {p : Page} {homes : List ℕ} (is : p ≡ inMemory (recordsIn (partAt area a))) (hs : homes ≡ padded (map (homeFor h) (recordsIn (partAt area a)))) where
+  module _ {n : ℕ} {homes : List ℕ} (f : HomesOf h (recordsIn (partAt area a)) n homes) where
     -- each of these homes is a place of the row
-    pub homes-inside : ((k : ℕ) → h k < cap) → (i : ℕ) → i < p .count → getD homes i 0 < length row
-    homes-inside b i l =
-        let rs : List Record = recordsIn (partAt area a) in
-        rw (hs, c .long) (homes-below (homeFor h) rs _ cap (λ x. b (key x)) i (omega (arith, page-count p rs is)))
+    pub homes-inside : ((k : ℕ) → h k < cap) → (i : ℕ) → i < n → getD homes i 0 < length row
+    homes-inside b i l = rw (f .each i l, c .long) (b _)
 
-    pub count-goes-on : {row′ : List ℕ} → a < cap → row′ ≡ tallied (take (p .count) homes) row → Counted h area cap row′ (a + 1)
+    pub count-goes-on : {row′ : List ℕ} → a < cap → row′ ≡ tallied (take n homes) row → Counted h area cap row′ (a + 1)
     count-goes-on {row′} l e =
         let rs : List Record = recordsIn (partAt area a) in
         let js : List ℕ = map (homeFor h) rs in
-        let n : length js ≡ length rs = length-map rs (homeFor h) in
-        let t : row′ ≡ tallied js row = e ∙ rw (hs, take-at js _ (p .count) (n ∙ sym (page-count p rs is))) in
+        let t : row′ ≡ tallied js row = e ∙ rw (first-homes h rs n homes f) in
         let m : cap - a ≡ suc (cap - suc a) = omega arith in
         let more : List Record = cat (heldFrom area (cap - suc a) (suc a)) [] in
         record {
           low = omega arith;
           long = ap length t ∙ tally-length js row ∙ c .long;
-          small = λ k. rw t (omega (arith, tally-le js row k, c .small k, held-few (partAt area a)));
+          small = λ k. rw t (omega (arith, tally-le js row k, c .small k, length-map rs (homeFor h), held-few (partAt area a)));
           rest = rw (t, add-one a) (sym (tally-append js (map (homeFor h) more) row)) ∙ rw (m, map-append (homeFor h) rs more) at (c .rest);
         }
 

@@ -12,7 +12,7 @@ use borrow.Author.Tests.{eqb-true, eqb-false, eq-eqb, ne-eqb, le-leb, lt-leb}
 use Rattle.placing.specs.Image.{cat}
 use Rattle.placing.specs.Lay.{rankIn, ranked}
 use Rattle.pages.specs.declared.Judged.{Judged}
-use Rattle.pages.specs.Page.{Record, key, readPage, padded, inMemory, judged}
+use Rattle.pages.specs.Page.{Record, key, recordsIn, readPage, padded, inMemory, judged}
 use Rattle.pages.specs.Area.{partAt, pagesFrom, heldFrom}
 use Rattle.pages.proofs.RoundTrip.{Good, read-good}
 use Rattle.survey.specs.declared.Seen.{Seen}
@@ -95,6 +95,10 @@ module _ (h : ℕ → ℕ) where
   look-records s a [] = refl
   look-records s a (x ∷ p) = rw (ne-eqb (suc (length p)) 0 (λ e. omega arith))
 
+-- a broken page is no whole area
+pub not-whole : (a : ℕ) (image : Bool) (records : ℕ) → Sick a ≡ Whole image records → ⊥
+not-whole a image records e = let z : _≡_ {A = ℕ} 0 1 = cc in omega arith
+
 module _ (h : ℕ → ℕ) (area : List ℕ) (cap : ℕ) where
   -- page a as it is read
   abbrev pub pageAt : ℕ → Option (List Record)
@@ -109,11 +113,11 @@ module _ (h : ℕ → ℕ) (area : List ℕ) (cap : ℕ) where
       × (s .records ≤ 12 * a)
 
   -- at the start all is left
-  pub survey-starts : Left unseen 0
+  pub survey-starts : (s : Seen) → s ≡ unseen → Left s 0
   unfolding isImage
-  survey-starts =
+  survey-starts s u =
       let e : cap - 0 ≡ cap = omega arith in
-      rw e (refl, refl, omega arith, omega arith)
+      rw (e, u) (refl, refl, omega arith, omega arith)
 
   -- a judged page has twelve records at most
   few-read : (a : ℕ) (o : Option (List Record)) → pageAt a ≡ o → judged h o .page .count ≤ 12
@@ -123,6 +127,15 @@ module _ (h : ℕ → ℕ) (area : List ℕ) (cap : ℕ) where
 
   pub judged-few : (a : ℕ) (j : Judged) → j ≡ judged h (pageAt a) → j .page .count ≤ 12
   judged-few a j e = rw e (few-read a (pageAt a) refl)
+
+  -- a good one has the records that stand at its place
+  pub judged-held : (a : ℕ) (j : Judged) → j ≡ judged h (pageAt a) → j .good ≡ true → j ≡ judged h (some (recordsIn (partAt area a)))
+  unfolding judged
+  judged-held a j e b = go (pageAt a) refl e
+    where
+      go : (o : Option (List Record)) → pageAt a ≡ o → j ≡ judged h o → j ≡ judged h (some (recordsIn (partAt area a)))
+      go none q k = absurd (let z : _≡_ {A = ℕ} 0 1 = cc in omega arith)
+      go (some rs) q k = k ∙ ap (λ (s : List Record). judged h (some s)) (read-good h a (partAt area a) rs q .records)
 
   module _ (s : Seen) (a : ℕ) (l : a < cap) (left : Left s a) (j : Judged) (e : j ≡ judged h (pageAt a)) where
     more : cap - a ≡ suc (cap - suc a)

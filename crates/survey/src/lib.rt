@@ -3,6 +3,7 @@ use homes::Shape;
 use homes::Stage;
 use pages::Judged;
 ghost use mathlib.Core.Path.{_≡_};
+ghost use mathlib.Core.Bool.{Bool, true, cond};
 ghost use mathlib.Core.List.{[]};
 ghost use Prim.Native.Nat.{ℕ, _*_, _≤_, _<_};
 ghost use lib.ListN.{length, getD, take, replicate};
@@ -13,9 +14,9 @@ ghost use Rattle.placing.specs.Image.{cat};
 ghost use Rattle.placing.specs.Rows.{counts, leftOver};
 ghost use Rattle.pages.specs.Page.{homeFor};
 ghost use Rattle.pages.specs.Area.{heldFrom};
-ghost use Rattle.pages.specs.Known.{KnownAt};
+ghost use Rattle.survey.specs.declared.Verdict.the-variants.{Whole};
 ghost use Rattle.survey.specs.Survey.{surveyed};
-ghost use Rattle.survey.specs.Looks.{looked, tallied};
+ghost use Rattle.survey.specs.Looks.{unseen, looked, tallied};
 
 // The lowest broken page; or, with none broken, whether the pages are an image, and of how many records.
 pub enum Verdict {
@@ -31,6 +32,20 @@ pub struct Seen {
     pub home: u64,
     pub key: u64,
     pub records: u32,
+}
+
+// Before the first page.
+fn unseen() -> Seen
+    ensures { λ r. ⌜ r ≡ unseen ⌝ }
+{
+    Seen {
+        image: true,
+        full: true,
+        any: false,
+        home: 0,
+        key: 0,
+        records: 0,
+    }
 }
 
 // What has been seen after page a.
@@ -72,14 +87,7 @@ pub fn survey(area: &[u8], cap: usize, shape: Shape) -> Verdict
     requires { ⌜ (cap ≤ 4096) × (length (now area) ≡ 256 * cap) × Ready shape ⌝ }
     ensures { λ r. ⌜ r ≡ surveyed (homeIn shape) (now (area .entry)) cap ⌝ }
 {
-    let mut seen = Seen {
-        image: true,
-        full: true,
-        any: false,
-        home: 0,
-        key: 0,
-        records: 0,
-    };
+    let mut seen = unseen();
     let mut a = 0;
     while a < cap {
         let judged = pages::judge_at(area, a, shape);
@@ -118,19 +126,62 @@ fn tally(count: usize, homes: [u64; 12], row: &mut [u32])
     }
 }
 
-// Fills a lent row with the number of records of each home, in a file that grew by the step `last`.
-pub fn count_row(area: &[u8], cap: usize, shape: Shape, last: Stage, row: &mut [u32])
-    requires { ⌜ (cap ≤ 4096) × (length (now area) ≡ 256 * cap) × Ready shape × (shape .p ≤ cap) × (length (now row) ≡ cap) ⌝ }
-    requires { ⌜ Within last × ((a : ℕ) → a < cap → KnownAt (homeIn shape) (staysAt shape last) (now area) a) ⌝ }
-    ensures { λ _. ⌜ now (row .exit) ≡ counts (homeFor (homeIn shape)) (cat (heldFrom (now (area .entry)) cap 0) []) cap 0 ⌝ }
+// The homes of a judged page's records in a file that grew by the step `last`. A home whose page stays is kept, and what that page says is asked for once; others are worked out.
+fn rehomed(judged: Judged, next: Shape, last: Stage) -> [u64; 12]
+    requires { ⌜ (judged .page .count ≤ 12) × Ready next × Within last ⌝ }
+    ensures { λ r. ⌜ ((i : ℕ) → i < judged .page .count → getD r i 0 ≡ cond (staysAt next last (getD (judged .homes) i 0)) (getD (judged .homes) i 0) (homeIn next (getD (judged .page .keys) i 0))) ⌝ }
+{
+    let homes = judged.homes;
+    let page = judged.page;
+    let count = page.count;
+    let keys = page.keys;
+    let mut out = [0; 12];
+    let mut seen = next.p;
+    let mut stays = false;
+    let mut i = 0;
+    while i < count {
+        let home = homes[i];
+        if home != seen {
+            stays = next.stays(last, home);
+            seen = home;
+        }
+        out[i] = if stays { home } else { next.home(keys[i]) };
+        i += 1;
+    }
+    out
+}
+
+// Judges as `survey` does, and counts the records of each home in the file as it grew by the step `last`. The counts are those of all pages where none is broken.
+pub fn survey_counting(
+    area: &[u8],
+    cap: usize,
+    shape: Shape,
+    next: Shape,
+    last: Stage,
+    row: &mut [u32],
+) -> Verdict
+    requires { ⌜ (cap ≤ 4096) × (length (now area) ≡ 256 * cap) × Ready shape × (length (now row) ≡ cap) ⌝ }
+    requires { ⌜ Ready next × (next .p ≤ cap) × Within last × ((k a : ℕ) → staysAt next last a ≡ true → homeIn shape k ≡ a → homeIn next k ≡ a) ⌝ }
+    ensures { λ r. ⌜ r ≡ surveyed (homeIn shape) (now (area .entry)) cap ⌝ }
+    ensures counted { λ r. ⌜ ((image : Bool) (records : ℕ) → r ≡ Whole image records → now (row .exit) ≡ counts (homeFor (homeIn next)) (cat (heldFrom (now (area .entry)) cap 0) []) cap 0) ⌝ }
 {
     clear(row);
+    let mut seen = unseen();
     let mut a = 0;
     while a < cap {
-        let page = pages::parse_at(area, a);
-        let homes = pages::known::homes_at(area, a, page, shape, last);
+        let judged = pages::judge_at(area, a, shape);
+        if !judged.good {
+            return Verdict::Sick { page: a };
+        }
+        seen = look(seen, judged, a);
+        let homes = rehomed(judged, next, last);
+        let page = judged.page;
         tally(page.count, homes, row);
         a += 1;
+    }
+    Verdict::Whole {
+        image: seen.image,
+        records: seen.records,
     }
 }
 

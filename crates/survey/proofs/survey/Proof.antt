@@ -15,24 +15,27 @@ Inv-loop area cap shape seen₀ a₀ seen a = Left (homeIn shape) area cap seen 
 abbrev μ-loop : tie.MeasureT-loop
 μ-loop area cap shape seen₀ a₀ seen a = cap - a
 
+unseen-requires : tie.Need-unseen-requires Inv-loop μ-loop
+unseen-requires c κs = search needs
+
 loop-holds : tie.Need-loop-holds Inv-loop μ-loop
 loop-holds c =
-    let a = c .before .args in
-    survey-starts (homeIn (a .shape)) (a .area .now) (a .cap)
+    let a = c .before .before .args in
+    survey-starts (homeIn (a .shape)) (a .area .now) (a .cap) _ (c .unseen .ensures)
 
 judge-at-requires : tie.Need-judge-at-requires Inv-loop μ-loop
 judge-at-requires c κs = search needs
 
 returns : tie.Need-returns Inv-loop μ-loop
 returns c =
-    let a = c .before .before .before .before .before .before .args in
+    let a = c .before .before .before .before .before .before .before .args in
     let l = c .before .before .before .before .loop in
     survey-breaks (homeIn (a .shape)) (a .area .now) (a .cap) (l .seen) (l .a) (omega arith) (l .inv) _ (c .before .before .judge-at .ensures)
     (not-true _ (c .if1 .taken))
 
 look-requires : tie.Need-look-requires Inv-loop μ-loop
 look-requires c κs =
-    let a = c .before .before .before .before .before .before .args in
+    let a = c .before .before .before .before .before .before .before .args in
     let l = c .before .before .before .before .loop in
     (judged-few (homeIn (a .shape)) (a .area .now) (a .cap) (l .a) _ (c .before .before .judge-at .ensures), omega (arith, l .inv .3))
 
@@ -44,14 +47,14 @@ loop-less c = search needs
 
 loop-again : tie.Need-loop-again Inv-loop μ-loop
 loop-again c =
-    let a = c .before .before .before .before .before .before .before .args in
+    let a = c .before .before .before .before .before .before .before .before .args in
     let l = c .before .before .before .before .before .loop in
     survey-goes-on (homeIn (a .shape)) (a .area .now) (a .cap) (l .seen) (l .a) (omega arith) (l .inv) _ (c .before .before .before .judge-at .ensures)
     (not-false _ (c .before .if1 .left)) _ (c .look .ensures)
 
 returns-2 : tie.Need-returns-2 Inv-loop μ-loop
 returns-2 c =
-    let a = c .before .before .before .args in
+    let a = c .before .before .before .before .args in
     let l = c .before .loop in
     survey-ends (homeIn (a .shape)) (a .area .now) (a .cap) (l .seen) (l .a) (omega arith) (l .inv)
 
@@ -61,6 +64,7 @@ survey-spec =
     (tie.spec
     Inv-loop
     μ-loop
+    unseen-requires
     loop-holds
     judge-at-requires
     returns

@@ -1,0 +1,53 @@
+-- `register::grow_entered` meets its contract.
+use mathlib.Core.Path.{_≡_, sym}
+use Prim.Native.Nat.{ℕ, _≤_}
+use native.Mathlib.Omega.{arith}
+use lib.ListN.{length, take, replicate, length-replicate}
+use lib.Seq.{length-take-le}
+use borrow.Author.Needs.{needs}
+use Rattle.state.proofs.Ranges.{ranged}
+use Rattle.register.proofs.grow_entered.Statement.{statement}
+use Rattle.register.proofs.grow_entered.Tie as tie
+
+-- as many zeros as are cut off from more
+cut : (m n : ℕ) → n ≤ m → length {A = ℕ} (take n (replicate m 0)) ≡ n
+cut m n l = length-take-le {A = ℕ} n (replicate m 0) (omega (arith, length-replicate {A = ℕ} m 0))
+
+cast-cap : tie.Need-cast-cap
+cast-cap c = search needs
+
+array-borrow-prefix-counts : tie.Need-array-borrow-prefix-counts
+array-borrow-prefix-counts c =
+    let b = c .before .before .before .before .before in
+    ranged (b .args .state) (b .pre .0) .cap-high
+
+slice-aggregate-grow-counting : tie.Need-slice-aggregate-grow-counting
+slice-aggregate-grow-counting c =
+    let b = c .before .before .before .before .before .before in
+    sym (cut 4096 (b .args .state .cap) (ranged (b .args .state) (b .pre .0) .cap-high))
+
+grow-counting-requires : tie.Need-grow-counting-requires
+grow-counting-requires c κs =
+    let b = c .before .before .before .before .before .before in
+    (b .pre, cut 4096 (b .args .state .cap) (ranged (b .args .state) (b .pre .0) .cap-high))
+
+same-length : tie.Need-same-length
+same-length c = search needs
+
+same-length-2 : tie.Need-same-length-2
+same-length-2 c = search needs
+
+returns : tie.Need-returns
+returns c = search needs
+
+pub grow-entered-spec : {M : Type 1} → statement M
+grow-entered-spec =
+    tie.close
+    (tie.spec
+    cast-cap
+    array-borrow-prefix-counts
+    slice-aggregate-grow-counting
+    grow-counting-requires
+    same-length
+    same-length-2
+    returns)

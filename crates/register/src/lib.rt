@@ -1,5 +1,6 @@
 // The register: request number -> the commit it became, in a lent area of pages. Every call takes any numbers and any bytes, and answers.
 mod gates;
+mod growth;
 
 use state::Answer;
 use state::Done;
@@ -16,9 +17,7 @@ ghost use Rattle.state.specs.State.{inRange};
 ghost use Rattle.state.specs.declared.Answer.the-variants.{Accepted};
 ghost use Rattle.walks.specs.Walks.{findAnswer};
 ghost use Rattle.walks.specs.Plans.{metIn};
-ghost use Rattle.register.specs.declared.Gate.the-variants.{Open};
-ghost use Rattle.register.specs.Past.{EnteredToGrow, OpenToGrow, grewEntered, grownCounts};
-ghost use Rattle.register.specs.Calls.{done, formatted, found, putOpen, stored, removeOpen, removed, checked, grownFile, grew};
+ghost use Rattle.register.specs.Calls.{done, formatted, found, putOpen, stored, removeOpen, removed, checked, grew};
 
 // Whether a call may go on, or why not.
 pub enum Gate {
@@ -238,80 +237,6 @@ pub fn check(state: State, area: &[u8]) -> Done
     }
 }
 
-// The counts into the row.
-fn fill_row(row: &mut [u32], counts: &[u32])
-    requires { ⌜ length (now row) ≡ length (now counts) ⌝ }
-    ensures { λ _. ⌜ now (row .exit) ≡ now (counts .entry) ⌝ }
-{
-    let mut i = 0;
-    while i < row.len() {
-        row[i] = counts[i];
-        i += 1;
-    }
-}
-
-// A growth of an image, with the counts of its records' homes after it: they decide whether there is room; then the file is made anew in its own area.
-fn grow_image(state: State, area: &mut [u8], row: &mut [u32], counts: &[u32]) -> Done
-    requires { ⌜ OpenToGrow state (now area) (length (now row)) Open × (now counts ≡ grownCounts state (now area)) ⌝ }
-    ensures { λ r. ⌜ r ≡ grownFile state (now (area .entry)) .done ⌝ }
-    ensures { λ _. ⌜ now (area .exit) ≡ grownFile state (now (area .entry)) .area ⌝ }
-    ensures { λ _. ⌜ now (row .exit) ≡ grownFile state (now (area .entry)) .row ⌝ }
-{
-    let cap = state.cap as usize;
-    let next = state.grown();
-    let shape = next.shape();
-    let last = shape.last_step();
-    fill_row(row, counts);
-    if !survey::has_room(counts) {
-        return Done {
-            state,
-            answer: Answer::NoRoom { read: cap as u32 },
-        };
-    }
-    let moved = rebuild::rebuild(area, cap, shape, last);
-    let answer = Answer::Accepted {
-        value: 0,
-        read: cap as u32,
-        moved,
-    };
-    Done {
-        state: next,
-        answer,
-    }
-}
-
-// A growth that is not refused before it looks at a page. The homes after it are counted while the pages are judged.
-fn grow_counting(state: State, area: &mut [u8], row: &mut [u32], counts: &mut [u32]) -> Done
-    requires { ⌜ EnteredToGrow state (length (now area)) (length (now row)) Open × (length (now counts) ≡ state .cap) ⌝ }
-    ensures { λ r. ⌜ r ≡ grewEntered state (now (area .entry)) (now (row .entry)) .done ⌝ }
-    ensures { λ _. ⌜ now (area .exit) ≡ grewEntered state (now (area .entry)) (now (row .entry)) .area ⌝ }
-    ensures { λ _. ⌜ now (row .exit) ≡ grewEntered state (now (area .entry)) (now (row .entry)) .row ⌝ }
-{
-    let cap = state.cap as usize;
-    let old = state.shape();
-    let after = state.grown();
-    let shape = after.shape();
-    let last = shape.last_step();
-    let verdict = survey::survey_counting(&area[..], cap, old, shape, last, counts);
-    let gate = gates::image_of(state, verdict);
-    match gate {
-        Gate::Shut { why } => Done { state, answer: why },
-        Gate::Open => grow_image(state, area, row, &counts[..]),
-    }
-}
-
-// The counts have memory of their own: the row stays as it is until all pages are judged.
-fn grow_entered(state: State, area: &mut [u8], row: &mut [u32]) -> Done
-    requires { ⌜ EnteredToGrow state (length (now area)) (length (now row)) Open ⌝ }
-    ensures { λ r. ⌜ r ≡ grewEntered state (now (area .entry)) (now (row .entry)) .done ⌝ }
-    ensures { λ _. ⌜ now (area .exit) ≡ grewEntered state (now (area .entry)) (now (row .entry)) .area ⌝ }
-    ensures { λ _. ⌜ now (row .exit) ≡ grewEntered state (now (area .entry)) (now (row .entry)) .row ⌝ }
-{
-    let cap = state.cap as usize;
-    let mut counts = [0; 4096];
-    grow_counting(state, area, row, &mut counts[..cap])
-}
-
 // One page more, with a lent row of counts, one a page.
 pub fn grow(state: State, area: &mut [u8], row: &mut [u32]) -> Done
     ensures { λ r. ⌜ r ≡ grew state (now (area .entry)) (now (row .entry)) .done ⌝ }
@@ -321,6 +246,6 @@ pub fn grow(state: State, area: &mut [u8], row: &mut [u32]) -> Done
     let gate = gates::grow_entry(state, area.len(), row.len());
     match gate {
         Gate::Shut { why } => Done { state, answer: why },
-        Gate::Open => grow_entered(state, area, row),
+        Gate::Open => growth::grow_entered(state, area, row),
     }
 }

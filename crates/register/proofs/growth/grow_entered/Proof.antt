@@ -6,8 +6,8 @@ use lib.ListN.{length, take, replicate, length-replicate}
 use lib.Seq.{length-take-le}
 use borrow.Author.Needs.{needs}
 use Rattle.state.proofs.Ranges.{ranged}
-use Rattle.register.proofs.grow_entered.Statement.{statement}
-use Rattle.register.proofs.grow_entered.Tie as tie
+use Rattle.register.proofs.growth.grow_entered.Statement.{statement}
+use Rattle.register.proofs.growth.grow_entered.Tie as tie
 
 -- as many zeros as are cut off from more
 cut : (m n : ℕ) → n ≤ m → length {A = ℕ} (take n (replicate m 0)) ≡ n

@@ -8,8 +8,8 @@ use native.Mathlib.Omega.{arith}
 use lib.ListN.{length, take, getD, set, length-set}
 use lib.Seq.{take-suc, take-suc-set, take-all}
 use borrow.Author.Needs.{needs}
-use Rattle.register.proofs.fill_row.Statement.{statement}
-use Rattle.register.proofs.fill_row.Tie as tie
+use Rattle.register.proofs.growth.fill_row.Statement.{statement}
+use Rattle.register.proofs.growth.fill_row.Tie as tie
 
 -- the first i numbers of s stand in r, which is as long
 abbrev Copied : List ℕ → List ℕ → ℕ → Type 0

@@ -9,8 +9,8 @@ use Rattle.register.specs.Gates.{imageGate}
 use Rattle.register.proofs.Judging.{sick-below, gate-told, open-whole}
 use Rattle.register.proofs.Growing.{grown-low, grown-in, shape-low, steps-left, stays-home, same-counts}
 use Rattle.register.proofs.Answers.{entered-shut, entered-open}
-use Rattle.register.proofs.grow_counting.Statement.{statement}
-use Rattle.register.proofs.grow_counting.Tie as tie
+use Rattle.register.proofs.growth.grow_counting.Statement.{statement}
+use Rattle.register.proofs.growth.grow_counting.Tie as tie
 
 cast-cap : tie.Need-cast-cap
 cast-cap c = search needs

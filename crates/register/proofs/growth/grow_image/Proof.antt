@@ -11,8 +11,8 @@ use Rattle.pages.specs.Known.{KnownAt}
 use Rattle.state.proofs.Ranges.{ranged}
 use Rattle.register.proofs.Growing.{held-set, counts-many, grown-low, grown-in, steps-left, grown-known, takes-all, grow-full, grow-done}
 use Rattle.register.proofs.Answers.{with-row}
-use Rattle.register.proofs.grow_image.Statement.{statement}
-use Rattle.register.proofs.grow_image.Tie as tie
+use Rattle.register.proofs.growth.grow_image.Statement.{statement}
+use Rattle.register.proofs.growth.grow_image.Tie as tie
 
 cast-cap : tie.Need-cast-cap
 cast-cap c = search needs

@@ -1,0 +1,84 @@
+// A growth past its entry: the pages are judged and the homes counted, the counts decide, and the file is made anew.
+use crate::Gate;
+use state::Answer;
+use state::Done;
+use state::State;
+ghost use mathlib.Core.Path.{_≡_};
+ghost use lib.ListN.{length};
+ghost use Rattle.register.specs.declared.Gate.the-variants.{Open};
+ghost use Rattle.register.specs.Past.{EnteredToGrow, OpenToGrow, grownCounts, grewEntered};
+ghost use Rattle.register.specs.Calls.{grownFile};
+
+// The counts into the row.
+fn fill_row(row: &mut [u32], counts: &[u32])
+    requires { ⌜ length (now row) ≡ length (now counts) ⌝ }
+    ensures { λ _. ⌜ now (row .exit) ≡ now (counts .entry) ⌝ }
+{
+    let mut i = 0;
+    while i < row.len() {
+        row[i] = counts[i];
+        i += 1;
+    }
+}
+
+// A growth of an image, with the counts of its records' homes after it: they decide whether there is room; then the file is made anew in its own area.
+fn grow_image(state: State, area: &mut [u8], row: &mut [u32], counts: &[u32]) -> Done
+    requires { ⌜ OpenToGrow state (now area) (length (now row)) Open × (now counts ≡ grownCounts state (now area)) ⌝ }
+    ensures { λ r. ⌜ r ≡ grownFile state (now (area .entry)) .done ⌝ }
+    ensures { λ _. ⌜ now (area .exit) ≡ grownFile state (now (area .entry)) .area ⌝ }
+    ensures { λ _. ⌜ now (row .exit) ≡ grownFile state (now (area .entry)) .row ⌝ }
+{
+    let cap = state.cap as usize;
+    let next = state.grown();
+    let shape = next.shape();
+    let last = shape.last_step();
+    fill_row(row, counts);
+    if !survey::has_room(counts) {
+        return Done {
+            state,
+            answer: Answer::NoRoom { read: cap as u32 },
+        };
+    }
+    let moved = rebuild::rebuild(area, cap, shape, last);
+    let answer = Answer::Accepted {
+        value: 0,
+        read: cap as u32,
+        moved,
+    };
+    Done {
+        state: next,
+        answer,
+    }
+}
+
+// A growth that is not refused before it looks at a page. The homes after it are counted while the pages are judged.
+fn grow_counting(state: State, area: &mut [u8], row: &mut [u32], counts: &mut [u32]) -> Done
+    requires { ⌜ EnteredToGrow state (length (now area)) (length (now row)) Open × (length (now counts) ≡ state .cap) ⌝ }
+    ensures { λ r. ⌜ r ≡ grewEntered state (now (area .entry)) (now (row .entry)) .done ⌝ }
+    ensures { λ _. ⌜ now (area .exit) ≡ grewEntered state (now (area .entry)) (now (row .entry)) .area ⌝ }
+    ensures { λ _. ⌜ now (row .exit) ≡ grewEntered state (now (area .entry)) (now (row .entry)) .row ⌝ }
+{
+    let cap = state.cap as usize;
+    let old = state.shape();
+    let after = state.grown();
+    let shape = after.shape();
+    let last = shape.last_step();
+    let verdict = survey::survey_counting(&area[..], cap, old, shape, last, counts);
+    let gate = crate::gates::image_of(state, verdict);
+    match gate {
+        Gate::Shut { why } => Done { state, answer: why },
+        Gate::Open => grow_image(state, area, row, &counts[..]),
+    }
+}
+
+// The counts have memory of their own: the row stays as it is until all pages are judged.
+pub(crate) fn grow_entered(state: State, area: &mut [u8], row: &mut [u32]) -> Done
+    requires { ⌜ EnteredToGrow state (length (now area)) (length (now row)) Open ⌝ }
+    ensures { λ r. ⌜ r ≡ grewEntered state (now (area .entry)) (now (row .entry)) .done ⌝ }
+    ensures { λ _. ⌜ now (area .exit) ≡ grewEntered state (now (area .entry)) (now (row .entry)) .area ⌝ }
+    ensures { λ _. ⌜ now (row .exit) ≡ grewEntered state (now (area .entry)) (now (row .entry)) .row ⌝ }
+{
+    let cap = state.cap as usize;
+    let mut counts = [0; 4096];
+    grow_counting(state, area, row, &mut counts[..cap])
+}

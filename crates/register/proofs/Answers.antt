@@ -1,5 +1,5 @@
 -- What format, check and grow come to, on each way out of their gates.
-use mathlib.Core.Path.{_≡_, refl, sym, _∙_}
+use mathlib.Core.Path.{_≡_, refl, sym}
 use mathlib.Core.Bool.{Bool, true, false}
 use mathlib.Core.List.{List, []}
 use Prim.Native.Nat.{ℕ, _*_, _≤_, _<_}
@@ -26,10 +26,6 @@ Comes d area o = (d ≡ o .done) × (area ≡ o .area)
 -- the same of a growth, with the row
 abbrev pub Grows : Done → List ℕ → List ℕ → Growth → Type 0
 Grows d area row o = (d ≡ o .done) × ((area ≡ o .area) × (row ≡ o .row))
-
--- and the same row by another name
-pub with-row : {d : Done} {area row : List ℕ} {o : Growth} (other : List ℕ) → other ≡ row → Grows d area row o → Grows d area other o
-with-row other e k = (k .0, (k .1 .0, e ∙ k .1 .1))
 
 -- more pages than 16 bits count are out of range
 wide-range : (n0 N s cap : ℕ) → 65535 < n0 * N → cap < 65536 → inRange (fresh n0 N s cap) ≡ false

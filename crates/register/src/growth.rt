@@ -21,7 +21,7 @@ fn fill_row(row: &mut [u32], counts: &[u32])
     }
 }
 
-// A growth of an image, with the counts of its records' homes after it: they decide whether there is room; then the file is made anew in its own area.
+// A growth of an image, with the counts of its records' homes after it: the row is filled and decides whether there is room; then the file is made anew in its own area.
 fn grow_image(state: State, area: &mut [u8], row: &mut [u32], counts: &[u32]) -> Done
     requires { ⌜ OpenToGrow state (now area) (length (now row)) Open × (now counts ≡ grownCounts state (now area)) ⌝ }
     ensures { λ r. ⌜ r ≡ grownFile state (now (area .entry)) .done ⌝ }
@@ -33,7 +33,7 @@ fn grow_image(state: State, area: &mut [u8], row: &mut [u32], counts: &[u32]) ->
     let shape = next.shape();
     let last = shape.last_step();
     fill_row(row, counts);
-    if !survey::has_room(counts) {
+    if !survey::has_room(&row[..]) {
         return Done {
             state,
             answer: Answer::NoRoom { read: cap as u32 },

@@ -1,5 +1,5 @@
 -- `register::grow_image` meets its contract: the counts decide, and where there is room the file is made anew.
-use mathlib.Core.Path.{sym, _∙_}
+use mathlib.Core.Path.{_≡_, sym, _∙_}
 use Prim.Native.Nat.{ℕ, _<_}
 use native.Mathlib.Omega.{arith}
 use denote.Ref.{now}
@@ -9,8 +9,8 @@ use Rattle.homes.specs.Homes.{homeIn}
 use Rattle.homes.specs.Last.{staysAt}
 use Rattle.pages.specs.Known.{KnownAt}
 use Rattle.state.proofs.Ranges.{ranged}
+use Rattle.register.specs.Past.{grownCounts}
 use Rattle.register.proofs.Growing.{held-set, counts-many, grown-low, grown-in, steps-left, grown-known, takes-all, grow-full, grow-done}
-use Rattle.register.proofs.Answers.{with-row}
 use Rattle.register.proofs.growth.grow_image.Statement.{statement}
 use Rattle.register.proofs.growth.grow_image.Tie as tie
 
@@ -37,13 +37,18 @@ fill-row-requires c κs =
     let b = c .before .before .before .before .before .before .before .before in
     b .pre .0 .2 ∙ sym (counts-many (b .args .state) (now (b .args .area)) _ (b .pre .1))
 
+-- the row holds the counts
+filled : (c : tie.After-fill-row) → c .fill-row .last .0 ≡ grownCounts (c .before .before .before .before .before .before .before .before .before .args .state) (now (c .before .before .before .before .before .before .before .before .before .args .area))
+filled c = c .fill-row .ensures ∙ c .before .before .before .before .before .before .before .before .before .pre .1
+
 has-room-requires : tie.Need-has-room-requires
 has-room-requires c κs =
-    let b = c .before .before .before .before .before .before .before .before .before .before .before in
-    omega (arith, counts-many (b .args .state) (now (b .args .area)) _ (b .pre .1), ranged (b .args .state) (b .pre .0 .0) .cap-high)
+    let w = c .before .before .before in
+    let b = w .before .before .before .before .before .before .before .before .before in
+    omega (arith, counts-many (b .args .state) (now (b .args .area)) _ (filled w), ranged (b .args .state) (b .pre .0 .0) .cap-high)
 
-cast-t16 : tie.Need-cast-t16
-cast-t16 c = search needs
+cast-t18 : tie.Need-cast-t18
+cast-t18 c = search needs
 
 same-length : tie.Need-same-length
 same-length c = search needs
@@ -51,9 +56,9 @@ same-length c = search needs
 returns : tie.Need-returns
 returns c =
     let r = c .before in
-    let w = r .before .before .before in
+    let w = r .before .before .before .before in
     let b = w .before .before .before .before .before .before .before .before .before in
-    with-row _ (w .fill-row .ensures) (grow-full (b .args .state) (b .pre .0 .0) (b .pre .0 .3) (now (b .args .area)) _ (b .pre .1) _ (r .has-room .ensures) (not-true _ (c .if1 .taken)))
+    grow-full (b .args .state) (b .pre .0 .0) (b .pre .0 .3) (now (b .args .area)) _ (filled w) _ (r .has-room .ensures) (not-true _ (c .if1 .taken))
 
 -- what is known of the homes on the pages
 abbrev Knows : tie.After-last-step → Type 0
@@ -72,7 +77,8 @@ knows c =
 rebuild-requires : tie.Need-rebuild-requires
 rebuild-requires c κs =
     let r = c .before .before in
-    let q = r .before .before .before .before .before in
+    let w = r .before .before .before .before in
+    let q = w .before .before in
     let h = q .before in
     let b = h .before .before .before .before .before .before in
     let s = b .args .state in
@@ -82,15 +88,14 @@ rebuild-requires c κs =
         (q .last-step .ensures .1, knows q),
         (
           held-set s (now (b .args .area)) (λ k l. omega (arith, h .before .before .before .before .before .slice-known .given k)) (n .1) (n .4),
-          takes-all s (n .0) (n .3) (now (b .args .area)) _ (b .pre .1) _ (r .has-room .ensures) (not-false _ (c .before .if1 .left)) _ (h .before .grown .ensures) _ (h .shape .ensures .0),
+          takes-all s (n .0) (n .3) (now (b .args .area)) _ (filled w) _ (r .has-room .ensures) (not-false _ (c .before .if1 .left)) _ (h .before .grown .ensures) _ (h .shape .ensures .0),
         ),
       ),
     )
 
-cast-t20 : tie.Need-cast-t20
-cast-t20 c =
-    let m = c .before .before in
-    let b = m .before .before .before .before .before .before .before .before .before .before .before .before .before .before .before in
+cast-t22 : tie.Need-cast-t22
+cast-t22 c =
+    let b = c .before .before .before .before .before .before .before .before .before .before .before .before .before .before .before .before .before .before in
     omega (arith, ranged (b .args .state) (b .pre .0 .0) .cap-high)
 
 same-length-2 : tie.Need-same-length-2
@@ -103,12 +108,11 @@ returns-2 : tie.Need-returns-2
 returns-2 c =
     let m = c .before .before in
     let r = m .before .before .before in
-    let w = r .before .before .before in
+    let w = r .before .before .before .before in
     let h = w .before .before .before in
     let b = h .before .before .before .before .before .before in
-    with-row _ (w .fill-row .ensures)
-    (grow-done (b .args .state) (b .pre .0 .0) (b .pre .0 .3) (now (b .args .area)) _ (b .pre .1) _ (r .has-room .ensures) (not-false _ (m .before .before .if1 .left)) _ (h .before .grown .ensures) _ (h .shape .ensures .0)
-    _ (m .rebuild .ensures .0) _ (m .rebuild .ensures .1))
+    grow-done (b .args .state) (b .pre .0 .0) (b .pre .0 .3) (now (b .args .area)) _ (filled w) _ (r .has-room .ensures) (not-false _ (m .before .before .if1 .left)) _ (h .before .grown .ensures) _ (h .shape .ensures .0)
+    _ (m .rebuild .ensures .0) _ (m .rebuild .ensures .1)
 
 pub grow-image-spec : {M : Type 1} → statement M
 grow-image-spec =
@@ -120,11 +124,11 @@ grow-image-spec =
     last-step-requires
     fill-row-requires
     has-room-requires
-    cast-t16
+    cast-t18
     same-length
     returns
     rebuild-requires
-    cast-t20
+    cast-t22
     same-length-2
     same-length-3
     returns-2)

@@ -17,7 +17,7 @@ fn draw_of(x: u64) -> u64 {
         draw = homes::next_draw(draw);
         i += 1;
     }
-    draw
+    draw as u64
 }
 
 fn print_draw(x: u64) {

@@ -1,4 +1,4 @@
--- A row of twelve numbers that a loop fills: the places passed hold what they are to hold.
+-- A row of n numbers that a loop fills: the places passed hold what they are to hold.
 --
 use mathlib.Core.Path.{_≡_, _∙_}
 use mathlib.Core.List.{List}
@@ -11,16 +11,16 @@ use Rattle.homes.specs.Lanes.{Lane}
 use Rattle.homes.proofs.New.{split}
 
 -- the first i places of the row are those that `new` says
-pub record Passed (new : ℕ → ℕ) (row : List ℕ) (i : ℕ) : Type 0 where
-  pub long : length row ≡ 12
+pub record Passed (n : ℕ) (new : ℕ → ℕ) (row : List ℕ) (i : ℕ) : Type 0 where
+  pub long : length row ≡ n
   pub done : (j : ℕ) → j < i → getD row j 0 ≡ new j
 
 -- It holds at the start.
-pub none : (new : ℕ → ℕ) (row : List ℕ) → length row ≡ 12 → Passed new row 0
+pub none : {n : ℕ} (new : ℕ → ℕ) (row : List ℕ) → length row ≡ n → Passed n new row 0
 none new row e = record { long = e; done = λ j h. absurd (omega arith) }
 
 -- A turn keeps it.
-pub one : (new : ℕ → ℕ) (row : List ℕ) (i v : ℕ) → Passed new row i → i < 12 → v ≡ new i → Passed new (set row i v) (i + 1)
+pub one : {n : ℕ} (new : ℕ → ℕ) (row : List ℕ) (i v : ℕ) → Passed n new row i → i < n → v ≡ new i → Passed n new (set row i v) (i + 1)
 one new row i v p h e =
     record {
       long = length-set row i v ∙ p .long;
@@ -30,8 +30,8 @@ one new row i v p h e =
     at : (j : ℕ) → j ≡ i → getD (set row i v) j 0 ≡ new j
     at j q = rw q (getD-set-same row i v 0 (omega (arith, p .long)) ∙ e)
 
--- At the end all places are passed.
-pub over : {new : ℕ → ℕ} {row : List ℕ} {i : ℕ} → Passed new row i → 12 ≤ i → (j : ℕ) → j < 12 → getD row j 0 ≡ new j
+-- At the end the places to fill are passed.
+pub over : {n : ℕ} {new : ℕ → ℕ} {row : List ℕ} {i m : ℕ} → Passed n new row i → m ≤ i → (j : ℕ) → j < m → getD row j 0 ≡ new j
 over p e j h = p .done j (omega arith)
 
 -- Two lanes are the same where their numbers are.

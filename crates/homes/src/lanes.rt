@@ -1,35 +1,38 @@
-// The homes of twelve keys at a time. Their steps are taken together, so that no key waits for its own draws, and nothing is divided for one key alone: an address is kept as its group, and its turn among the pages of the group.
+// The homes of twelve keys at a time. Their steps are taken together, so that no key waits for its own draws, and nothing is divided for one key alone: an address is kept as its group, and its turn among the pages of the group. Sixteen places of two bytes fill whole registers; the last four are idle.
 use crate::Shape;
 use crate::Stage;
 ghost use mathlib.Core.Path.{_≡_};
+ghost use mathlib.Core.Bool.{cond};
 ghost use mathlib.Core.List.{map};
-ghost use Prim.Native.Nat.{ℕ, _+_, _-_, _/_, _%_, _≤_, _<_};
+ghost use Prim.Native.Nat.{ℕ, _+_, _-_, _*_, _/_, _%_, _≤_, _<_};
 ghost use lib.ListN.{length, getD};
+ghost use lib.Dec.{leb};
 ghost use Rattle.homes.specs.Homes.{Ready, homeIn, swept};
 ghost use Rattle.homes.specs.Lanes.{laneOf, startsAt, Fits, stepped, regrouped, addressOf};
 
 // What is kept of each key: its last draw, and its address.
 pub struct Lanes {
     pub draws: [u32; 12],
-    pub turns: [u32; 12],
-    pub groups: [u32; 12],
+    pub turns: [u16; 16],
+    pub groups: [u16; 16],
 }
 
 // The keys before the first step, at size f with g groups.
 fn start(keys: [u64; 12], f: u64, g: u64) -> Lanes
-    requires { ⌜ (1 ≤ g) × (g ≤ f) × (f ≤ 4096) ⌝ }
+    requires { ⌜ (1 ≤ g) × (g ≤ f) × (f ≤ 4 * g) × (f ≤ 4096) ⌝ }
     ensures { λ r. ⌜ ((i : ℕ) → i < 12 → laneOf r i ≡ startsAt f g (getD keys i 0)) ⌝ }
+    ensures fit { λ r. ⌜ ((i : ℕ) → i < 16 → Fits g (laneOf r i)) ⌝ }
 {
     let mut draws = [0; 12];
-    let mut turns = [0; 12];
-    let mut groups = [0; 12];
+    let mut turns = [0; 16];
+    let mut groups = [0; 16];
     let mut i = 0;
     while i < 12 {
         let key = keys[i];
         let address = key % f;
         draws[i] = (key % 2147483646 + 1) as u32;
-        turns[i] = (address / g) as u32;
-        groups[i] = (address % g) as u32;
+        turns[i] = (address / g) as u16;
+        groups[i] = (address % g) as u16;
         i += 1;
     }
     Lanes {
@@ -40,48 +43,76 @@ fn start(keys: [u64; 12], f: u64, g: u64) -> Lanes
 }
 
 // How far behind the first new page the new page of a group is. By s is divided with `share`, which is exact for so few groups.
-fn target(s: u32, share: u32, g: u32, each: u32, more: u32, group: u32) -> u32
+fn target(s: u16, share: u16, g: u16, each: u16, more: u16, group: u16) -> u16
     requires { ⌜ (1 ≤ s) × (s ≤ 8) × (share ≡ 32768 / s + 1) × (group < g) × (g ≤ 4096) × (each ≡ g / s) × (more ≡ g % s) ⌝ }
     ensures { λ r. ⌜ r ≡ swept s 0 g (g - 1 - group) ⌝ }
     ensures within { λ r. ⌜ r < g ⌝ }
 {
     let k = g - 1 - group;
-    let row = k * share / 32768;
+    let row = ((2 * k) as u32 * share as u32 / 65536) as u16;
     let w = k - row * s;
     let least = if w < more { w } else { more };
     w * each + least + row
 }
 
+// The next draws.
+fn draw_all(old: [u32; 12]) -> [u32; 12]
+    requires { ⌜ ((i : ℕ) → i < 12 → getD old i 0 < 2147483647) ⌝ }
+    ensures { λ r. ⌜ ((i : ℕ) → i < 12 → getD r i 0 ≡ 16807 * getD old i 0 % 2147483647) ⌝ }
+{
+    let mut draws = [0; 12];
+    let mut i = 0;
+    while i < 12 {
+        draws[i] = crate::next_draw(old[i]);
+        i += 1;
+    }
+    draws
+}
+
+// 1 for each key that is a mover, where a group has np pages.
+fn movers(draws: [u32; 12], np: u64) -> [u16; 16]
+    requires { ⌜ np < 8 ⌝ }
+    ensures { λ r. ⌜ ((i : ℕ) → i < 12 → getD r i 0 ≡ cond (leb (getD draws i 0 * (np + 1)) 2147483647) 1 0) ⌝ }
+{
+    let limit = (2147483647 / (np + 1)) as u32;
+    let mut moves = [0; 16];
+    let mut i = 0;
+    while i < 12 {
+        moves[i] = if draws[i] <= limit { 1 } else { 0 };
+        i += 1;
+    }
+    moves
+}
+
 // One step of all keys.
 fn step_all(lanes: Lanes, stage: Stage, sweeps: u64, p: u64) -> Lanes
     requires { ⌜ (1 ≤ sweeps) × (sweeps ≤ 8) × (1 ≤ stage .g) × (stage .g ≤ stage .f) × (stage .f < p) ⌝ }
-    requires { ⌜ (p ≤ 4096) × (stage .np < 8) × ((i : ℕ) → i < 12 → Fits (stage .g) (laneOf lanes i)) ⌝ }
+    requires { ⌜ (p ≤ 4096) × (stage .np < 8) × ((i : ℕ) → i < 16 → Fits (stage .g) (laneOf lanes i)) ⌝ }
     ensures { λ r. ⌜ ((i : ℕ) → i < 12 → laneOf r i ≡ stepped sweeps p stage (laneOf lanes i)) ⌝ }
+    ensures fit { λ r. ⌜ ((i : ℕ) → i < 16 → Fits (stage .g) (laneOf r i)) ⌝ }
 {
-    let s = sweeps as u32;
-    let g = stage.g as u32;
-    let np = stage.np as u32;
+    let s = sweeps as u16;
+    let g = stage.g as u16;
+    let np = stage.np as u16;
     let share = 32768 / s + 1;
     let each = g / s;
     let more = g % s;
-    let limit = 2147483647 / (np + 1);
-    let room = (p - stage.f) as u32;
+    let room = (p - stage.f) as u16;
     let old_draws = lanes.draws;
     let old_turns = lanes.turns;
     let old_groups = lanes.groups;
-    let mut draws = [0; 12];
-    let mut turns = [0; 12];
-    let mut groups = [0; 12];
+    let draws = draw_all(old_draws);
+    let moves = movers(draws, stage.np);
+    let mut turns = [0; 16];
+    let mut groups = [0; 16];
     let mut i = 0;
-    while i < 12 {
-        let draw = crate::next_draw(old_draws[i] as u64) as u32;
+    while i < 16 {
         let turn = old_turns[i];
         let group = old_groups[i];
         let to = target(s, share, g, each, more, group);
-        let moves = (draw <= limit) & (to < room);
-        draws[i] = draw;
-        turns[i] = if moves { np } else { turn };
-        groups[i] = if moves { to } else { group };
+        let goes = (moves[i] == 1) & (to < room);
+        turns[i] = if goes { np } else { turn };
+        groups[i] = if goes { to } else { group };
         i += 1;
     }
     Lanes {
@@ -93,20 +124,21 @@ fn step_all(lanes: Lanes, stage: Stage, sweeps: u64, p: u64) -> Lanes
 
 // The same addresses with twice as many groups as g.
 fn regroup(lanes: Lanes, g: u64) -> Lanes
-    requires { ⌜ (g ≤ 4096) × ((i : ℕ) → i < 12 → Fits g (laneOf lanes i)) ⌝ }
+    requires { ⌜ (g ≤ 4096) × ((i : ℕ) → i < 16 → Fits g (laneOf lanes i)) ⌝ }
     ensures { λ r. ⌜ ((i : ℕ) → i < 12 → laneOf r i ≡ regrouped g (laneOf lanes i)) ⌝ }
+    ensures fit { λ r. ⌜ ((i : ℕ) → i < 16 → Fits (2 * g) (laneOf r i)) ⌝ }
 {
-    let half = g as u32;
+    let half = g as u16;
     let draws = lanes.draws;
     let old_turns = lanes.turns;
     let old_groups = lanes.groups;
-    let mut turns = [0; 12];
-    let mut groups = [0; 12];
+    let mut turns = [0; 16];
+    let mut groups = [0; 16];
     let mut i = 0;
-    while i < 12 {
+    while i < 16 {
         let turn = old_turns[i];
-        turns[i] = turn / 2;
         groups[i] = turn % 2 * half + old_groups[i];
+        turns[i] = turn / 2;
         i += 1;
     }
     Lanes {
@@ -118,7 +150,7 @@ fn regroup(lanes: Lanes, g: u64) -> Lanes
 
 // The addresses with g groups.
 fn pages_of(lanes: Lanes, g: u64) -> [u64; 12]
-    requires { ⌜ (g ≤ 8192) × ((i : ℕ) → i < 12 → Fits g (laneOf lanes i)) ⌝ }
+    requires { ⌜ (g ≤ 8192) × ((i : ℕ) → i < 16 → Fits g (laneOf lanes i)) ⌝ }
     ensures { λ r. ⌜ ((i : ℕ) → i < 12 → getD r i 0 ≡ addressOf g (laneOf lanes i)) ⌝ }
     ensures long { λ r. ⌜ length r ≡ 12 ⌝ }
 {

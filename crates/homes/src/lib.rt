@@ -23,13 +23,13 @@ pub struct Stage {
 }
 
 // The draw after a draw; after the seed, the first. The modulus is 2^31 - 1, so 2^31 counts as 1: the high bits are added to the low ones, and nothing is divided.
-pub fn next_draw(draw: u64) -> u64
+pub fn next_draw(draw: u32) -> u32
     requires { ⌜ draw < 2147483647 ⌝ }
     ensures { λ r. ⌜ r ≡ 16807 * draw % 2147483647 ⌝ }
     ensures within { λ r. ⌜ r < 2147483647 ⌝ }
 {
-    let product = 16807 * draw;
-    let folded = product / 2147483648 + product % 2147483648;
+    let product = 16807 * draw as u64;
+    let folded = (product / 2147483648) as u32 + (product % 2147483648) as u32;
     if folded < 2147483647 {
         folded
     } else {
@@ -113,13 +113,12 @@ impl Shape {
         let n0 = self.n0;
         let s = self.s;
         let p = self.p;
-        let seed = key % 2147483646 + 1;
         let mut stage = self.first();
         let mut address = key % stage.f;
-        let mut draw = seed;
+        let mut draw = (key % 2147483646 + 1) as u32;
         while stage.f < p {
             draw = next_draw(draw);
-            let moves = draw * (stage.np + 1) <= 2147483647;
+            let moves = draw as u64 * (stage.np + 1) <= 2147483647;
             address = step(s, stage.f, stage.g, p, moves, address);
             stage = stage.next(n0);
         }

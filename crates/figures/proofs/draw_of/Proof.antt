@@ -25,10 +25,13 @@ loop-less c = search needs
 loop-again : tie.Need-loop-again Inv-loop μ-loop
 loop-again c = search needs
 
+cast-result : tie.Need-cast-result Inv-loop μ-loop
+cast-result c = search needs
+
 returns : tie.Need-returns Inv-loop μ-loop
 returns c = search needs
 
 pub draw-of-spec : {M : Type 1} → statement M
 draw-of-spec =
     tie.close
-    (tie.spec Inv-loop μ-loop loop-holds next-draw-requires add-i loop-less loop-again returns)
+    (tie.spec Inv-loop μ-loop loop-holds next-draw-requires add-i loop-less loop-again cast-result returns)

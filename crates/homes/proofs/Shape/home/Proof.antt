@@ -14,23 +14,26 @@ use Rattle.homes.proofs.Shape.home.Statement.{statement}
 use Rattle.homes.proofs.Shape.home.Tie as tie
 
 abbrev Inv-loop : tie.InvT-loop
-Inv-loop key n0 s p seed stage₀ address₀ draw₀ stage address draw = Before n0 (stage₀ .g) s p key stage address draw
+Inv-loop key n0 s p stage₀ address₀ draw₀ stage address draw = Before n0 (stage₀ .g) s p key stage address draw
 
 abbrev μ-loop : tie.MeasureT-loop
-μ-loop key n0 s p seed stage₀ address₀ draw₀ stage address draw = p - stage .f
+μ-loop key n0 s p stage₀ address₀ draw₀ stage address draw = p - stage .f
 
 -- a draw times np + 1 fits
 product-fits : (d m : ℕ) → d < 2147483647 → m ≤ 8 → d * m < 2 ^ 64
 product-fits d m b h = omega (arith, mul-le-mul-left d h)
-
-add-seed : tie.Need-add-seed Inv-loop μ-loop
-add-seed c = search needs
 
 first-requires : tie.Need-first-requires Inv-loop μ-loop
 first-requires c κs = search needs
 
 rem-address : tie.Need-rem-address Inv-loop μ-loop
 rem-address c = search needs
+
+add-draw : tie.Need-add-draw Inv-loop μ-loop
+add-draw c = search needs
+
+cast-draw : tie.Need-cast-draw Inv-loop μ-loop
+cast-draw c = search needs
 
 loop-holds : tie.Need-loop-holds Inv-loop μ-loop
 loop-holds c =
@@ -41,6 +44,9 @@ next-draw-requires : tie.Need-next-draw-requires Inv-loop μ-loop
 next-draw-requires c κs =
     let inv = c .before .before .loop .inv in
     omega (arith, inv .draw-is, draw-below (c .before .before .before .before .before .args .key) (inv .i))
+
+cast-moves : tie.Need-cast-moves Inv-loop μ-loop
+cast-moves c = search needs
 
 add-moves : tie.Need-add-moves Inv-loop μ-loop
 add-moves c = search needs
@@ -80,11 +86,13 @@ home-spec =
     (tie.spec
     Inv-loop
     μ-loop
-    add-seed
     first-requires
     rem-address
+    add-draw
+    cast-draw
     loop-holds
     next-draw-requires
+    cast-moves
     add-moves
     mul-moves
     step-requires

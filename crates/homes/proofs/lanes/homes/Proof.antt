@@ -1,21 +1,23 @@
--- `homes::lanes::homes` meets its contract. The loop's invariant is `Going`, for each lane and whichever key it started for.
+-- `homes::lanes::homes` meets its contract. The loop's invariant is `Going`, for each lane and whichever key it started for, and that all lanes fit.
 -- The measure is what is left to the size p.
-use mathlib.Core.Path.{_≡_, sym, ap, _∙_}
+use mathlib.Core.Path.{_≡_, sym, ap, subst, _∙_}
 use Prim.Native.Nat.{ℕ, _-_, _<_}
+use native.Mathlib.Nat.{mul-le-mul-right}
 use native.Mathlib.Omega.{arith}
 use borrow.Author.Needs.{needs}
 use lib.ListN.{length, getD}
 use Rattle.homes.specs.declared.Stage.{Stage}
 use Rattle.homes.specs.Homes.{home, homeIn}
-use Rattle.homes.specs.Lanes.{laneOf, startsAt}
+use Rattle.homes.specs.Lanes.{laneOf, startsAt, Fits}
 use Rattle.homes.proofs.Steps.{grows}
-use Rattle.homes.proofs.Together.{Going, begins, fitting, goes-on, doubles, arrived, mapped}
+use Rattle.homes.proofs.Together.{Going, begins, kept, twice, goes-on, doubles, arrived, mapped}
 use Rattle.homes.proofs.lanes.homes.Statement.{statement}
 use Rattle.homes.proofs.lanes.homes.Tie as tie
 
 abbrev Inv-loop : tie.InvT-loop
 Inv-loop n0 s p stage₀ lanes₀ stage lanes =
-    (i K : ℕ) → i < 12 → laneOf lanes₀ i ≡ startsAt (stage₀ .f) (stage₀ .g) K → Going n0 (stage₀ .g) s p K stage (laneOf lanes i)
+    ((i K : ℕ) → i < 12 → laneOf lanes₀ i ≡ startsAt (stage₀ .f) (stage₀ .g) K → Going n0 (stage₀ .g) s p K stage (laneOf lanes i))
+    × ((i : ℕ) → i < 16 → Fits (stage .g) (laneOf lanes i))
 
 abbrev μ-loop : tie.MeasureT-loop
 μ-loop n0 s p stage₀ lanes₀ stage lanes = p - stage .f
@@ -23,7 +25,7 @@ abbrev μ-loop : tie.MeasureT-loop
 -- a lane, on the way of its key
 way : (c : tie.At-loop Inv-loop μ-loop) (i : ℕ) → i < 12
     → Going (c .before .before .before .args .shape .n0) (c .before .before .first .result .g) (c .before .before .before .args .shape .s) (c .before .before .before .args .shape .p) (getD (c .before .before .before .args .keys) i 0) (c .loop .stage) (laneOf (c .loop .lanes) i)
-way c i h = c .loop .inv i (getD (c .before .before .before .args .keys) i 0) h (c .before .start .ensures i h)
+way c i h = c .loop .inv .0 i (getD (c .before .before .before .args .keys) i 0) h (c .before .start .ensures .0 i h)
 
 first-requires : tie.Need-first-requires Inv-loop μ-loop
 first-requires c κs = search needs
@@ -31,20 +33,22 @@ first-requires c κs = search needs
 start-requires : tie.Need-start-requires Inv-loop μ-loop
 start-requires c κs =
     let first = c .first .ensures in
+    let ranges = c .before .pre in
     let size = ap (λ (t : Stage). t .f) (first .0) in
-    (first .1 .0, first .1 .1, omega (arith, size, c .before .pre .P-low, c .before .pre .P-high))
+    let groups = ap (λ (t : Stage). t .g) (first .0) in
+    (first .1 .0, first .1 .1, omega (arith, size, groups, mul-le-mul-right (c .before .args .shape .n) (ranges .n0-high)), omega (arith, size, ranges .P-low, ranges .P-high))
 
 loop-holds : tie.Need-loop-holds Inv-loop μ-loop
-loop-holds c i K h e =
+loop-holds c =
     let first = c .before .first .ensures in
-    begins _ _ _ _ K _ _ (c .before .before .pre) (first .0) (first .1) e
+    (λ i K h e. begins _ _ _ _ K _ _ (c .before .before .pre) (first .0) (first .1) e, c .start .ensures .1)
 
 step-all-requires : tie.Need-step-all-requires Inv-loop μ-loop
 step-all-requires c κs =
     let at = c .before .before in
     let ranges = at .before .before .before .pre in
     let sound = way at 0 (omega arith) .before .sound in
-    ((ranges .s-low, ranges .s-high, sound .0, sound .1, c .if1 .taken), (ranges .P-high, omega (arith, sound .2, ranges .n0-high), λ i h. way at i h .fits))
+    ((ranges .s-low, ranges .s-high, sound .0, sound .1, c .if1 .taken), (ranges .P-high, omega (arith, sound .2, ranges .n0-high), at .loop .inv .1))
 
 next-requires : tie.Need-next-requires Inv-loop μ-loop
 next-requires c κs =
@@ -58,7 +62,7 @@ regroup-requires c κs =
     let at = step .before .before .before in
     let ranges = at .before .before .before .pre in
     let sound = way at 0 (omega arith) .before .sound in
-    (omega (arith, sound .1, step .before .if1 .taken, ranges .P-high), λ i h. fitting _ _ _ _ _ _ _ _ _ ranges (way at i h) (step .step-all .ensures i h))
+    (omega (arith, sound .1, step .before .if1 .taken, ranges .P-high), step .step-all .ensures .1)
 
 -- a step adds a page at least
 more : (c : tie.After-next Inv-loop μ-loop) → c .before .before .before .before .loop .stage .f < c .next .result .f
@@ -72,10 +76,15 @@ loop-less c =
     omega (arith, more next, next .before .before .if1 .taken)
 
 loop-again : tie.Need-loop-again Inv-loop μ-loop
-loop-again c i K h e =
+loop-again c =
     let next = c .before .before .before .before in
     let at = next .before .before .before .before in
-    doubles _ _ _ _ _ K (at .before .before .before .pre) _ _ _ (at .loop .inv i K h e) (next .before .before .if1 .taken) (next .next .ensures .0) (next .next .ensures .1) _ _ (next .before .step-all .ensures i h) (c .regroup .ensures i h) (c .before .if2 .taken)
+    let ranges = at .before .before .before .pre in
+    let more-groups = c .before .if2 .taken in
+    let size = twice _ _ _ _ _ _ ranges _ _ _ (way at 0 (omega arith)) (next .next .ensures .0) more-groups in (
+      λ i K h e. doubles _ _ _ _ _ K ranges _ _ _ (at .loop .inv .0 i K h e) (next .next .ensures .0) (at .loop .inv .1 i (omega arith) .2) (next .before .before .if1 .taken) (next .next .ensures .1) _ _ (next .before .step-all .ensures .0 i h) (c .regroup .ensures .0 i h) more-groups,
+      λ i h. subst (λ (n : ℕ). Fits n (laneOf (c .regroup .result) i)) (sym size) (c .regroup .ensures .1 i h),
+    )
 
 loop-less-2 : tie.Need-loop-less-2 Inv-loop μ-loop
 loop-less-2 c =
@@ -83,16 +92,20 @@ loop-less-2 c =
     omega (arith, more next, next .before .before .if1 .taken)
 
 loop-again-2 : tie.Need-loop-again-2 Inv-loop μ-loop
-loop-again-2 c i K h e =
+loop-again-2 c =
     let next = c .before .before .before in
     let at = next .before .before .before .before in
-    goes-on _ _ _ _ _ K (at .before .before .before .pre) _ _ _ (at .loop .inv i K h e) (next .before .before .if1 .taken) (next .next .ensures .0) (next .next .ensures .1) _ (next .before .step-all .ensures i h) (c .if2 .left)
+    let ranges = at .before .before .before .pre in
+    let size = kept _ _ _ _ _ _ ranges _ _ _ (way at 0 (omega arith)) (next .next .ensures .0) (c .if2 .left) in (
+      λ i K h e. goes-on _ _ _ _ _ K ranges _ _ _ (at .loop .inv .0 i K h e) (next .next .ensures .0) (at .loop .inv .1 i (omega arith) .2) (next .before .before .if1 .taken) (next .next .ensures .1) _ (next .before .step-all .ensures .0 i h) (c .if2 .left),
+      λ i h. subst (λ (n : ℕ). Fits n (laneOf (next .before .step-all .result) i)) (sym size) (next .before .step-all .ensures .1 i h),
+    )
 
 pages-of-requires : tie.Need-pages-of-requires Inv-loop μ-loop
 pages-of-requires c κs =
     let at = c .before .before in
     let one = way at 0 (omega arith) in
-    (omega (arith, one .small, one .before .sound), λ i h. way at i h .fits)
+    (omega (arith, one .small, one .before .sound), at .loop .inv .1)
 
 returns : tie.Need-returns Inv-loop μ-loop
 returns c =

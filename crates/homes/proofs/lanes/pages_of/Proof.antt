@@ -17,7 +17,7 @@ below : (t g r : ℕ) → g ≤ 8192 → t < 8 → r < g → t * g + r < 65536
 below t g r h k l = omega (arith, mul-le-mul-right g k)
 
 abbrev Inv-loop : tie.InvT-loop
-Inv-loop g turns groups pages₀ i₀ pages i = Passed (λ j. getD turns j 0 * g + getD groups j 0) pages i × (i ≤ 12)
+Inv-loop g turns groups pages₀ i₀ pages i = Passed 12 (λ j. getD turns j 0 * g + getD groups j 0) pages i × (i ≤ 12)
 
 abbrev μ-loop : tie.MeasureT-loop
 μ-loop g turns groups pages₀ i₀ pages i = 12 - i
@@ -26,7 +26,7 @@ abbrev μ-loop : tie.MeasureT-loop
 address : (c : lts.In-loop reads.Pre reads.Post Inv-loop μ-loop) → let at = c .before .before .before .before .args in let i = c .before .loop .i in getD (at .lanes .turns) i 0 * at .g + getD (at .lanes .groups) i 0 < 65536
 address c =
     let start = c .before .before .before .before in
-    let fits = start .pre .1 (c .before .loop .i) (c .loop-test .taken) in
+    let fits = start .pre .1 (c .before .loop .i) (omega (arith, c .loop-test .taken)) in
     below _ _ _ (start .pre .0) (fits .1) (fits .2)
 
 loop-holds : tie.Need-loop-holds Inv-loop μ-loop

@@ -1,36 +1,38 @@
 -- `homes::lanes::regroup` meets its contract. The loop's invariant: in both rows that change, the places below i are regrouped.
--- The measure is what is left of the twelve.
-use mathlib.Core.Path.{refl}
+-- The measure is what is left of the sixteen.
+use mathlib.Core.Path.{_≡_, refl, sym, subst}
 use Prim.Native.Nat.{ℕ, _+_, _-_, _*_, _/_, _%_, _≤_, _<_}
 use native.Mathlib.Nat.{mul-le-mul-right}
 use native.Mathlib.Omega.{arith}
 use borrow.Author.Needs.{needs}
 use lib.ListN.{getD}
+use Rattle.homes.specs.Lanes.{Lane, laneOf, Fits, regrouped}
 use Rattle.homes.proofs.Rowed.{Passed, none, one, over, same}
 use Rattle.homes.proofs.lanes.regroup.Statement.{statement}
 use Rattle.homes.proofs.lanes.regroup.Tie as tie
 use Rattle.homes.proofs.lanes.regroup.Reads as reads
 use Rattle.homes.proofs.lanes.regroup.Lts as lts
 
--- a group of twice as many is below 8,192
-doubled : (t g r : ℕ) → g ≤ 4096 → r < g → t % 2 * g + r < 8192
-doubled t g r h l = let most : t % 2 * g ≤ 1 * g = mul-le-mul-right g (omega arith) in omega arith
+-- a lane regrouped fits with twice as many groups
+regroup-fits : (g : ℕ) (l : Lane) → Fits g l → Fits (2 * g) (regrouped g l)
+regroup-fits g l fits =
+    let most : l .turn % 2 * g ≤ 1 * g = mul-le-mul-right g (omega arith) in
+    (fits .0, omega arith, omega (arith, most))
 
 abbrev Inv-loop : tie.InvT-loop
 Inv-loop g half draws old-turns old-groups turns₀ groups₀ i₀ turns groups i =
-    Passed (λ j. getD old-turns j 0 / 2) turns i
-    × Passed (λ j. getD old-turns j 0 % 2 * half + getD old-groups j 0) groups i
-    × (i ≤ 12)
+    Passed 16 (λ j. getD old-turns j 0 / 2) turns i
+    × Passed 16 (λ j. getD old-turns j 0 % 2 * half + getD old-groups j 0) groups i
+    × (i ≤ 16)
 
 abbrev μ-loop : tie.MeasureT-loop
-μ-loop g half draws old-turns old-groups turns₀ groups₀ i₀ turns groups i = 12 - i
+μ-loop g half draws old-turns old-groups turns₀ groups₀ i₀ turns groups i = 16 - i
 
--- the group that a turn writes
-new-group : (c : lts.In-loop reads.Pre reads.Post Inv-loop μ-loop) → let at = c .before .before .before .before .before .args in let i = c .before .loop .i in getD (at .lanes .turns) i 0 % 2 * at .g + getD (at .lanes .groups) i 0 < 8192
-new-group c =
+-- the lane that a turn writes
+writes : (c : lts.In-loop reads.Pre reads.Post Inv-loop μ-loop) → let at = c .before .before .before .before .before .args in Fits (2 * at .g) (regrouped (at .g) (laneOf (at .lanes) (c .before .loop .i)))
+writes c =
     let start = c .before .before .before .before .before in
-    let i = c .before .loop .i in
-    doubled (getD (start .args .lanes .turns) i 0) _ _ (start .pre .0) (start .pre .1 i (c .loop-test .taken) .2)
+    regroup-fits _ _ (start .pre .1 _ (c .loop-test .taken))
 
 cast-half : tie.Need-cast-half Inv-loop μ-loop
 cast-half c = search needs
@@ -44,14 +46,8 @@ mul-turn c = search needs
 array-read-turn : tie.Need-array-read-turn Inv-loop μ-loop
 array-read-turn c = search needs
 
-mul-turns : tie.Need-mul-turns Inv-loop μ-loop
-mul-turns c = search needs
-
-array-write-turns : tie.Need-array-write-turns Inv-loop μ-loop
-array-write-turns c = search needs
-
 mul-groups : tie.Need-mul-groups Inv-loop μ-loop
-mul-groups c = omega (arith, new-group c)
+mul-groups c = omega (arith, writes c)
 
 mul-groups-2 : tie.Need-mul-groups-2 Inv-loop μ-loop
 mul-groups-2 c = search needs
@@ -60,13 +56,19 @@ array-read-groups : tie.Need-array-read-groups Inv-loop μ-loop
 array-read-groups c = search needs
 
 add-groups : tie.Need-add-groups Inv-loop μ-loop
-add-groups c = omega (arith, new-group c)
+add-groups c = omega (arith, writes c)
 
 mul-groups-3 : tie.Need-mul-groups-3 Inv-loop μ-loop
 mul-groups-3 c = search needs
 
 array-write-groups : tie.Need-array-write-groups Inv-loop μ-loop
 array-write-groups c = search needs
+
+mul-turns : tie.Need-mul-turns Inv-loop μ-loop
+mul-turns c = search needs
+
+array-write-turns : tie.Need-array-write-turns Inv-loop μ-loop
+array-write-turns c = search needs
 
 add-i : tie.Need-add-i Inv-loop μ-loop
 add-i c = search needs
@@ -81,10 +83,12 @@ loop-again c =
     (one _ _ _ _ (inv .0) h refl, one _ _ _ _ (inv .1) h refl, search needs)
 
 returns : tie.Need-returns Inv-loop μ-loop
-returns c i h =
+returns c =
+    let start = c .before .before .before .before .before in
     let inv = c .before .loop .inv in
     let end = c .loop-test .left in
-    same refl (over (inv .0) end i h) (over (inv .1) end i h)
+    let each : (i : ℕ) → i < 16 → _ ≡ regrouped (start .args .g) (laneOf (start .args .lanes) i) = λ i h. same refl (over (inv .0) end i h) (over (inv .1) end i h) in
+    (λ i h. each i (omega arith), λ i h. subst (Fits (2 * start .args .g)) (sym (each i h)) (regroup-fits _ _ (start .pre .1 i h)))
 
 pub regroup-spec : {M : Type 1} → statement M
 regroup-spec =
@@ -96,14 +100,14 @@ regroup-spec =
     loop-holds
     mul-turn
     array-read-turn
-    mul-turns
-    array-write-turns
     mul-groups
     mul-groups-2
     array-read-groups
     add-groups
     mul-groups-3
     array-write-groups
+    mul-turns
+    array-write-turns
     add-i
     loop-less
     loop-again

@@ -1,42 +1,70 @@
--- `homes::lanes::start` meets its contract. The loop's invariant: in each row the places below i are as they start.
+-- `homes::lanes::start` meets its contract. The loop's invariant: in each row the places below i are as they start, and the others 0.
 -- The measure is what is left of the twelve.
-use mathlib.Core.Path.{refl}
-use Prim.Native.Nat.{ℕ, _-_, _/_, _%_, _≤_, _<_}
-use native.Mathlib.Nat.{mod-lt, mod-le, div-le-self}
+use mathlib.Core.Path.{_≡_, refl, sym, subst, _∙_}
+use mathlib.Core.List.{List}
+use mathlib.Core.Logic.{⊎-elim}
+use Prim.Native.Nat.{ℕ, _+_, _-_, _*_, _/_, _%_, _≤_, _<_}
+use native.Mathlib.Nat.{mod-lt, div-lt-iff-lt-mul}
 use native.Mathlib.Omega.{arith}
 use borrow.Author.Needs.{needs}
-use lib.ListN.{getD}
-use Rattle.homes.specs.Lanes.{startsAt}
+use lib.ListN.{length, getD, set, replicate, getD-replicate, List·getD-eq-default}
+use lib.Seq.{getD-set-other}
+use Rattle.homes.specs.declared.lanes.Lanes.{Lanes}
+use Rattle.homes.specs.Lanes.{laneOf, startsAt, Fits}
+use Rattle.homes.proofs.New.{split}
 use Rattle.homes.proofs.Rowed.{Passed, none, one, over, same}
 use Rattle.homes.proofs.lanes.start.Statement.{statement}
 use Rattle.homes.proofs.lanes.start.Tie as tie
 use Rattle.homes.proofs.lanes.start.Reads as reads
 use Rattle.homes.proofs.lanes.start.Lts as lts
 
--- turn and group of an address below 4,096 are no larger
-small : (x f g : ℕ) → 1 ≤ g → g ≤ f → f ≤ 4096 → (x % f / g < 4096) × (x % f % g < 4096)
-small x f g h k l =
-    let low : x % f < f = mod-lt x (omega arith) in
-    (omega (arith, div-le-self (x % f) g), omega (arith, mod-le (x % f) g))
+-- a key's lane fits at the start
+start-fits : (f g K : ℕ) → 1 ≤ g → g ≤ f → f ≤ 4 * g → Fits g (startsAt f g K)
+start-fits f g K h k l =
+    let below : K % f < 4 * g = omega (arith, mod-lt K {m = f} (omega arith)) in
+    let turns : K % f / g < 4 = div-lt-iff-lt-mul h .1 below in
+    (omega arith, omega arith, mod-lt (K % f) h)
+
+-- the places not passed are 0
+record Rest (row : List ℕ) (i : ℕ) : Type 0 where
+  zeros : (j : ℕ) → i ≤ j → j < 16 → getD row j 0 ≡ 0
+
+-- It holds at the start.
+rest : Rest (replicate 16 0) 0
+rest = record { zeros = λ j l h. getD-replicate 16 j 0 0 h }
+
+-- A turn keeps it.
+rest-on : (row : List ℕ) (i v : ℕ) → Rest row i → Rest (set row i v) (i + 1)
+rest-on row i v q = record { zeros = λ j h l. getD-set-other row i j v 0 (λ e. omega arith) ∙ q .zeros j (omega arith) l }
+
+-- So all lanes fit: those that started, and the idle ones.
+all-fit : (f g : ℕ) (keys : List ℕ) (ls : Lanes) (i : ℕ) → (1 ≤ g) × (g ≤ f) × (f ≤ 4 * g) × (f ≤ 4096) → length (ls .draws) ≡ 12 → Rest (ls .turns) i → Rest (ls .groups) i → i ≤ 12 → ((j : ℕ) → j < 12 → laneOf ls j ≡ startsAt f g (getD keys j 0)) → (j : ℕ) → j < 16 → Fits g (laneOf ls j)
+all-fit f g keys ls i pre d t r top each j h =
+    ⊎-elim
+    (λ l. subst (Fits g) (sym (each j l)) (start-fits f g (getD keys j 0) (pre .0) (pre .1) (pre .2)))
+    (λ l. (omega (arith, List·getD-eq-default (ls .draws) 0 {n = j} (omega (arith, d))), omega (arith, t .zeros j (omega arith) h), omega (arith, r .zeros j (omega arith) h, pre .0)))
+    (split j 12)
 
 abbrev Inv-loop : tie.InvT-loop
 Inv-loop f g keys draws₀ turns₀ groups₀ i₀ draws turns groups i =
-    Passed (λ j. startsAt f g (getD keys j 0) .draw) draws i
-    × Passed (λ j. startsAt f g (getD keys j 0) .turn) turns i
-    × Passed (λ j. startsAt f g (getD keys j 0) .group) groups i
+    Passed 12 (λ j. startsAt f g (getD keys j 0) .draw) draws i
+    × Passed 16 (λ j. startsAt f g (getD keys j 0) .turn) turns i
+    × Passed 16 (λ j. startsAt f g (getD keys j 0) .group) groups i
+    × Rest turns i
+    × Rest groups i
     × (i ≤ 12)
 
 abbrev μ-loop : tie.MeasureT-loop
 μ-loop f g keys draws₀ turns₀ groups₀ i₀ draws turns groups i = 12 - i
 
--- the turn and the group of a turn's key
-starts : (c : lts.In-loop reads.Pre reads.Post Inv-loop μ-loop) → let at = c .before .before .args in let x = getD (at .t1) (c .before .loop .i) 0 in (x % at .f / at .g < 4096) × (x % at .f % at .g < 4096)
+-- the lane of a turn's key
+starts : (c : lts.In-loop reads.Pre reads.Post Inv-loop μ-loop) → let at = c .before .before .args in Fits (at .g) (startsAt (at .f) (at .g) (getD (at .t1) (c .before .loop .i) 0))
 starts c =
     let start = c .before .before in
-    small _ _ _ (start .pre .0) (start .pre .1) (start .pre .2)
+    start-fits _ _ _ (start .pre .0) (start .pre .1) (start .pre .2)
 
 loop-holds : tie.Need-loop-holds Inv-loop μ-loop
-loop-holds c = (none _ _ refl, none _ _ refl, none _ _ refl, search needs)
+loop-holds c = (none _ _ refl, none _ _ refl, none _ _ refl, rest, rest, search needs)
 
 mul-key : tie.Need-mul-key Inv-loop μ-loop
 mul-key c = search needs
@@ -92,14 +120,22 @@ loop-less c = search needs
 loop-again : tie.Need-loop-again Inv-loop μ-loop
 loop-again c =
     let inv = c .before .loop .inv in
-    let h = c .loop-test .taken in
-    (one _ _ _ _ (inv .0) h refl, one _ _ _ _ (inv .1) h refl, one _ _ _ _ (inv .2) h refl, search needs)
+    let h = c .loop-test .taken in (
+      one _ _ _ _ (inv .0) h refl,
+      one _ _ _ _ (inv .1) (omega arith) refl,
+      one _ _ _ _ (inv .2) (omega arith) refl,
+      rest-on _ _ _ (inv .3),
+      rest-on _ _ _ (inv .4),
+      search needs,
+    )
 
 returns : tie.Need-returns Inv-loop μ-loop
-returns c i h =
+returns c =
+    let start = c .before .before in
     let inv = c .before .loop .inv in
     let end = c .loop-test .left in
-    same (over (inv .0) end i h) (over (inv .1) end i h) (over (inv .2) end i h)
+    let each : (i : ℕ) → i < 12 → _ = λ i h. same (over (inv .0) end i h) (over (inv .1) end i h) (over (inv .2) end i h) in
+    (each, all-fit _ _ (start .args .t1) (record { draws = c .before .loop .draws; turns = _; groups = _ }) _ (start .pre) (inv .0 .long) (inv .3) (inv .4) (inv .5) each)
 
 pub start-spec : {M : Type 1} → statement M
 start-spec =

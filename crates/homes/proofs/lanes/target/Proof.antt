@@ -1,4 +1,4 @@
--- `homes::lanes::target` meets its contract: the number times `share` is the quotient by s, and the rest is the sweeps' sum.
+-- `homes::lanes::target` meets its contract: twice the number times `share` gives the quotient by s, and the rest is the sweeps' sum.
 --
 use mathlib.Core.Path.{_≡_}
 use mathlib.Core.Logic.{⊎-elim}
@@ -14,11 +14,11 @@ use Rattle.homes.proofs.lanes.target.Reads as reads
 use Rattle.homes.proofs.lanes.target.Lts as lts
 
 -- the product with `share` fits
-product : (s share k : ℕ) → share ≡ 32768 / s + 1 → k < 4096 → k * share ≤ 4096 * 32769
-product s share k e h = mul-le-mul {n₂ = 4096} {m₂ = 32769} (omega arith) (omega (arith, div-le-self 32768 s))
+product : (s share k : ℕ) → share ≡ 32768 / s + 1 → k < 4096 → 2 * k * share ≤ 8192 * 32769
+product s share k e h = mul-le-mul {n₂ = 8192} {m₂ = 32769} (omega arith) (omega (arith, div-le-self 32768 s))
 
 -- it gives the quotient
-quotient : (s share k : ℕ) → 1 ≤ s → s ≤ 8 → share ≡ 32768 / s + 1 → k < 4096 → k * share / 32768 ≡ k / s
+quotient : (s share k : ℕ) → 1 ≤ s → s ≤ 8 → share ≡ 32768 / s + 1 → k < 4096 → 2 * k * share / 65536 ≡ k / s
 quotient zero share k h l e b = absurd (omega arith)
 quotient (suc zero) share k h l e b = rw e (omega arith)
 quotient (suc (suc zero)) share k h l e b = rw e (omega arith)
@@ -51,10 +51,14 @@ order c = c .args .g - 1 - c .args .group
 
 -- its row, and what is left of it there
 abbrev row : lts.Start reads.Pre reads.Post → ℕ
-row c = order c * c .args .share / 32768
+row c = 2 * order c * c .args .share / 65536
 
 abbrev over : lts.Start reads.Pre reads.Post → ℕ
 over c = order c - row c * c .args .s
+
+-- the product that the row comes from
+product-fits : (c : lts.Start reads.Pre reads.Post) → 2 * order c * c .args .share ≤ 8192 * 32769
+product-fits c = product (c .args .s) (c .args .share) (order c) (c .pre .2) (omega arith)
 
 row-is : (c : lts.Start reads.Pre reads.Post) → (row c ≡ order c / c .args .s) × (row c * c .args .s ≤ order c) × (over c ≡ order c % c .args .s)
 row-is c =
@@ -74,7 +78,16 @@ sub-k-2 : tie.Need-sub-k-2
 sub-k-2 c = search needs
 
 mul-row : tie.Need-mul-row
-mul-row c = omega (arith, product (c .args .s) (c .args .share) (order c) (c .pre .2) (omega arith))
+mul-row c = search needs
+
+cast-row : tie.Need-cast-row
+cast-row c = search needs
+
+mul-row-2 : tie.Need-mul-row-2
+mul-row-2 c = omega (arith, product-fits c)
+
+cast-row-2 : tie.Need-cast-row-2
+cast-row-2 c = omega (arith, product-fits c)
 
 mul-w : tie.Need-mul-w
 mul-w c = omega (arith, row-is c)
@@ -95,4 +108,18 @@ returns : tie.Need-returns
 returns c = result-is (c .before)
 
 pub target-spec : {M : Type 1} → statement M
-target-spec = tie.close (tie.spec sub-k sub-k-2 mul-row mul-w sub-w mul-result add-result add-result-2 returns)
+target-spec =
+    tie.close
+    (tie.spec
+    sub-k
+    sub-k-2
+    mul-row
+    cast-row
+    mul-row-2
+    cast-row-2
+    mul-w
+    sub-w
+    mul-result
+    add-result
+    add-result-2
+    returns)

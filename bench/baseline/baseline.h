@@ -1,25 +1,25 @@
-// The register in plain C: the seven calls of the scope, to measure the proved ones against.
+// The register in plain C: the seven calls of c/reefcushion.h, to measure the proved ones against. Slip, area, row and
+// refusals are the same; only a slip of another length can't be told, since its length isn't asked.
 #pragma once
+#include <stdbool.h>
 #include <stddef.h>
 #include <stdint.h>
 
-// The state of a file, then the answer to the last call: 40 bytes without padding.
-struct slip {
-    uint16_t n0, groups, sweeps, pages, cap, zero;
-    uint32_t records;
-    uint64_t value;
-    uint32_t read, moved;
-    uint16_t refusal, page;
-    uint32_t zeros;
-};
+#include "../../c/reefcushion.h"
+
+// How the homes of a page's records are worked out. False, as at the start: key by key, for the records that there are,
+// which is the way of the proved calls. True: for all twelve slots in step, in loops that tell the compiler to use
+// vectors, as an expert would write them. The answers are the same.
+extern bool baseline_in_step;
 
 // Each gives the refusal, 0 for an accepted call, and leaves the answer in the slip.
-uint32_t baseline_format(struct slip *slip, uint8_t *area, size_t bytes, uint16_t n0, uint16_t groups, uint16_t sweeps, uint16_t cap);
-uint32_t baseline_find(struct slip *slip, const uint8_t *area, size_t bytes, uint64_t key);
-uint32_t baseline_put(struct slip *slip, uint8_t *area, size_t bytes, uint64_t key, uint64_t value);
-uint32_t baseline_remove(struct slip *slip, uint8_t *area, size_t bytes, uint64_t key);
-uint32_t baseline_grow(struct slip *slip, uint8_t *area, size_t bytes, uint32_t *row, size_t counts);
-uint32_t baseline_check(struct slip *slip, const uint8_t *area, size_t bytes);
+uint32_t baseline_format(struct reefcushion_slip *slip, uint8_t *area, size_t bytes, uint16_t n0, uint16_t groups,
+                         uint16_t sweeps, uint16_t cap);
+uint32_t baseline_find(struct reefcushion_slip *slip, const uint8_t *area, size_t bytes, uint64_t key);
+uint32_t baseline_put(struct reefcushion_slip *slip, uint8_t *area, size_t bytes, uint64_t key, uint64_t value);
+uint32_t baseline_remove(struct reefcushion_slip *slip, uint8_t *area, size_t bytes, uint64_t key);
+uint32_t baseline_grow(struct reefcushion_slip *slip, uint8_t *area, size_t bytes, uint32_t *row, size_t counts);
+uint32_t baseline_check(struct reefcushion_slip *slip, const uint8_t *area, size_t bytes);
 
 // 1 where growth is due, otherwise 0.
-uint32_t baseline_due(const struct slip *slip);
+uint32_t baseline_due(const struct reefcushion_slip *slip);

@@ -2,8 +2,7 @@
 #include "baseline_parts.h"
 
 // Every slot is looked at, full or empty, so that nothing has to be guessed about their number.
-static bool slots_hold(const uint8_t *page, uint32_t used, uint64_t key[SLOTS])
-{
+static bool slots_hold(const uint8_t *page, uint32_t used, uint64_t key[SLOTS]) {
     uint64_t wrong = 0;
     for (uint32_t i = 0; i < SLOTS; i++) {
         const uint8_t *slot = page + HEAD_BYTES + SLOT_BYTES * i;
@@ -15,8 +14,7 @@ static bool slots_hold(const uint8_t *page, uint32_t used, uint64_t key[SLOTS])
     return !wrong;
 }
 
-static bool rises(const struct sight *sight)
-{
+static bool rises(const struct sight *sight) {
     bool wrong = false;
     for (uint32_t i = 1; i < SLOTS; i++)
         wrong |= (i < sight->used) & !before(sight->home[i - 1], sight->key[i - 1], sight->home[i], sight->key[i]);
@@ -24,45 +22,47 @@ static bool rises(const struct sight *sight)
 }
 
 // Homes rise, so the last one alone has to be at most the address.
-bool baseline_judge(const struct way *way, const uint8_t *area, uint32_t address, struct sight *sight)
-{
-    const uint8_t *page = area + (size_t)PAGE_BYTES * address;
+bool baseline_judge(const struct way *way, const uint8_t *area, uint32_t address, struct sight *sight) {
+    const uint8_t *page = area + page_start(address);
     const uint64_t head = PAGE_BYTES | 0x0011 << 16 | (uint64_t)address << 32;
-    sight->used = load16(page + 8);
+    sight->used = used_on(page);
     if (load64(page) != head || load64(page + 8) > SLOTS || !slots_hold(page, sight->used, sight->key))
         return false;
-    if (sight->used == 0)
+    if (sight->used == 0) {
+        memset(sight->home, 0, sizeof sight->home);
         return true;
-    baseline_homes(way, sight->key, sight->home);
+    }
+    baseline_homes(way, sight);
     return sight->home[sight->used - 1] <= address && rises(sight);
 }
 
 // A file as it is looked at from page 0 upward.
 struct survey {
     uint32_t records;
-    bool image;       // so far every record lies where an image has it
-    uint32_t run;     // every page from here to the one before this is full
+    bool image;   // so far every record lies where an image has it
+    uint32_t run; // every page from here to the one before this is full
     uint32_t last_home;
     uint64_t last_key;
 };
 
 // One page more. After a page that isn't full all records have their home here, so they stand after all before them.
-static void survey_page(struct survey *survey, const struct sight *sight, uint32_t address)
-{
+static void survey_page(struct survey *survey, const struct sight *sight, uint32_t address) {
     if (sight->used) {
-        bool rising = survey->run == address || before(survey->last_home, survey->last_key, sight->home[0], sight->key[0]);
+        bool rising =
+            survey->run == address || before(survey->last_home, survey->last_key, sight->home[0], sight->key[0]);
         survey->image &= (sight->home[0] >= survey->run) & rising;
     }
     survey->records += sight->used;
+    if (sight->used < SLOTS) {
+        survey->run = address + 1;
+        return;
+    }
     survey->last_home = sight->home[SLOTS - 1];
     survey->last_key = sight->key[SLOTS - 1];
-    if (sight->used < SLOTS)
-        survey->run = address + 1;
 }
 
 // Homes rise, so where the first is the page itself all are.
-static void count_homes(uint16_t count[], const struct sight *sight, uint32_t address)
-{
+static void count_homes(uint16_t count[], const struct sight *sight, uint32_t address) {
     if (sight->used && sight->home[0] == address) {
         count[address] += sight->used;
         return;
@@ -71,25 +71,21 @@ static void count_homes(uint16_t count[], const struct sight *sight, uint32_t ad
         count[sight->home[i]]++;
 }
 
-uint32_t baseline_survey(struct slip *slip, const struct way *way, const uint8_t *area, uint16_t *count)
-{
+uint32_t baseline_survey(struct reefcushion_slip *slip, const struct way *way, const uint8_t *area, uint16_t *count) {
     struct sight sight;
     struct survey survey = {.image = true};
     for (uint32_t address = 0; address < slip->cap; address++) {
-        if (!baseline_judge(way, area, address, &sight)) {
-            baseline_answer(slip, BROKEN, address + 1);
-            slip->page = (uint16_t)address;
-            return BROKEN;
-        }
+        if (!baseline_judge(way, area, address, &sight))
+            return baseline_broken(slip, address, address + 1);
         survey_page(&survey, &sight, address);
         if (count)
             count_homes(count, &sight, address);
     }
-    return baseline_answer(slip, survey.image && survey.records == slip->records ? ACCEPTED : NOT_IMAGE, slip->cap);
+    bool image = survey.image && survey.records == slip->records;
+    return baseline_answer(slip, image ? REEFCUSHION_ACCEPTED : REEFCUSHION_NOT_IMAGE, slip->cap);
 }
 
-uint32_t baseline_check(struct slip *slip, const uint8_t *area, size_t bytes)
-{
+uint32_t baseline_check(struct reefcushion_slip *slip, const uint8_t *area, size_t bytes) {
     uint32_t refusal = baseline_gate(slip, bytes);
     if (refusal)
         return baseline_answer(slip, refusal, 0);

@@ -1,8 +1,9 @@
 // Grow of the plain register.
-#include "baseline_parts.h"
+#include "baseline_steps.h"
 
-// A growth at work. In an image the number of records of each home says where every record lies: its place is counted in slots from the area's start.
-enum { ROOM = 32 };  // movers taken out in one round; where there are more, there are more rounds
+// A growth at work. In an image the number of records of each home says where every record lies: its place is counted
+// in slots from the area's start.
+enum { ROOM = 32 }; // movers taken out in one round; where there are more, there are more rounds
 
 struct mover {
     uint64_t key, value;
@@ -11,29 +12,26 @@ struct mover {
 
 struct growth {
     uint8_t *area;
-    uint32_t pages, cap;                  // before the growth
-    uint32_t group, groups, turn, steps;  // the group that grows into the new page; the step under way, and its number
+    uint32_t pages, cap;                 // before the growth
+    uint32_t group, groups, turn, steps; // the group that grows into the new page; the step under way, and its number
     uint32_t taken, moved;
     struct mover mover[ROOM];
-    uint16_t count[MOST_PAGES];           // of each home, as the records lie now
+    uint16_t count[MOST_PAGES]; // of each home, as the records lie now
 };
 
-static uint8_t *slot_at(const struct growth *growth, uint32_t place)
-{
-    return slot_of(growth->area + (size_t)PAGE_BYTES * (place / SLOTS), place % SLOTS);
+static uint8_t *slot_at(const struct growth *growth, uint32_t place) {
+    return slot_of(growth->area + page_start(place / SLOTS), place % SLOTS);
 }
 
-static uint32_t first_place(uint32_t home, uint32_t end)
-{
+static uint32_t first_place(uint32_t home, uint32_t end) {
     return end < SLOTS * home ? SLOTS * home : end;
 }
 
 // The group whose new page is the next one: the rule for new pages turned round.
-static void find_group(struct growth *growth, const struct way *way)
-{
+static void find_group(struct growth *growth, const struct way *way) {
     struct step step = way->first;
     for (growth->steps = 1; step.size + step.groups <= way->pages; growth->steps++)
-        baseline_next_step(way, &step);
+        next_step(way, &step);
     uint32_t row = way->pages - step.size, sweep = 0;
     for (; row >= step.each + (uint32_t)(sweep < step.more); sweep++)
         row -= step.each + (uint32_t)(sweep < step.more);
@@ -43,8 +41,7 @@ static void find_group(struct growth *growth, const struct way *way)
 }
 
 // Notes the movers of one home, as many as there is room for, and gives the number of them all.
-static uint32_t note_home(struct growth *growth, uint32_t place, uint32_t count)
-{
+static uint32_t note_home(struct growth *growth, uint32_t place, uint32_t count) {
     uint32_t all = 0;
     for (uint32_t end = place + count; place < end; place++) {
         const uint8_t *slot = slot_at(growth, place);
@@ -59,8 +56,7 @@ static uint32_t note_home(struct growth *growth, uint32_t place, uint32_t count)
 }
 
 // Notes the movers of the group. Their number goes from their homes' counts in the row to the new page's.
-static uint32_t note_movers(struct growth *growth, uint32_t *row)
-{
+static uint32_t note_movers(struct growth *growth, uint32_t *row) {
     uint32_t end = 0, all = 0, next = growth->group;
     growth->taken = 0;
     for (uint32_t home = 0; home < growth->groups * growth->turn; home++) {
@@ -79,22 +75,19 @@ static uint32_t note_movers(struct growth *growth, uint32_t *row)
     return all;
 }
 
-static bool has_room(const struct growth *growth, const uint32_t *row)
-{
+static bool has_room(const struct growth *growth, const uint32_t *row) {
     uint32_t end = 0;
     for (uint32_t home = 0; home <= growth->pages; home++)
         end = first_place(home, end) + row[home];
     return end <= SLOTS * growth->cap;
 }
 
-static uint32_t lesser(uint32_t left, uint32_t right)
-{
+static uint32_t lesser(uint32_t left, uint32_t right) {
     return left < right ? left : right;
 }
 
 // Moves as many records as lie on one page and go to one page, and gives their number.
-static uint32_t move_some(struct growth *growth, uint32_t from, uint32_t to, uint32_t most)
-{
+static uint32_t move_some(struct growth *growth, uint32_t from, uint32_t to, uint32_t most) {
     uint32_t count = lesser(most, lesser(SLOTS - from % SLOTS, SLOTS - to % SLOTS));
     memmove(slot_at(growth, to), slot_at(growth, from), (size_t)SLOT_BYTES * count);
     growth->moved += from / SLOTS != to / SLOTS ? count : 0;
@@ -102,8 +95,7 @@ static uint32_t move_some(struct growth *growth, uint32_t from, uint32_t to, uin
 }
 
 // Closes up where the noted movers were, and gives the place after the last record.
-static uint32_t close_up(struct growth *growth)
-{
+static uint32_t close_up(struct growth *growth) {
     uint32_t from = 0, to = 0, next = 0;
     for (uint32_t home = 0; home <= growth->pages; home++) {
         from = first_place(home, from);
@@ -124,8 +116,7 @@ static uint32_t close_up(struct growth *growth)
     return to;
 }
 
-static void sort_movers(struct growth *growth)
-{
+static void sort_movers(struct growth *growth) {
     for (uint32_t i = 1; i < growth->taken; i++) {
         struct mover mover = growth->mover[i];
         uint32_t to = i;
@@ -136,8 +127,7 @@ static void sort_movers(struct growth *growth)
 }
 
 // Merges the noted movers into those that the new page has already, from the highest key down.
-static void lay_movers(struct growth *growth, uint32_t end)
-{
+static void lay_movers(struct growth *growth, uint32_t end) {
     uint32_t held = growth->count[growth->pages], left = growth->taken;
     while (left) {
         const struct mover *mover = &growth->mover[left - 1];
@@ -155,13 +145,12 @@ static void lay_movers(struct growth *growth, uint32_t end)
 }
 
 // Gives each page its number of records, and blanks the slots that records have left.
-static void set_pages(const struct growth *growth)
-{
+static void set_pages(const struct growth *growth) {
     uint32_t end = 0;
     for (uint32_t address = 0; address < growth->cap; address++) {
-        uint8_t *page = growth->area + (size_t)PAGE_BYTES * address;
+        uint8_t *page = growth->area + page_start(address);
         end = first_place(address, end) + growth->count[address];
-        uint32_t held = load16(page + 8), used = end - SLOTS * address;
+        uint32_t held = used_on(page), used = end - SLOTS * address;
         used = used < SLOTS ? used : SLOTS;
         if (held == used)
             continue;
@@ -172,22 +161,20 @@ static void set_pages(const struct growth *growth)
 }
 
 // Over several rounds a record can move more than once, so each carries its first page in its mark until it is counted.
-static void stamp(const struct growth *growth)
-{
+static void stamp(const struct growth *growth) {
     for (uint32_t address = 0; address < growth->cap; address++) {
-        uint8_t *page = growth->area + (size_t)PAGE_BYTES * address;
-        for (uint32_t i = 0; i < load16(page + 8); i++)
+        uint8_t *page = growth->area + page_start(address);
+        for (uint32_t i = 0; i < used_on(page); i++)
             memcpy(slot_of(page, i), &address, 4);
     }
 }
 
-static uint32_t count_stamped(const struct growth *growth)
-{
+static uint32_t count_stamped(const struct growth *growth) {
     const uint32_t mark = MARK_RECORD;
     uint32_t moved = 0;
     for (uint32_t address = 0; address < growth->cap; address++) {
-        uint8_t *page = growth->area + (size_t)PAGE_BYTES * address;
-        for (uint32_t i = 0; i < load16(page + 8); i++) {
+        uint8_t *page = growth->area + page_start(address);
+        for (uint32_t i = 0; i < used_on(page); i++) {
             moved += load32(slot_of(page, i)) != address;
             memcpy(slot_of(page, i), &mark, 4);
         }
@@ -196,8 +183,7 @@ static uint32_t count_stamped(const struct growth *growth)
 }
 
 // Takes all movers to the new page, and gives how many records changed page.
-static uint32_t rearrange(struct growth *growth, uint32_t movers)
-{
+static uint32_t rearrange(struct growth *growth, uint32_t movers) {
     const bool once = movers <= ROOM;
     if (!once) {
         stamp(growth);
@@ -215,14 +201,13 @@ static uint32_t rearrange(struct growth *growth, uint32_t movers)
     return once ? growth->moved : count_stamped(growth);
 }
 
-uint32_t baseline_grow(struct slip *slip, uint8_t *area, size_t bytes, uint32_t *row, size_t counts)
-{
+uint32_t baseline_grow(struct reefcushion_slip *slip, uint8_t *area, size_t bytes, uint32_t *row, size_t counts) {
     struct growth growth;
     uint32_t refusal = baseline_gate(slip, bytes);
     if (!refusal && counts != slip->cap)
-        refusal = BAD_ROW;
+        refusal = REEFCUSHION_WRONG_ROW;
     if (!refusal && slip->pages == slip->cap)
-        refusal = AT_CAP;
+        refusal = REEFCUSHION_AT_CAP;
     if (refusal)
         return baseline_answer(slip, refusal, 0);
     struct way way = baseline_way(slip);
@@ -239,8 +224,8 @@ uint32_t baseline_grow(struct slip *slip, uint8_t *area, size_t bytes, uint32_t 
         row[home] = growth.count[home];
     uint32_t movers = note_movers(&growth, row);
     if (!has_room(&growth, row))
-        return baseline_answer(slip, NO_ROOM, slip->cap);
+        return baseline_answer(slip, REEFCUSHION_NO_ROOM, slip->cap);
     slip->moved = rearrange(&growth, movers);
     slip->pages++;
-    return ACCEPTED;
+    return REEFCUSHION_ACCEPTED;
 }

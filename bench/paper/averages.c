@@ -1,26 +1,29 @@
 // Averages over a full expansion and over loadings.
 #include <stdlib.h>
+
 #include "paper.h"
 
-// The sizes looked at are evenly spaced over the full expansion. Each loading takes its own, between those of the others, so that all together are the more.
-static int size_at(Effort effort, int loading, int point) {
+// The sizes looked at are evenly spaced over the full expansion. Each loading takes its own, between those of the
+// others, so that all together are the more.
+static int size_at(struct effort effort, int loading, int point) {
     int all = effort.loadings * effort.points;
     int place = point * effort.loadings + loading;
     return FIRST + FIRST * (2 * place + 1) / (2 * all);
 }
 
-static Cost plus(Cost a, Cost b) {
-    return (Cost){a.hit + b.hit, a.miss + b.miss, a.his + b.his};
+static struct cost plus(struct cost a, struct cost b) {
+    return (struct cost){a.hit + b.hit, a.miss + b.miss, a.his + b.his};
 }
 
-static Cost over(Cost a, double by) {
-    return (Cost){a.hit / by, a.miss / by, a.his / by};
+static struct cost over(struct cost a, double by) {
+    return (struct cost){a.hit / by, a.miss / by, a.his / by};
 }
 
-// The files that one loading becomes over the expansion. Where it is grown too, from the fresh file on, both have to be the same at each size.
-static Cost product_loading(Kind kind, Effort effort, int loading, bool grown) {
-    static File laid, growing;
-    Cost sum = {0, 0, 0};
+// The files that one loading becomes over the expansion. Where it is grown too, from the fresh file on, both have to be
+// the same at each size.
+static struct cost product_loading(struct kind kind, struct effort effort, int loading, bool grown) {
+    static struct file laid, growing;
+    struct cost sum = {0, 0, 0};
     if (grown)
         format_file(&growing, kind, (uint64_t)loading);
     for (int point = 0; point < effort.points; point++) {
@@ -36,33 +39,34 @@ static Cost product_loading(Kind kind, Effort effort, int loading, bool grown) {
     return over(sum, effort.points);
 }
 
-static Cost counted_loading(Kind kind, Effort effort, int loading, int slots) {
-    Cost sum = {0, 0, 0};
+static struct cost counted_loading(struct kind kind, struct effort effort, int loading, int slots) {
+    struct cost sum = {0, 0, 0};
     for (int point = 0; point < effort.points; point++)
         sum = plus(sum, counted_at(kind, (uint64_t)loading, size_at(effort, loading, point), slots));
     return over(sum, effort.points);
 }
 
-static Figure figure(double sum, double squares, int count) {
+static struct figure figure(double sum, double squares, int count) {
     double mean = sum / count;
     double variance = (squares / count - mean * mean) / (count - 1);
-    return (Figure){mean, variance > 0 ? __builtin_sqrt(variance) : 0};
+    return (struct figure){mean, variance > 0 ? __builtin_sqrt(variance) : 0};
 }
 
-static Averages averages(Cost sum, Cost squares, int count) {
-    return (Averages){figure(sum.hit, squares.hit, count), figure(sum.miss, squares.miss, count), figure(sum.his, squares.his, count)};
+static struct averages averages(struct cost sum, struct cost squares, int count) {
+    return (struct averages){figure(sum.hit, squares.hit, count), figure(sum.miss, squares.miss, count),
+                             figure(sum.his, squares.his, count)};
 }
 
-static Cost squared(Cost a) {
-    return (Cost){a.hit * a.hit, a.miss * a.miss, a.his * a.his};
+static struct cost squared(struct cost a) {
+    return (struct cost){a.hit * a.hit, a.miss * a.miss, a.his * a.his};
 }
 
-static Averages product_measured(Kind kind, Effort effort) {
-    Cost sum = {0, 0, 0}, squares = {0, 0, 0};
-    bool named = same_kind(kind, (Kind){2, 5, 8});
+static struct averages product_measured(struct kind kind, struct effort effort) {
+    struct cost sum = {0, 0, 0}, squares = {0, 0, 0};
+    bool named = same_kind(kind, (struct kind){2, 5, 8});
     for (int loading = 0; loading < effort.loadings; loading++) {
         bool grown = effort.grown == GROWN_ALL || (effort.grown == GROWN_ONE && named && loading == 0);
-        Cost cost = product_loading(kind, effort, loading, grown);
+        struct cost cost = product_loading(kind, effort, loading, grown);
         sum = plus(sum, cost);
         squares = plus(squares, squared(cost));
     }
@@ -70,10 +74,10 @@ static Averages product_measured(Kind kind, Effort effort) {
 }
 
 // Five sweeps at load 0.8 stand in two tables and are measured once. There are twenty cells in all.
-Averages product_averages(Kind kind, Effort effort) {
+struct averages product_averages(struct kind kind, struct effort effort) {
     static struct {
-        Kind kind;
-        Averages averages;
+        struct kind kind;
+        struct averages averages;
     } known[20];
     static int count;
     for (int i = 0; i < count; i++) {
@@ -87,10 +91,10 @@ Averages product_averages(Kind kind, Effort effort) {
     return known[count++].averages;
 }
 
-Averages counted_averages(Kind kind, Effort effort, int slots) {
-    Cost sum = {0, 0, 0}, squares = {0, 0, 0};
+struct averages counted_averages(struct kind kind, struct effort effort, int slots) {
+    struct cost sum = {0, 0, 0}, squares = {0, 0, 0};
     for (int loading = 0; loading < effort.loadings; loading++) {
-        Cost cost = counted_loading(kind, effort, loading, slots);
+        struct cost cost = counted_loading(kind, effort, loading, slots);
         sum = plus(sum, cost);
         squares = plus(squares, squared(cost));
     }
@@ -98,10 +102,10 @@ Averages counted_averages(Kind kind, Effort effort, int slots) {
 }
 
 // The mean over the loadings at evenly spaced sizes, both ends of the expansion among them.
-void product_curve(Kind kind, Effort effort, Cost curve[CURVE + 1]) {
-    static File laid;
+void product_curve(struct kind kind, struct effort effort, struct cost curve[CURVE + 1]) {
+    static struct file laid;
     for (int i = 0; i <= CURVE; i++) {
-        Cost sum = {0, 0, 0};
+        struct cost sum = {0, 0, 0};
         for (int loading = 0; loading < effort.loadings; loading++) {
             lay_file(&laid, kind, (uint64_t)loading, FIRST + FIRST * i / CURVE);
             sum = plus(sum, searched(&laid));

@@ -1,11 +1,20 @@
-// Costs at any page size, by counting alone. In linear probing without wrapping round, the number of records on each page and the sum of their distances from home follow from the number of records of each home. So Larson's own page sizes can be counted again, without the product, to see whether the harness measures what he measured.
+// Costs at any page size, by counting alone. In linear probing without wrapping round, the number of records on each
+// page and the sum of their distances from home follow from the number of records of each home. So Larson's own page
+// sizes can be counted again, without the product, to see whether the harness measures what he measured.
 #include "paper.h"
 
-static void count_homes(int homes[COUNTED], Kind kind, uint64_t loading, int pages, int records) {
+static struct reefcushion_slip state_of(struct kind kind, int pages) {
+    return (struct reefcushion_slip){.n0 = (uint16_t)kind.n0,
+                                     .groups = (uint16_t)(START / kind.n0),
+                                     .sweeps = (uint16_t)kind.sweeps,
+                                     .pages = (uint16_t)pages};
+}
+
+static void count_homes(int homes[COUNTED], const struct reefcushion_slip *state, uint64_t loading, int records) {
     for (int page = 0; page < COUNTED; page++)
         homes[page] = 0;
     for (int place = 0; place < records; place++)
-        homes[home_of(random_at(loading, RECORD_KEYS, (uint64_t)place), kind, pages)]++;
+        homes[home_of(state, number_at(loading, RECORD_KEYS, (uint64_t)place))]++;
 }
 
 // Turns numbers of records a home into numbers of records a page, and gives the sum of the distances.
@@ -24,12 +33,12 @@ static long spread(int counts[COUNTED], int slots) {
 }
 
 // The product's pages have to hold as many records as counting says.
-void must_be_counted(const File *file) {
+void must_be_counted(const struct file *file) {
     static int counts[COUNTED];
-    count_homes(counts, file->kind, file->loading, file->slip.pages, (int)file->slip.records);
+    count_homes(counts, &file->slip, file->loading, (int)file->slip.records);
     spread(counts, SLOTS);
     for (int page = 0; page < CAP; page++) {
-        if (used_on(file, page) != counts[page])
+        if (records_on(file, page) != counts[page])
             stop("a page holds another number of records than counting says", page);
     }
 }
@@ -42,16 +51,17 @@ static int counted_search(const int counts[COUNTED], int slots, int home) {
 }
 
 // The costs in Larson's placement; an unsuccessful search is by his rule.
-Cost counted_at(Kind kind, uint64_t loading, int pages, int slots) {
+struct cost counted_at(struct kind kind, uint64_t loading, int pages, int slots) {
     static int counts[COUNTED];
     int records = kind.tenths * slots * pages / 10 + 1;
-    count_homes(counts, kind, loading, pages, records);
+    const struct reefcushion_slip state = state_of(kind, pages);
+    count_homes(counts, &state, loading, records);
     double hit = 1 + (double)spread(counts, slots) / records;
     long read = 0;
     for (uint64_t i = 0; i < SEARCHES; i++) {
-        uint64_t key = random_at(loading, MISS_KEYS, SEARCHES * (uint64_t)pages + i);
-        read += counted_search(counts, slots, home_of(key, kind, pages));
+        uint64_t key = number_at(loading, MISS_KEYS, SEARCHES * (uint64_t)pages + i);
+        read += counted_search(counts, slots, (int)home_of(&state, key));
     }
     double miss = (double)read / SEARCHES;
-    return (Cost){hit, miss, miss};
+    return (struct cost){hit, miss, miss};
 }

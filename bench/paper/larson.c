@@ -1,9 +1,13 @@
-// Larson's figures: pages read (his disk accesses) in successful and unsuccessful searches, averages over a full expansion. They are facts of his paper (ACM Transactions on Database Systems 10, 1, 1985), Tables I and II; his report CS-83-38 prints the same numbers.
+// Larson's figures: pages read (his disk accesses) in successful and unsuccessful searches, averages over a full
+// expansion. They are facts of his paper (ACM Transactions on Database Systems 10, 1, 1985), Tables I and II; his
+// report CS-83-38 prints the same numbers.
 #include <stddef.h>
+
 #include "paper.h"
 
-// Table, then pages a group, sweeps and load in tenths, then records a page. Both tables tell of page 20, n0 2, load 0.8 and five sweeps: the one says 1.59, the other 1.60.
-static const Larson figures[] = {
+// Table, then pages a group, sweeps and load in tenths, then records a page. Both tables tell of page 20, n0 2, load
+// 0.8 and five sweeps: the one says 1.59, the other 1.60.
+static const struct larson figures[] = {
     {1, {2, 1, 8}, 20, 1.48, 9.66},
     {1, {2, 2, 8}, 20, 1.07, 1.92},
     {1, {2, 3, 8}, 20, 1.06, 1.65},
@@ -34,14 +38,14 @@ static const Larson figures[] = {
     {2, {3, 5, 9}, 40, 1.08, 2.38},
 };
 
-bool same_kind(Kind a, Kind b) {
+bool same_kind(struct kind a, struct kind b) {
     return a.n0 == b.n0 && a.sweeps == b.sweeps && a.tenths == b.tenths;
 }
 
 // Nothing where his table has no such cell.
-const Larson *larson(int table, Kind kind, int slots) {
+const struct larson *larson(int table, struct kind kind, int slots) {
     for (size_t i = 0; i < sizeof figures / sizeof figures[0]; i++) {
-        const Larson *row = &figures[i];
+        const struct larson *row = &figures[i];
         if (row->table == table && row->slots == slots && same_kind(row->kind, kind))
             return row;
     }

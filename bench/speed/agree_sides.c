@@ -2,13 +2,15 @@
 #include <stdio.h>
 #include <stdlib.h>
 #include <string.h>
+
+#include "../common/grouped.h"
 #include "agree.h"
-#include "ours.h"
 
 enum { REFUSALS = 10 };
 struct side ours, plain;
+unsigned long calls_made;
 static const char *const names[CALLS] = {"format", "find", "put", "remove", "grow", "check", "due"};
-static unsigned long seen[CALLS][REFUSALS];
+static unsigned long seen[2][CALLS][REFUSALS]; // by the way that the plain side worked
 
 // The refusals of the scope's table, by call, as bits; for due its two answers.
 static const unsigned expected[CALLS] = {
@@ -21,16 +23,14 @@ static const unsigned expected[CALLS] = {
     1 << 0 | 1 << 1,
 };
 
-static void differ(enum call call, const char *what, unsigned long left, unsigned long right)
-{
-    const struct slip *at = &plain.slip;
-    fprintf(stderr, "%s: %s: ours %lu, plain %lu; the plain slip says n0 %u N %u s %u P %u cap %u r %u\n", names[call], what, left, right,
-            at->n0, at->groups, at->sweeps, at->pages, at->cap, at->records);
+static void differ(enum call call, const char *what, unsigned long left, unsigned long right) {
+    const struct reefcushion_slip *at = &plain.slip;
+    fprintf(stderr, "%s: %s: ours %lu, plain %lu; the plain slip says n0 %u N %u s %u P %u cap %u r %u\n", names[call],
+            what, left, right, at->n0, at->groups, at->sweeps, at->pages, at->cap, at->records);
     exit(1);
 }
 
-static void compare_bytes(enum call call, const char *what, const void *left, const void *right, size_t bytes)
-{
+static void compare_bytes(enum call call, const char *what, const void *left, const void *right, size_t bytes) {
     const uint8_t *l = left, *r = right;
     size_t at = 0;
     if (!memcmp(left, right, bytes))
@@ -41,10 +41,10 @@ static void compare_bytes(enum call call, const char *what, const void *left, co
     differ(call, what, l[at], r[at]);
 }
 
-static uint32_t ask_ours(enum call call, const struct asked *ask, struct slip *slip, size_t length)
-{
+static uint32_t ask_ours(enum call call, const struct asked *ask, struct reefcushion_slip *slip, size_t length) {
     switch (call) {
-    case FORMAT: return reefcushion_format(slip, length, ours.area, ask->bytes, ask->n0, ask->groups, ask->sweeps, ask->cap);
+    case FORMAT:
+        return reefcushion_format(slip, length, ours.area, ask->bytes, ask->n0, ask->groups, ask->sweeps, ask->cap);
     case FIND: return reefcushion_find(slip, length, ours.area, ask->bytes, ask->key);
     case PUT: return reefcushion_put(slip, length, ours.area, ask->bytes, ask->key, ask->value);
     case REMOVE: return reefcushion_remove(slip, length, ours.area, ask->bytes, ask->key);
@@ -54,9 +54,9 @@ static uint32_t ask_ours(enum call call, const struct asked *ask, struct slip *s
     }
 }
 
-static uint32_t ask_plain(enum call call, const struct asked *ask)
-{
-    struct slip *slip = &plain.slip;
+static uint32_t ask_plain(enum call call, const struct asked *ask) {
+    struct reefcushion_slip *slip = &plain.slip;
+    baseline_in_step = ask->in_step;
     switch (call) {
     case FORMAT: return baseline_format(slip, plain.area, ask->bytes, ask->n0, ask->groups, ask->sweeps, ask->cap);
     case FIND: return baseline_find(slip, plain.area, ask->bytes, ask->key);
@@ -69,53 +69,66 @@ static uint32_t ask_plain(enum call call, const struct asked *ask)
 }
 
 // A page beyond the file is compared too, since nothing may be written there.
-static void compare_sides(enum call call, uint32_t left, uint32_t right, size_t bytes)
-{
-    size_t pages = bytes / PAGE < MOST ? bytes / PAGE + 1 : MOST + 1;
+static void compare_sides(enum call call, uint32_t left, uint32_t right, size_t bytes) {
+    size_t pages = bytes / PAGE_BYTES < MOST ? bytes / PAGE_BYTES + 1 : MOST + 1;
     if (left != right)
         differ(call, "the result", left, right);
     compare_bytes(call, "the slip", &ours.slip, &plain.slip, sizeof plain.slip);
-    compare_bytes(call, "the area", ours.area, plain.area, PAGE * pages);
+    compare_bytes(call, "the area", ours.area, plain.area, page_start((uint32_t)pages));
     compare_bytes(call, "the row", ours.row, plain.row, sizeof plain.row);
 }
 
-uint32_t ask(enum call call, const struct asked *asked)
-{
+uint32_t ask(enum call call, const struct asked *asked) {
     uint32_t left = ask_ours(call, asked, &ours.slip, sizeof ours.slip), right = ask_plain(call, asked);
     compare_sides(call, left, right, asked->bytes);
     if (right >= REFUSALS)
         differ(call, "a refusal that no call gives", left, right);
-    seen[call][right]++;
+    seen[asked->in_step][call][right]++;
+    calls_made++;
     return right;
 }
 
-void ask_with_wrong_slip(const struct asked *asked)
-{
+void ask_with_wrong_slip(const struct asked *asked) {
     for (int call = 0; call < CALLS; call++) {
         size_t length = call % 2 ? sizeof ours.slip - 1 : sizeof ours.slip + 1;
-        struct { struct slip slip; uint8_t more; } longer = {.slip = plain.slip};
+        struct {
+            struct reefcushion_slip slip;
+            uint8_t more;
+        } longer = {.slip = plain.slip};
         uint32_t result = ask_ours(call, asked, &longer.slip, length);
-        if (result != (call == DUE ? 0 : 100))
-            differ(call, "the result for a slip of another length", result, 100);
+        if (result != (call == DUE ? 0 : REEFCUSHION_NO_SLIP))
+            differ(call, "the result for a slip of another length", result, REEFCUSHION_NO_SLIP);
         compare_bytes(call, "a slip of another length", &longer.slip, &plain.slip, sizeof plain.slip);
         compare_sides(call, 0, 0, asked->bytes);
     }
 }
 
-bool tell_what_was_seen(void)
-{
+// A cell of the table; whether it was reached in both ways if the scope's table has it, and in none otherwise.
+static bool tell_cell(enum call call, uint32_t refusal) {
+    unsigned long key_by_key = seen[false][call][refusal], in_step = seen[true][call][refusal];
+    bool given = expected[call] >> refusal & 1;
+    if (given || key_by_key || in_step)
+        printf(" %s |", grouped((double)(key_by_key + in_step)));
+    else
+        printf("  |");
+    return given ? key_by_key && in_step : !key_by_key && !in_step;
+}
+
+bool tell_what_was_seen(void) {
     bool all = true;
+    puts("| call | 0 | 1 | 2 | 3 | 4 | 5 | 6 | 7 | 8 | 9 |");
+    puts("|---|--:|--:|--:|--:|--:|--:|--:|--:|--:|--:|");
     for (int call = 0; call < CALLS; call++) {
-        printf("%-7s", names[call]);
-        for (int refusal = 0; refusal < REFUSALS; refusal++) {
-            bool due = expected[call] >> refusal & 1;
-            if (seen[call][refusal] || due)
-                printf("  %d: %lu", refusal, seen[call][refusal]);
-            all &= due == (seen[call][refusal] > 0);
-        }
+        printf("| %s |", names[call]);
+        for (uint32_t refusal = 0; refusal < REFUSALS; refusal++)
+            all &= tell_cell(call, refusal);
         puts("");
     }
-    if (!all)
-        puts("not every refusal of the table was seen, or one that isn't in it");
+    if (all)
+        puts("\nNothing differed. Every answer that the scope's table gives was met with either way of C, and no "
+             "other.");
+    else
+        puts("\nNothing differed, but with one way of C an answer of the scope's table wasn't met, or one was met that "
+             "it doesn't give.");
     return all;
 }

@@ -1,47 +1,57 @@
-// What the two files of the speed program share: equal files for both sides, and the time that calls on them take.
+// What the files of the speed program share: equal files for the sides, and the time that calls on them take.
 #pragma once
 #include <stdbool.h>
-#include "baseline.h"
 
+#include "../baseline/baseline.h"
+#include "../common/page.h"
+
+// The proved calls; the plain ones key by key; the plain ones in step.
+enum side { OURS, C, IN_STEP, SIDES };
 enum style { RANDOM, CONSECUTIVE, STYLES };
 
 struct file {
-    struct slip slip;
+    struct reefcushion_slip slip;
     uint8_t *area;
     size_t bytes;
 };
 
-// The same file for either side and once more as it was at first, with the keys that it holds.
-struct pair {
+// The same file for each side and once more as it was at first, with the keys that it holds.
+struct files {
     enum style style;
-    struct file ours, plain, first;
+    struct file of[SIDES], first;
     uint64_t *held;
     uint32_t held_count;
-    uint64_t fresh, choice;  // the number of the next key that isn't held; of the next choice among those held
+    uint64_t fresh, choice; // the number of the next key that isn't held; of the next choice among those held
 };
 
-// Nanoseconds a call, and the ratio of ours to plain.
+// A figure for each side, and the ratio of ours to each.
 struct cost {
-    double ours, plain, ratio;
+    double of[SIDES], ratio[SIDES];
 };
 
 // A file of so many pages at load 4/5, and one of the same records that lacks the last page.
-struct pair make_pair(enum style style, uint32_t pages, uint32_t cap);
-struct pair one_page_before(const struct pair *pair);
-void drop_pair(struct pair *pair);
+struct files make_files(enum style style, uint32_t pages, uint32_t cap);
+struct files one_page_before(const struct files *files);
+void drop_files(struct files *files);
 
-void stop(const char *why);
-uint64_t key_number(enum style style, uint64_t number);
+_Noreturn void stop(const char *why);
 void copy_file(struct file *to, const struct file *from);
+void restore(struct files *files);
 bool same_file(const struct file *left, const struct file *right);
-void require_same(const struct pair *pair);
-uint32_t longest_full_run(const struct pair *pair);
+void require_same_slips(const struct files *files);
+void require_same_files(const struct files *files);
+uint32_t longest_full_run(const struct files *files);
 
-struct cost time_find(struct pair *pair, bool hit, unsigned rounds);
-void time_put_and_remove(struct pair *pair, unsigned rounds, struct cost *put, struct cost *remove);
-struct cost time_check(struct pair *pair, unsigned rounds);
-struct cost time_grow(struct pair *pair, unsigned rounds, struct cost *to_check);  // and how many checks it is worth, for either side
+// Keys: any that are held; such as were never put; such as were never put and find room, one after the other.
+void any_held(struct files *files, uint64_t *key, uint32_t count);
+void next_fresh(struct files *files, uint64_t *key, uint32_t count);
+void next_with_room(struct files *files, uint64_t *key, uint32_t count);
 
-// Pages read on average by a find of a held key and by a put of one that isn't held.
-double pages_read_by_find(struct pair *pair);
-double pages_read_by_put(struct pair *pair);
+// Nanoseconds a call; for a growth also how many checks it is worth.
+struct cost time_find(struct files *files, bool hit, unsigned rounds);
+void time_put_and_remove(struct files *files, unsigned rounds, struct cost *put, struct cost *remove);
+struct cost time_check(struct files *files, unsigned rounds);
+struct cost time_grow(struct files *files, unsigned rounds, struct cost *to_check);
+
+// Pages read on average: by a find of a held key, or by a put of one that isn't held.
+double pages_read(struct files *files, bool by_put);

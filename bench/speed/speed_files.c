@@ -1,141 +1,155 @@
-// The files that are measured: equal copies for both sides.
+// The files that are measured: equal copies for all sides, and keys to ask for.
 #include <stdio.h>
 #include <stdlib.h>
-#include <string.h>
+
+#include "../common/empty.h"
+#include "../common/random.h"
 #include "speed.h"
 
-enum { PAGE = 256, SLOTS = 12, MOST_PAGES = 4096 };
-
-void stop(const char *why)
-{
+void stop(const char *why) {
     fprintf(stderr, "speed: %s\n", why);
     exit(1);
 }
 
-static uint64_t scattered(uint64_t number)
-{
-    uint64_t z = number * 0x9E3779B97F4A7C15u;
-    z = (z ^ z >> 30) * 0xBF58476D1CE4E5B9u;
-    z = (z ^ z >> 27) * 0x94D049BB133111EBu;
-    return z ^ z >> 31;
-}
-
-uint64_t key_number(enum style style, uint64_t number)
-{
-    return style == RANDOM ? scattered(number) : number;
-}
-
-static struct file new_file(uint32_t cap)
-{
-    struct file file = {.bytes = (size_t)PAGE * cap, .area = calloc(cap, PAGE)};
+static struct file new_file(uint32_t cap) {
+    struct file file = {.bytes = page_start(cap), .area = calloc(cap, PAGE_BYTES)};
     if (!file.area)
         stop("no memory");
     return file;
 }
 
-void copy_file(struct file *to, const struct file *from)
-{
+void copy_file(struct file *to, const struct file *from) {
     to->slip = from->slip;
     memcpy(to->area, from->area, from->bytes);
 }
 
-bool same_file(const struct file *left, const struct file *right)
-{
-    return !memcmp(&left->slip, &right->slip, 16) && !memcmp(left->area, right->area, left->bytes);
+void restore(struct files *files) {
+    for (int side = 0; side < SIDES; side++)
+        copy_file(&files->of[side], &files->first);
 }
 
-void require_same(const struct pair *pair)
-{
-    if (memcmp(&pair->ours.slip, &pair->plain.slip, sizeof pair->ours.slip) || !same_file(&pair->ours, &pair->plain))
-        stop("the two sides differ");
+// The state and the pages; the last answer may be another.
+bool same_file(const struct file *left, const struct file *right) {
+    return !memcmp(&left->slip, &right->slip, offsetof(struct reefcushion_slip, value)) &&
+           !memcmp(left->area, right->area, left->bytes);
 }
 
-// Puts keys until the file holds so many or they end; a key without room is left out.
-static void put_keys(struct file *file, struct pair *pair, uint32_t records)
-{
-    for (; file->slip.records < records; pair->fresh++) {
-        uint64_t key = key_number(pair->style, pair->fresh);
-        if (pair->fresh > 16u * SLOTS * MOST_PAGES)
+void require_same_slips(const struct files *files) {
+    for (int side = C; side < SIDES; side++)
+        if (memcmp(&files->of[OURS].slip, &files->of[side].slip, sizeof files->first.slip))
+            stop("two sides gave different answers");
+}
+
+void require_same_files(const struct files *files) {
+    for (int side = C; side < SIDES; side++)
+        if (!same_file(&files->of[OURS], &files->of[side]))
+            stop("two sides left different files");
+}
+
+static uint32_t put(struct file *file, uint64_t key) {
+    return baseline_put(&file->slip, file->area, file->bytes, key, ~key);
+}
+
+void any_held(struct files *files, uint64_t *key, uint32_t count) {
+    for (uint32_t i = 0; i < count; i++)
+        key[i] = files->held[random_at(1, files->choice++) % files->held_count];
+}
+
+void next_fresh(struct files *files, uint64_t *key, uint32_t count) {
+    for (uint32_t i = 0; i < count; i++, files->fresh++)
+        key[i] = files->style == RANDOM ? random_at(0, files->fresh) : files->fresh;
+}
+
+// They are tried out and taken back on the copy that isn't measured.
+void next_with_room(struct files *files, uint64_t *key, uint32_t count) {
+    struct file *file = &files->first;
+    for (uint32_t i = 0; i < count;) {
+        next_fresh(files, &key[i], 1);
+        i += put(file, key[i]) == 0;
+    }
+    for (uint32_t i = 0; i < count; i++)
+        if (baseline_remove(&file->slip, file->area, file->bytes, key[i]))
+            stop("a key that was put isn't there");
+}
+
+// Puts keys until the file holds so many; a key without room is left out.
+static void fill(struct files *files, uint32_t records) {
+    while (files->first.slip.records < records) {
+        uint64_t key;
+        next_fresh(files, &key, 1);
+        if (files->fresh > 16u * SLOTS * MOST_PAGES)
             stop("the file can't be filled");
-        if (baseline_put(&file->slip, file->area, file->bytes, key, ~key) == 0)
-            pair->held[pair->held_count++] = key;
+        if (put(&files->first, key) == 0)
+            files->held[files->held_count++] = key;
     }
 }
 
-// An empty file that counts as grown already: empty pages are an image at every size.
-static void begin(struct file *file, uint32_t pages, uint32_t cap)
-{
-    if (baseline_format(&file->slip, file->area, file->bytes, 2, 8, 5, (uint16_t)cap))
-        stop("no file");
-    file->slip.pages = (uint16_t)pages;
+static struct file begin(uint32_t pages, uint32_t cap) {
+    struct file file = new_file(cap);
+    if (empty_file(&file.slip, file.area, pages, cap))
+        stop("no empty file");
+    return file;
 }
 
 // The same keys put into a file that grows whenever that is due have to give the same bytes.
-static void require_grown_alike(const struct pair *pair, uint32_t pages, uint32_t cap)
-{
+static void require_grown_alike(const struct files *files, uint32_t pages, uint32_t cap) {
     static uint32_t row[MOST_PAGES];
-    struct file file = new_file(cap);
-    begin(&file, 16, cap);
-    for (uint32_t i = 0; i < pair->held_count; i++) {
-        if (baseline_put(&file.slip, file.area, file.bytes, pair->held[i], ~pair->held[i]))
+    struct file file = begin(16, cap);
+    for (uint32_t i = 0; i < files->held_count; i++) {
+        if (put(&file, files->held[i]))
             stop("no room in a file that grows");
-        if (baseline_due(&file.slip) && file.slip.pages < pages && baseline_grow(&file.slip, file.area, file.bytes, row, cap))
+        if (baseline_due(&file.slip) && file.slip.pages < pages &&
+            baseline_grow(&file.slip, file.area, file.bytes, row, cap))
             stop("a growth was refused");
     }
     while (file.slip.pages < pages && baseline_grow(&file.slip, file.area, file.bytes, row, cap) == 0)
         ;
-    if (!same_file(&file, &pair->first))
-        stop("a file that grew differs from one put together at its last size");
+    if (!same_file(&file, &files->first))
+        stop("a file that grew differs from one filled at its last size");
     free(file.area);
 }
 
-static struct pair new_pair(enum style style, uint32_t cap)
-{
-    struct pair pair = {.style = style, .ours = new_file(cap), .plain = new_file(cap), .first = new_file(cap)};
-    pair.held = calloc((size_t)SLOTS * cap, sizeof pair.held[0]);
-    if (!pair.held)
+static struct files new_files(enum style style, uint32_t pages, uint32_t cap) {
+    struct files files = {.style = style, .first = begin(pages, cap)};
+    for (int side = 0; side < SIDES; side++)
+        files.of[side] = new_file(cap);
+    files.held = calloc((size_t)SLOTS * cap, sizeof files.held[0]);
+    if (!files.held)
         stop("no memory");
-    return pair;
+    return files;
 }
 
-// Since the same records at one size are the same bytes, the file is put together at its last size: growing a large one page by page would take longer than all the measuring. The smaller ones are grown too, to see that it comes to the same.
-struct pair make_pair(enum style style, uint32_t pages, uint32_t cap)
-{
-    struct pair pair = new_pair(style, cap);
-    begin(&pair.first, pages, cap);
-    put_keys(&pair.first, &pair, 48 * pages / 5);
+// Since the same records at one size are the same bytes, the file is grown empty and filled at its last size: growing a
+// large full one page by page would take longer than all the measuring. The smaller ones are grown full too, to see
+// that it comes to the same.
+struct files make_files(enum style style, uint32_t pages, uint32_t cap) {
+    struct files files = new_files(style, pages, cap);
+    fill(&files, 48 * pages / 5);
     if (pages <= 512)
-        require_grown_alike(&pair, pages, cap);
-    copy_file(&pair.ours, &pair.first);
-    copy_file(&pair.plain, &pair.first);
-    return pair;
+        require_grown_alike(&files, pages, cap);
+    restore(&files);
+    return files;
 }
 
-struct pair one_page_before(const struct pair *from)
-{
-    const uint32_t cap = from->first.slip.cap;
-    struct pair pair = new_pair(from->style, cap);
-    struct file *file = &pair.first;
-    begin(file, from->first.slip.pages - 1u, cap);
+struct files one_page_before(const struct files *from) {
+    struct files files = new_files(from->style, from->first.slip.pages - 1u, from->first.slip.cap);
     for (uint32_t i = 0; i < from->held_count; i++)
-        if (baseline_put(&file->slip, file->area, file->bytes, from->held[i], ~from->held[i]))
+        if (put(&files.first, from->held[i]))
             stop("no room one page before");
-    return pair;
+    return files;
 }
 
-void drop_pair(struct pair *pair)
-{
-    free(pair->ours.area);
-    free(pair->plain.area);
-    free(pair->first.area);
-    free(pair->held);
+void drop_files(struct files *files) {
+    for (int side = 0; side < SIDES; side++)
+        free(files->of[side].area);
+    free(files->first.area);
+    free(files->held);
 }
 
-uint32_t longest_full_run(const struct pair *pair)
-{
+uint32_t longest_full_run(const struct files *files) {
     uint32_t longest = 0, run = 0;
-    for (uint32_t page = 0; page < pair->first.slip.cap; page++) {
-        run = pair->first.area[PAGE * page + 8] == SLOTS ? run + 1 : 0;
+    for (uint32_t page = 0; page < files->first.slip.cap; page++) {
+        run = used_on(files->first.area + page_start(page)) == SLOTS ? run + 1 : 0;
         longest = run > longest ? run : longest;
     }
     return longest;

@@ -1,0 +1,50 @@
+// The steps of a file and the draws of a key, for homes one by one and in step and for growth.
+#pragma once
+#include "baseline_parts.h"
+
+enum { MODULUS = 2147483647, FACTOR = 16807 };
+
+// The largest draw that makes a mover where a group has `turn` pages.
+static inline int32_t limit_of(uint32_t turn) {
+    static const int32_t limit[8] = {MODULUS,     MODULUS / 2, MODULUS / 3, MODULUS / 4,
+                                     MODULUS / 5, MODULUS / 6, MODULUS / 7, MODULUS / 8};
+    return limit[turn];
+}
+
+// Congruent to the next draw, at most 2^31 + 2^15: the last subtraction is left out, see `moves`.
+static inline uint32_t next_draw(uint32_t draw) {
+    uint64_t product = (uint64_t)draw * FACTOR;
+    return (uint32_t)((product & MODULUS) + (product >> 31));
+}
+
+// A draw is never 0, so one past the modulus stands for a small one, and as a signed number it is below every limit.
+static inline bool moves(uint32_t draw, int32_t limit) {
+    return (int32_t)draw <= limit;
+}
+
+static inline uint32_t seed_of(uint64_t key) {
+    return (uint32_t)(key % (MODULUS - 1)) + 1;
+}
+
+// key mod (n0 x N): the quotient by the inverse is right or one too small. Standard C has no number of 128 bits to take
+// the upper half of a product from; clang and gcc have this one.
+static inline uint32_t start_of(const struct way *way, uint64_t key) {
+    uint64_t quotient = (uint64_t)((unsigned __int128)key * way->inverse >> 64);
+    uint32_t rest = (uint32_t)(key - quotient * way->first.size);
+    return rest >= way->first.size ? rest - way->first.size : rest;
+}
+
+// Goes on to the next partial expansion, and says whether the groups doubled.
+static inline bool next_step(const struct way *way, struct step *step) {
+    step->size += step->groups;
+    step->turn++;
+    if (step->turn < 2 * way->n0)
+        return false;
+    step->turn = way->n0;
+    step->groups *= 2;
+    step->more *= 2;
+    bool one_more = step->more >= way->sweeps;
+    step->each = step->each * 2 + one_more;
+    step->more -= one_more ? way->sweeps : 0;
+    return true;
+}

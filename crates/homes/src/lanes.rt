@@ -17,6 +17,14 @@ pub struct Lanes {
     pub groups: [u16; 16],
 }
 
+// An address by the number of groups, of which it holds fewer than four times as many. It is compared and not divided.
+fn turn_of(address: u64, g: u64) -> u64
+    requires { ⌜ (1 ≤ g) × (g ≤ 4096) × (address < 4 * g) ⌝ }
+    ensures { λ r. ⌜ r ≡ address / g ⌝ }
+{
+    (g <= address) as u64 + (2 * g <= address) as u64 + (3 * g <= address) as u64
+}
+
 // The keys before the first step, at size f with g groups.
 fn start(keys: [u64; 12], f: u64, g: u64) -> Lanes
     requires { ⌜ (1 ≤ g) × (g ≤ f) × (f ≤ 4 * g) × (f ≤ 4096) ⌝ }
@@ -30,9 +38,10 @@ fn start(keys: [u64; 12], f: u64, g: u64) -> Lanes
     while i < 12 {
         let key = keys[i];
         let address = key % f;
+        let turn = turn_of(address, g);
         draws[i] = (key % 2147483646 + 1) as u32;
-        turns[i] = (address / g) as u16;
-        groups[i] = (address % g) as u16;
+        turns[i] = turn as u16;
+        groups[i] = (address - turn * g) as u16;
         i += 1;
     }
     Lanes {

@@ -3,8 +3,8 @@
 use mathlib.Core.Path.{_≡_, refl, sym, subst, _∙_}
 use mathlib.Core.List.{List}
 use mathlib.Core.Logic.{⊎-elim}
-use Prim.Native.Nat.{ℕ, _+_, _-_, _*_, _/_, _%_, _≤_, _<_}
-use native.Mathlib.Nat.{mod-lt, div-lt-iff-lt-mul}
+use Prim.Native.Nat.{ℕ, _+_, _-_, _*_, _/_, _%_, _^_, _≤_, _<_}
+use native.Mathlib.Nat.{mod-lt, div-lt-iff-lt-mul, div-add-mod'}
 use native.Mathlib.Omega.{arith}
 use borrow.Author.Needs.{needs}
 use lib.ListN.{length, getD, set, replicate, getD-replicate, List·getD-eq-default}
@@ -24,6 +24,16 @@ start-fits f g K h k l =
     let below : K % f < 4 * g = omega (arith, mod-lt K {m = f} (omega arith)) in
     let turns : K % f / g < 4 = div-lt-iff-lt-mul h .1 below in
     (omega arith, omega arith, mod-lt (K % f) h)
+
+-- a number below another is as small
+small : (x y : ℕ) → x ≤ y → y < 4096 → x < 2 ^ 64
+small x y l h = omega arith
+
+-- what a quotient leaves
+remains : (a g q : ℕ) → q ≡ a / g → (q * g ≤ a) × (a - q * g ≡ a % g)
+remains a g q e =
+    let whole : q * g + a % g ≡ a = rw e (div-add-mod' a g) in
+    (omega arith, omega arith)
 
 -- the places not passed are 0
 record Rest (row : List ℕ) (i : ℕ) : Type 0 where
@@ -58,10 +68,16 @@ abbrev μ-loop : tie.MeasureT-loop
 μ-loop f g keys draws₀ turns₀ groups₀ i₀ draws turns groups i = 12 - i
 
 -- the lane of a turn's key
-starts : (c : lts.In-loop reads.Pre reads.Post Inv-loop μ-loop) → let at = c .before .before .args in Fits (at .g) (startsAt (at .f) (at .g) (getD (at .t1) (c .before .loop .i) 0))
+starts : (c : tie.After-turn-of Inv-loop μ-loop) → let at = c .before .before .before .args in Fits (at .g) (startsAt (at .f) (at .g) (getD (at .t1) (c .before .before .loop .i) 0))
 starts c =
-    let start = c .before .before in
+    let start = c .before .before .before in
     start-fits _ _ _ (start .pre .0) (start .pre .1) (start .pre .2)
+
+-- its group is what its turn leaves of the address
+leaves : (c : tie.After-turn-of Inv-loop μ-loop) → let at = c .before .before .before .args in let a = getD (at .t1) (c .before .before .loop .i) 0 % at .f in (c .turn-of .result * at .g ≤ a) × (a - c .turn-of .result * at .g ≡ a % at .g)
+leaves c =
+    let at = c .before .before .before .args in
+    remains (getD (at .t1) (c .before .before .loop .i) 0 % at .f) (at .g) _ (c .turn-of .ensures)
 
 loop-holds : tie.Need-loop-holds Inv-loop μ-loop
 loop-holds c = (none _ _ refl, none _ _ refl, none _ _ refl, rest, rest, search needs)
@@ -75,6 +91,11 @@ array-read-key c = search needs
 rem-address : tie.Need-rem-address Inv-loop μ-loop
 rem-address c = search needs
 
+turn-of-requires : tie.Need-turn-of-requires Inv-loop μ-loop
+turn-of-requires c κs =
+    let start = c .before .before in
+    (start .pre .0, omega arith, omega (arith, start .pre .2, mod-lt (getD (start .args .t1) (c .before .loop .i) 0) {m = start .args .f} (omega arith)))
+
 add-draws : tie.Need-add-draws Inv-loop μ-loop
 add-draws c = search needs
 
@@ -87,11 +108,8 @@ mul-draws c = search needs
 array-write-draws : tie.Need-array-write-draws Inv-loop μ-loop
 array-write-draws c = search needs
 
-div-turns : tie.Need-div-turns Inv-loop μ-loop
-div-turns c = search needs
-
 cast-turns : tie.Need-cast-turns Inv-loop μ-loop
-cast-turns c = omega (arith, starts c)
+cast-turns c = omega (arith, c .turn-of .ensures, starts c)
 
 mul-turns : tie.Need-mul-turns Inv-loop μ-loop
 mul-turns c = search needs
@@ -99,14 +117,20 @@ mul-turns c = search needs
 array-write-turns : tie.Need-array-write-turns Inv-loop μ-loop
 array-write-turns c = search needs
 
-rem-groups : tie.Need-rem-groups Inv-loop μ-loop
-rem-groups c = search needs
+mul-groups : tie.Need-mul-groups Inv-loop μ-loop
+mul-groups c =
+    let start = c .before .before .before in
+    let low = mod-lt (getD (start .args .t1) (c .before .before .loop .i) 0) {m = start .args .f} (omega arith) in
+    record { fits = small _ _ (leaves c .0) (omega (arith, low)) }
+
+sub-groups : tie.Need-sub-groups Inv-loop μ-loop
+sub-groups c = omega (arith, leaves c)
 
 cast-groups : tie.Need-cast-groups Inv-loop μ-loop
-cast-groups c = omega (arith, starts c)
+cast-groups c = omega (arith, leaves c, starts c)
 
-mul-groups : tie.Need-mul-groups Inv-loop μ-loop
-mul-groups c = search needs
+mul-groups-2 : tie.Need-mul-groups-2 Inv-loop μ-loop
+mul-groups-2 c = search needs
 
 array-write-groups : tie.Need-array-write-groups Inv-loop μ-loop
 array-write-groups c = search needs
@@ -119,11 +143,11 @@ loop-less c = search needs
 
 loop-again : tie.Need-loop-again Inv-loop μ-loop
 loop-again c =
-    let inv = c .before .loop .inv in
-    let h = c .loop-test .taken in (
+    let inv = c .before .before .loop .inv in
+    let h = c .before .loop-test .taken in (
       one _ _ _ _ (inv .0) h refl,
-      one _ _ _ _ (inv .1) (omega arith) refl,
-      one _ _ _ _ (inv .2) (omega arith) refl,
+      one _ _ _ _ (inv .1) (omega arith) (c .turn-of .ensures),
+      one _ _ _ _ (inv .2) (omega arith) (leaves c .1),
       rest-on _ _ _ (inv .3),
       rest-on _ _ _ (inv .4),
       search needs,
@@ -147,17 +171,18 @@ start-spec =
     mul-key
     array-read-key
     rem-address
+    turn-of-requires
     add-draws
     cast-draws
     mul-draws
     array-write-draws
-    div-turns
     cast-turns
     mul-turns
     array-write-turns
-    rem-groups
-    cast-groups
     mul-groups
+    sub-groups
+    cast-groups
+    mul-groups-2
     array-write-groups
     add-i
     loop-less

@@ -7,9 +7,9 @@
 
 #include "../../c/reefcushion.h"
 
-// How the homes of a page's records are worked out. False, as at the start: key by key, for the records that there are,
-// which is the way of the proved calls. True: for all twelve slots in step, in loops that tell the compiler to use
-// vectors, as an expert would write them. The answers are the same.
+// How the homes of a page's records are worked out. False, as at the start: key by key, for the records that there are.
+// True: for all twelve slots in step, in loops that tell the compiler to use vectors, as an expert would write them. The
+// answers are the same.
 extern bool baseline_in_step;
 
 // Each gives the refusal, 0 for an accepted call, and leaves the answer in the slip.

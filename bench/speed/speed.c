@@ -58,10 +58,11 @@ static void measure(struct figures *at, unsigned scale) {
 
 static void print_head(unsigned scale) {
     puts("## The proved calls beside C\n");
-    puts("\"Ours\" is the proved library. \"C\" is the same register in plain C (`bench/baseline`), which works homes "
-         "out in the way of ours: key by key, for the records that a page has. \"C in step\" is what an expert would "
-         "make of it: the homes of all twelve slots of a page are worked out at once, in loops that tell the compiler "
-         "to use vectors. All are compiled for any x86-64 processor.\n");
+    puts("\"Ours\" is the proved library, which works the homes of a page's records out together. \"C\" is the same "
+         "register in plain C (`bench/baseline`), with the same judging of every page: homes are worked out key by "
+         "key, for the records that a page has. \"C in step\" is what an expert would make of it: the homes of all "
+         "twelve slots of a page at once, in loops that tell the compiler to use vectors. All are compiled for any "
+         "x86-64 processor.\n");
     puts("Each file holds four fifths of the records that its P pages have room for (n0 2, N 8, s 5). Random keys are "
          "any numbers of 64 bits. Consecutive keys run upward from 0: numbers up to 42,590 all move to new pages at "
          "the first step of growth, so pages fill unevenly and walks are longer.\n");
@@ -164,6 +165,15 @@ static void print_verdict(const struct target *target) {
             print_missed(target, at);
 }
 
+static void print_reasons(void) {
+    puts("\nWhere ours is the slower, and why. To work homes out together pays the more the more steps a home takes: at "
+         "P 64 there are four, and what a page costs beside them shows, a remainder of 64 bits for each of twelve keys "
+         "and the page itself, which is read into memory as one value. Put and remove judge first and write then, and "
+         "read again what they write. C moves only the records that a growth displaces; ours lays all of them anew, "
+         "and works out again the homes of those that lie off their page. C in step keeps a draw unreduced from step "
+         "to step and holds a page in place, in loops made for the processor's registers.");
+}
+
 // Grow and check look at all pages lent, so theirs is the cost of a lent page.
 static void print_sizes(void) {
     puts("\n### How the cost grows with the file\n");
@@ -217,6 +227,7 @@ int main(int words, char **word) {
     print_verdict(&calls_to_c_in_step);
     print_growth();
     print_verdict(&growth_to_check);
+    print_reasons();
     print_sizes();
     print_in_short();
     return 0;

@@ -3,8 +3,9 @@
    A register holds, for each request number (the key), the commit that it became (the value): any two 64-bit numbers. No
    key is held twice. A file is an area of pages that the caller lends, and a small state that the caller keeps in a slip.
 
-   The calls are in libreefcushion.a, for x86-64 Linux. They need nothing else but C's memset, take no memory but some stack,
-   and keep nothing from one call to the next, so threads may call them at once, each with its own slip, area and row.
+   The calls are in libreefcushion.a, for x86-64 Linux. They need nothing else but C's memcpy and memset, take no memory but
+   some 20 KiB of the stack at most, and keep nothing from one call to the next, so threads may call them at once, each with
+   its own slip, area and row.
 
    What each call does is proved (crates/reefcushion), for any bytes and any numbers. A caller owes this much:
    - the lengths are true: `slip_bytes` bytes, `area_bytes` bytes, `row_counts` aligned 32-bit counts are there, and each has

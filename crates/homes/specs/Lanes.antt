@@ -24,7 +24,7 @@ startsAt F G K = record { draw = seedOf K; turn = K % F / G; group = K % F % G }
 abbrev pub addressOf : (G : ℕ) → Lane → ℕ
 addressOf G l = l .turn * G + l .group
 
--- a draw, a turn of eight at most, and a group of G
+-- a draw, a turn below eight, and one of G groups
 abbrev pub Fits : (G : ℕ) → Lane → Type 0
 Fits G l = (l .draw < 2147483647) × (l .turn < 8) × (l .group < G)
 

@@ -30,8 +30,7 @@ use Rattle.state.specs.State.{inRange, homes, grown}
 use Rattle.state.proofs.Ranges.{Ranged, ranged, in-shape, grown-range}
 use Rattle.register.specs.declared.Gate.the-variants.{Open}
 use Rattle.register.specs.Gates.{imageGate}
-use Rattle.register.specs.Past.{grownCounts}
-use Rattle.register.specs.Calls.{done, grownFile}
+use Rattle.register.specs.Calls.{done, grownCounts, grownFile}
 use Rattle.register.proofs.Judging.{Sound, open-sound}
 use Rattle.register.proofs.Answers.{Grows}
 

@@ -71,14 +71,18 @@ pub record Growth : Type 0 where
   pub area : List ℕ
   pub row : List ℕ
 
--- Grow, where the file is the image of r records: it "makes the image for P + 1", or there is no room (7). "after success or 7" the row "holds the number of records of each home at size P + 1".
+-- the row "holds the number of records of each home at size P + 1"
+abbrev pub grownCounts : State → List ℕ → List ℕ
+grownCounts s area = counts (homeFor (homes (grown s))) (cat (heldFrom area (s .cap) 0) []) (s .cap) 0
+
+-- Grow, where the file is the image of r records: it "makes the image for P + 1", or there is no room (7); the row is filled "after success or 7".
 unfoldable pub grownFile : State → List ℕ → Growth
 grownFile s area =
     let old = heldFrom area (s .cap) 0 in
     let held = cat old [] in
     let h = homes (grown s) in
     let new = relaid h (s .cap) old in
-    let row = counts (homeFor h) held (s .cap) 0 in
+    let row = grownCounts s area in
     cond (eqb (taken (homeFor h) 12 held (s .cap)) (length held))
     (record { done = done (grown s) (Accepted 0 (s .cap) (strayed key old new)); area = areaFrom 0 new; row = row })
     (record { done = done s (NoRoom (s .cap)); area = area; row = row })

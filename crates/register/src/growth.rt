@@ -6,8 +6,8 @@ use state::State;
 ghost use mathlib.Core.Path.{_≡_};
 ghost use lib.ListN.{length};
 ghost use Rattle.register.specs.declared.Gate.the-variants.{Open};
-ghost use Rattle.register.specs.Past.{EnteredToGrow, OpenToGrow, grownCounts, grewEntered};
-ghost use Rattle.register.specs.Calls.{grownFile};
+ghost use Rattle.register.specs.Past.{EnteredToGrow, OpenToGrow, grewEntered};
+ghost use Rattle.register.specs.Calls.{grownCounts, grownFile};
 
 // The counts into the row.
 fn fill_row(row: &mut [u32], counts: &[u32])

@@ -9,7 +9,7 @@ use Rattle.homes.specs.Homes.{homeIn}
 use Rattle.homes.specs.Last.{staysAt}
 use Rattle.pages.specs.Known.{KnownAt}
 use Rattle.state.proofs.Ranges.{ranged}
-use Rattle.register.specs.Past.{grownCounts}
+use Rattle.register.specs.Calls.{grownCounts}
 use Rattle.register.proofs.Growing.{held-set, counts-many, grown-low, grown-in, steps-left, grown-known, takes-all, grow-full, grow-done}
 use Rattle.register.proofs.growth.grow_image.Statement.{statement}
 use Rattle.register.proofs.growth.grow_image.Tie as tie

@@ -7,7 +7,8 @@ use Prim.Native.Nat.{ℕ, zero, suc, _+_, _-_, _*_, _%_, _≤_, _<_}
 use native.Mathlib.Nat.{suc-add, add-mul, mul-assoc, mul-le-mul-right, add-sub-of-le}
 use native.Mathlib.Omega.{arith}
 use lib.Dec.{ltb, eqb, lit≤}
-use Rattle.homes.specs.Homes.{nextGroups, steps, mover, newPage, home, InRange}
+use Rattle.homes.specs.declared.Params.{Params}
+use Rattle.homes.specs.Homes.{nextGroups, steps, mover, newPage, firstPages, home, InRange}
 use Rattle.homes.proofs.New.{split}
 use Rattle.homes.proofs.Steps.{stopped, enough}
 
@@ -76,10 +77,10 @@ steps-few n0 N i h k l e =
     (split i 40)
 
 -- A home is found in forty steps.
-pub forty : (n0 N s P K : ℕ) → InRange n0 N s P → home n0 N s P K ≡ steps (λ x F. mover n0 K x) (newPage s) n0 P 40 1 (n0 * N) N (K % (n0 * N))
+pub forty : (q : Params) (P K : ℕ) → InRange q P → home q P K ≡ steps (λ x F. mover (q .n0) K x) (newPage (q .s)) (q .n0) P 40 1 (firstPages q) (q .n) (K % firstPages q)
 unfolding home
-forty n0 N s P K r =
-    let F = n0 * N in
+forty q P K r =
+    let F = firstPages q in
     let left = P - F in
-    enough (λ x F. mover n0 K x) (newPage s) n0 P left (40 + left) 1 F N (K % F) (r .N-low) (omega arith) (omega arith)
-    ∙ cut (λ x F. mover n0 K x) (newPage s) n0 P 40 left 1 F N (K % F) (omega (arith, r .P-high, size-forty n0 N (r .n0-low) (r .n0-high) (r .N-low)))
+    enough (λ x F. mover (q .n0) K x) (newPage (q .s)) (q .n0) P left (40 + left) 1 F (q .n) (K % F) (r .N-low) (omega arith) (omega arith)
+    ∙ cut (λ x F. mover (q .n0) K x) (newPage (q .s)) (q .n0) P 40 left 1 F (q .n) (K % F) (omega (arith, r .P-high, size-forty (q .n0) (q .n) (r .n0-low) (r .n0-high) (r .N-low)))

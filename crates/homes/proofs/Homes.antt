@@ -5,7 +5,8 @@ use mathlib.Core.Logic.{_⊎_, inl, inr, ⊎-elim}
 use Prim.Native.Nat.{ℕ, zero, suc, _+_, _-_, _*_, _%_, _<_}
 use native.Mathlib.Nat.{mod-lt, mul-pos}
 use native.Mathlib.Omega.{arith}
-use Rattle.homes.specs.Homes.{seedOf, draw, mover, newPage, home, InRange, shapeOf}
+use Rattle.homes.specs.declared.Params.{Params}
+use Rattle.homes.specs.Homes.{seedOf, draw, mover, newPage, firstPages, home, InRange, shapeOf}
 use Rattle.homes.specs.Last.{lastStep}
 use Rattle.homes.proofs.New.{new-low, new-high}
 use Rattle.homes.proofs.Steps.{Into, OneMore, steps-below, grown}
@@ -15,24 +16,24 @@ pub new-into : (s : ℕ) → 0 < s → Into (newPage s)
 new-into s h = record { low = new-low s; high = λ F G a hG. new-high s F G a h hG }
 
 -- The page that a key starts from is below P.
-pub first-below : (n0 N s P K : ℕ) → InRange n0 N s P → K % (n0 * N) < P
-first-below n0 N s P K r = omega (arith, mod-lt K (mul-pos (r .n0-low) (r .N-low)), r .P-low)
+pub first-below : (q : Params) (P K : ℕ) → InRange q P → K % firstPages q < P
+first-below q P K r = omega (arith, mod-lt K (mul-pos (r .n0-low) (r .N-low)), r .P-low)
 
 -- A home is a page of the file.
-pub home-below : (n0 N s P K : ℕ) → InRange n0 N s P → home n0 N s P K < P
+pub home-below : (q : Params) (P K : ℕ) → InRange q P → home q P K < P
 unfolding home
-home-below n0 N s P K r =
-    steps-below (λ x F. mover n0 K x) (newPage s) n0 P (P - n0 * N) 1 (n0 * N) N (K % (n0 * N)) (first-below n0 N s P K r)
+home-below q P K r =
+    steps-below (λ x F. mover (q .n0) K x) (newPage (q .s)) (q .n0) P (P - firstPages q) 1 (firstPages q) (q .n) (K % firstPages q) (first-below q P K r)
 
 -- With one page more each key stays at home, or its home becomes that page, where the last step leads there from it.
-pub home-more : (n0 N s P K : ℕ) → InRange n0 N s P → OneMore (newPage s) P (lastStep (shapeOf n0 N s (P + 1))) (home n0 N s P K) (home n0 N s (P + 1) K)
+pub home-more : (q : Params) (P K : ℕ) → InRange q P → OneMore (newPage (q .s)) P (lastStep (shapeOf q (P + 1))) (home q P K) (home q (P + 1) K)
 unfolding home
-home-more n0 N s P K r =
-    grown (λ x F. mover n0 K x) (newPage s) (new-into s (r .s-low)) n0 P 1 (n0 * N) N (K % (n0 * N)) (r .N-low)
+home-more q P K r =
+    grown (λ x F. mover (q .n0) K x) (newPage (q .s)) (new-into (q .s) (r .s-low)) (q .n0) P 1 (firstPages q) (q .n) (K % firstPages q) (r .N-low)
 
 -- In short: it stays or becomes that page.
-pub home-grown : (n0 N s P K : ℕ) → InRange n0 N s P → (home n0 N s (P + 1) K ≡ home n0 N s P K) ⊎ (home n0 N s (P + 1) K ≡ P)
-home-grown n0 N s P K r = ⊎-elim inl (λ w. inr (w .0)) (home-more n0 N s P K r)
+pub home-grown : (q : Params) (P K : ℕ) → InRange q P → (home q (P + 1) K ≡ home q P K) ⊎ (home q (P + 1) K ≡ P)
+home-grown q P K r = ⊎-elim inl (λ w. inr (w .0)) (home-more q P K r)
 
 -- Every draw is below its modulus, the seed too.
 pub draw-below : (K x : ℕ) → draw (seedOf K) x < 2147483647

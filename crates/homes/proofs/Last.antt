@@ -7,6 +7,7 @@ use Prim.Native.Nat.{ℕ, zero, suc, _+_, _-_, _*_, _≤_, _<_}
 use native.Mathlib.Omega.{arith}
 use lib.Dec.{ltb}
 use borrow.Author.Tests.{eq-eqb, le-ltb}
+use Rattle.homes.specs.declared.Params.{Params}
 use Rattle.homes.specs.declared.Shape.{Shape}
 use Rattle.homes.specs.declared.Stage.{Stage}
 use Rattle.homes.specs.Homes.{np, newPage, home, InRange, shapeOf}
@@ -57,34 +58,34 @@ seek-on n0 P last t t′ b more after sound =
     }
 
 -- A page whose group grows into the last page isn't told to stay.
-leaves : (shape : Shape) (last : Stage) (a : ℕ) → newPage (shape .s) (last .f) (last .g) a ≡ shape .p - 1 → staysAt shape last a ≡ false
+leaves : (shape : Shape) (last : Stage) (a : ℕ) → newPage (shape .params .s) (last .f) (last .g) a ≡ shape .p - 1 → staysAt shape last a ≡ false
 unfolding staysAt
 leaves shape last a e = rw (eq-eqb _ _ e) (and-false (ltb a (shape .p - 1)))
 
 -- Where the group of a page doesn't grow into the new page P, a key that has its home on that page keeps it.
-pub home-stays : (n0 N s P K a : ℕ) → InRange n0 N s P → staysAt (shapeOf n0 N s (P + 1)) (lastStep (shapeOf n0 N s (P + 1))) a ≡ true → home n0 N s P K ≡ a → home n0 N s (P + 1) K ≡ a
-home-stays n0 N s P K a r stays here = go (home-more n0 N s P K r)
+pub home-stays : (q : Params) (P K a : ℕ) → InRange q P → staysAt (shapeOf q (P + 1)) (lastStep (shapeOf q (P + 1))) a ≡ true → home q P K ≡ a → home q (P + 1) K ≡ a
+home-stays q P K a r stays here = go (home-more q P K r)
   where
     shape : Shape
-    shape = shapeOf n0 N s (P + 1)
+    shape = shapeOf q (P + 1)
 
-    go : OneMore (newPage s) P (lastStep shape) (home n0 N s P K) (home n0 N s (P + 1) K) → home n0 N s (P + 1) K ≡ a
+    go : OneMore (newPage (q .s)) P (lastStep shape) (home q P K) (home q (P + 1) K) → home q (P + 1) K ≡ a
     go (inl e) = e ∙ here
     go (inr w) =
         let no : staysAt shape (lastStep shape) a ≡ false = leaves shape (lastStep shape) a (rw here at (w .1) ∙ omega arith) in
         cc
 
 -- Nor is a page from the last on.
-ends : (n0 N s P a : ℕ) (last : Stage) → P ≤ a → staysAt (shapeOf n0 N s (P + 1)) last a ≡ false
+ends : (q : Params) (P a : ℕ) (last : Stage) → P ≤ a → staysAt (shapeOf q (P + 1)) last a ≡ false
 unfolding staysAt
-ends n0 N s P a last l =
+ends q P a last l =
     let q : P + 1 - 1 ≡ P = omega arith in
     rw (q, le-ltb a P l)
 
 -- And a key that has its home there after has had it before.
-pub home-stayed : (n0 N s P K a : ℕ) (last : Stage) → InRange n0 N s P → staysAt (shapeOf n0 N s (P + 1)) last a ≡ true → home n0 N s (P + 1) K ≡ a → home n0 N s P K ≡ a
-home-stayed n0 N s P K a last r stays here =
+pub home-stayed : (q : Params) (P K a : ℕ) (last : Stage) → InRange q P → staysAt (shapeOf q (P + 1)) last a ≡ true → home q (P + 1) K ≡ a → home q P K ≡ a
+home-stayed q P K a last r stays here =
     ⊎-elim
     (λ e. sym e ∙ here)
-    (λ e. absurd (let no : staysAt (shapeOf n0 N s (P + 1)) last a ≡ false = ends n0 N s P a last (omega arith) in let z : _≡_ {A = ℕ} 0 1 = cc in omega arith))
-    (home-grown n0 N s P K r)
+    (λ e. absurd (let no : staysAt (shapeOf q (P + 1)) last a ≡ false = ends q P a last (omega arith) in let z : _≡_ {A = ℕ} 0 1 = cc in omega arith))
+    (home-grown q P K r)

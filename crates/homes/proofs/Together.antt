@@ -9,7 +9,7 @@ use native.Mathlib.Omega.{arith}
 use lib.ListN.{length, getD}
 use lib.Dec.{leb, ltb}
 use Rattle.homes.specs.declared.Stage.{Stage}
-use Rattle.homes.specs.Homes.{swept, newPage, moved, np, mover, home, nextGroups, InRange}
+use Rattle.homes.specs.Homes.{swept, newPage, moved, np, mover, params, home, nextGroups, InRange}
 use Rattle.homes.specs.Stages.{stageAt, nextStep, After, Sound}
 use Rattle.homes.specs.Lanes.{Lane, startsAt, addressOf, stepped, regrouped}
 use Rattle.homes.proofs.Round.{even-kept, groups-kept, groups-doubled}
@@ -78,7 +78,7 @@ np-first : (n0 : ℕ) → np n0 1 ≡ n0
 np-first n0 = omega (arith, zero-mod n0)
 
 -- It holds at the start.
-pub begins : (n0 N s P K : ℕ) (t : Stage) (l : Lane) → InRange n0 N s P → t ≡ stageAt n0 1 (n0 * N) N → Sound n0 t → l ≡ startsAt (t .f) (t .g) K → Going n0 (t .g) s P K t l
+pub begins : (n0 N s P K : ℕ) (t : Stage) (l : Lane) → InRange (params n0 N s) P → t ≡ stageAt n0 1 (n0 * N) N → Sound n0 t → l ≡ startsAt (t .f) (t .g) K → Going n0 (t .g) s P K t l
 begins n0 N s P K t l ranges first sound e =
     let size : t .f ≡ n0 * t .g = rw first in
     let each : t .np ≡ n0 = rw first (np-first n0) in
@@ -89,7 +89,7 @@ begins n0 N s P K t l ranges first sound e =
       small = rw first (omega (arith, ranges .P-low, ranges .P-high));
     }
 
-module _ (n0 M N s P K : ℕ) (ranges : InRange n0 M s P) (t t′ : Stage) (l : Lane) (on : Going n0 N s P K t l) (after : After n0 t t′) where
+module _ (n0 M N s P K : ℕ) (ranges : InRange (params n0 M s) P) (t t′ : Stage) (l : Lane) (on : Going n0 N s P K t l) (after : After n0 t t′) where
   -- the step that t is, by which t′ is the one after it
   abbrev x : ℕ
   x = suc (on .before .i)
@@ -134,7 +134,7 @@ module _ (n0 M N s P K : ℕ) (ranges : InRange n0 M s P) (t t′ : Stage) (l : 
         rw (r, e) (together (2 * t .g) (regrouped (t .g) (stepped s P t l)) (twice h) (rw (regroup-address (t .g) (stepped s P t l)) moves))
 
 -- At the end the address is the home.
-pub arrived : (n0 N s P K : ℕ) (t : Stage) (l : Lane) → Going n0 N s P K t l → P ≤ t .f → addressOf (t .g) l ≡ home n0 N s P K
+pub arrived : (n0 N s P K : ℕ) (t : Stage) (l : Lane) → Going n0 N s P K t l → P ≤ t .f → addressOf (t .g) l ≡ home (params n0 N s) P K
 arrived n0 N s P K t l on h =
     sym (stopped (λ x F. mover n0 K x) (newPage s) n0 P (P - t .f) (suc (on .before .i)) (t .f) (t .g) (addressOf (t .g) l) h) ∙ on .before .rest
 

@@ -5,7 +5,7 @@ use Prim.Native.Nat.{ℕ, zero, suc, _+_, _-_, _*_, _%_, _<_}
 use native.Mathlib.Omega.{arith}
 use lib.Dec.{leb}
 use Rattle.homes.specs.declared.Stage.{Stage}
-use Rattle.homes.specs.Homes.{seedOf, draw, np, mover, newPage, moved, steps, home}
+use Rattle.homes.specs.Homes.{seedOf, draw, np, mover, newPage, moved, steps, params, home}
 use Rattle.homes.specs.Stages.{stageAt, nextStep, After, Sound}
 use Rattle.homes.proofs.Steps.{turn}
 
@@ -15,7 +15,7 @@ pub record Before (n0 N s P K : ℕ) (t : Stage) (a d : ℕ) : Type 0 where
   pub draw-is : d ≡ draw (seedOf K) i
   pub np-is : t .np ≡ np n0 (suc i)
   pub sound : Sound n0 t
-  pub rest : steps (λ x F. mover n0 K x) (newPage s) n0 P (P - t .f) (suc i) (t .f) (t .g) a ≡ home n0 N s P K
+  pub rest : steps (λ x F. mover n0 K x) (newPage s) n0 P (P - t .f) (suc i) (t .f) (t .g) a ≡ home (params n0 N s) P K
 
 -- It holds at the start.
 pub starts : (n0 N s P K : ℕ) (t : Stage) → t ≡ stageAt n0 1 (n0 * N) N → Sound n0 t → Before n0 (t .g) s P K t (K % t .f) (seedOf K)

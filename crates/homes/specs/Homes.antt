@@ -2,6 +2,7 @@
 use Prim.Native.Nat.{ℕ, zero, suc, _+_, _-_, _*_, _/_, _%_, _≤_, min}
 use mathlib.Core.Bool.{Bool, cond, _&&_}
 use lib.Dec.{leb, ltb, eqb}
+use Rattle.homes.specs.declared.Params.{Params}
 use Rattle.homes.specs.declared.Shape.{Shape}
 
 -- "seed = (K mod 2147483646) + 1"
@@ -46,29 +47,38 @@ module _ (moves : ℕ → ℕ → Bool) (goes : ℕ → ℕ → ℕ → ℕ) (n0
       let on = steps left (suc x) (F + G) (nextGroups n0 x G) (moved P (moves x F) (goes F G a) a) in
       cond (ltb F P) on a
 
+-- the parameters of a file, from their numbers
+abbrev pub params : (n0 N s : ℕ) → Params
+params n0 N s = record { n0 = n0; n = N; s = s }
+
+-- the pages of a file at the start
+abbrev pub firstPages : Params → ℕ
+firstPages q = q .n0 * q .n
+
 -- "Start with address K mod (n0 x N), size F = n0 x N, groups G = N." Each step adds a page at least, so P - F of them reach P. "The last address is the home."
-unfoldable pub home : (n0 N s P K : ℕ) → ℕ
-home n0 N s P K = steps (λ x F. mover n0 K x) (newPage s) n0 P (P - n0 * N) 1 (n0 * N) N (K % (n0 * N))
+unfoldable pub home : (q : Params) → (P K : ℕ) → ℕ
+home q P K =
+    steps (λ x F. mover (q .n0) K x) (newPage (q .s)) (q .n0) P (P - firstPages q) 1 (firstPages q) (q .n) (K % firstPages q)
 
 -- 01, 'The register': "Ranges: n0 1 to 4, N 1 to 64, s 1 to 8, cap 1 to 4,096, n0 x N <= P <= cap", as far as a home depends on them
-pub record InRange (n0 N s P : ℕ) : Type 0 where
-  pub n0-low : 1 ≤ n0
-  pub n0-high : n0 ≤ 4
-  pub N-low : 1 ≤ N
-  pub N-high : N ≤ 64
-  pub s-low : 1 ≤ s
-  pub s-high : s ≤ 8
-  pub P-low : n0 * N ≤ P
+pub record InRange (q : Params) (P : ℕ) : Type 0 where
+  pub n0-low : 1 ≤ q .n0
+  pub n0-high : q .n0 ≤ 4
+  pub N-low : 1 ≤ q .n
+  pub N-high : q .n ≤ 64
+  pub s-low : 1 ≤ q .s
+  pub s-high : q .s ≤ 8
+  pub P-low : q .n0 * q .n ≤ P
   pub P-high : P ≤ 4096
 
 -- the shape of these numbers
-abbrev pub shapeOf : (n0 N s P : ℕ) → Shape
-shapeOf n0 N s P = record { n0 = n0; n = N; s = s; p = P }
+abbrev pub shapeOf : Params → (P : ℕ) → Shape
+shapeOf q P = record { params = q; p = P }
 
 -- a shape whose numbers are in range
 abbrev pub Ready : Shape → Type 0
-Ready shape = InRange (shape .n0) (shape .n) (shape .s) (shape .p)
+Ready shape = InRange (shape .params) (shape .p)
 
 -- the home of a key in a file of that shape
 abbrev pub homeIn : Shape → ℕ → ℕ
-homeIn shape K = home (shape .n0) (shape .n) (shape .s) (shape .p) K
+homeIn shape K = home (shape .params) (shape .p) K

@@ -4,7 +4,7 @@ use mathlib.Core.Bool.{Bool, cond, not, _&&_}
 use lib.Dec.{ltb, eqb}
 use Rattle.homes.specs.declared.Shape.{Shape}
 use Rattle.homes.specs.declared.Stage.{Stage}
-use Rattle.homes.specs.Homes.{newPage}
+use Rattle.homes.specs.Homes.{firstPages, newPage}
 use Rattle.homes.specs.Stages.{firstStep, nextStep}
 
 -- the step after which the size is P at least, from t on, where t is step x, with at most `left` steps more
@@ -14,7 +14,7 @@ lastFrom n0 P (suc left) x t = cond (ltb (t .f + t .g) P) (lastFrom n0 P left (s
 
 -- the last step of a file of that shape
 abbrev pub lastStep : Shape → Stage
-lastStep shape = lastFrom (shape .n0) (shape .p) (shape .p - shape .n0 * shape .n) 1 (firstStep shape)
+lastStep shape = lastFrom (shape .params .n0) (shape .p) (shape .p - firstPages (shape .params)) 1 (firstStep shape)
 
 -- a step has a group at least, and no more groups than pages
 abbrev pub Within : Stage → Type 0
@@ -22,4 +22,4 @@ Within t = (1 ≤ t .g) × (t .g ≤ t .f) × (t .f < 4096)
 
 -- whether a page is another than the last, and of a group that doesn't grow into the last
 unfoldable pub staysAt : Shape → Stage → ℕ → Bool
-staysAt shape last a = ltb a (shape .p - 1) && not (eqb (newPage (shape .s) (last .f) (last .g) a) (shape .p - 1))
+staysAt shape last a = ltb a (shape .p - 1) && not (eqb (newPage (shape .params .s) (last .f) (last .g) a) (shape .p - 1))

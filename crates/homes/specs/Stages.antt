@@ -3,7 +3,7 @@ use Prim.Native.Nat.{ℕ, suc, _+_, _*_, _≤_, _<_}
 use mathlib.Core.Path.{_≡_}
 use Rattle.homes.specs.declared.Shape.{Shape}
 use Rattle.homes.specs.declared.Stage.{Stage}
-use Rattle.homes.specs.Homes.{np, nextGroups}
+use Rattle.homes.specs.Homes.{np, nextGroups, firstPages}
 
 -- step x, at size F with G groups
 abbrev pub stageAt : (n0 x F G : ℕ) → Stage
@@ -11,7 +11,7 @@ stageAt n0 x F G = record { f = F; g = G; np = np n0 x }
 
 -- the first step of a file of that shape
 abbrev pub firstStep : Shape → Stage
-firstStep shape = stageAt (shape .n0) 1 (shape .n0 * shape .n) (shape .n)
+firstStep shape = stageAt (shape .params .n0) 1 (firstPages (shape .params)) (shape .params .n)
 
 -- the step after t, where t is step x
 abbrev pub nextStep : (n0 x : ℕ) → Stage → Stage

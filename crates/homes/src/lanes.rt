@@ -179,8 +179,8 @@ pub fn homes(shape: Shape, keys: [u64; 12]) -> [u64; 12]
     requires { ⌜ Ready shape ⌝ }
     ensures { λ r. ⌜ r ≡ map (homeIn shape) keys ⌝ }
 {
-    let n0 = shape.n0;
-    let s = shape.s;
+    let n0 = shape.params.n0 as u64;
+    let s = shape.params.s as u64;
     let p = shape.p;
     let mut stage = shape.first();
     let mut lanes = start(keys, stage.f, stage.g);

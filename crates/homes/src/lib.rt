@@ -7,11 +7,16 @@ ghost use Rattle.homes.specs.Homes.{InRange, Ready, shapeOf, homeIn, new
 ghost use Rattle.homes.specs.Stages.{firstStep, After, Sound};
 ghost use Rattle.homes.specs.Last.{Within, lastStep, staysAt};
 
-// The numbers of a file that its homes depend on: pages a group and groups at the start, sweeps, pages grown to.
+// The parameters of a file: pages a group and groups at the start, and sweeps.
+pub struct Params {
+    pub n0: u16,
+    pub n: u16,
+    pub s: u16,
+}
+
+// What the homes of a file depend on: its parameters, and the pages grown to.
 pub struct Shape {
-    pub n0: u64,
-    pub n: u64,
-    pub s: u64,
+    pub params: Params,
     pub p: u64,
 }
 
@@ -84,24 +89,26 @@ impl Stage {
 
 impl Shape {
     // The shape of a file of these numbers, made once for many keys.
-    pub fn new(n0: u64, n: u64, s: u64, p: u64) -> Self
-        requires { ⌜ InRange n0 n s p ⌝ }
-        ensures { λ r. ⌜ r ≡ shapeOf n0 n s p ⌝ }
+    pub fn new(params: Params, p: u64) -> Self
+        requires { ⌜ InRange params p ⌝ }
+        ensures { λ r. ⌜ r ≡ shapeOf params p ⌝ }
         ensures ready { λ r. ⌜ Ready r ⌝ }
     {
-        Self { n0, n, s, p }
+        Self { params, p }
     }
 
     // The first step.
     fn first(self) -> Stage
         requires { ⌜ Ready self ⌝ }
         ensures { λ r. ⌜ r ≡ firstStep self ⌝ }
-        ensures sound { λ r. ⌜ Sound (self .n0) r ⌝ }
+        ensures sound { λ r. ⌜ Sound (self .params .n0) r ⌝ }
     {
+        let n0 = self.params.n0 as u64;
+        let n = self.params.n as u64;
         Stage {
-            g: self.n,
-            f: self.n0 * self.n,
-            np: self.n0,
+            g: n,
+            f: n0 * n,
+            np: n0,
         }
     }
 
@@ -110,8 +117,8 @@ impl Shape {
         requires { ⌜ Ready self ⌝ }
         ensures { λ r. ⌜ r ≡ homeIn self key ⌝ }
     {
-        let n0 = self.n0;
-        let s = self.s;
+        let n0 = self.params.n0 as u64;
+        let s = self.params.s as u64;
         let p = self.p;
         let mut stage = self.first();
         let mut address = key % stage.f;
@@ -127,11 +134,11 @@ impl Shape {
 
     // The last step that a file of this shape takes, asked for once a growth.
     pub fn last_step(self) -> Stage
-        requires { ⌜ Ready self × (self .n0 * self .n < self .p) ⌝ }
+        requires { ⌜ Ready self × (self .params .n0 * self .params .n < self .p) ⌝ }
         ensures { λ r. ⌜ r ≡ lastStep self ⌝ }
         ensures within { λ r. ⌜ Within r ⌝ }
     {
-        let n0 = self.n0;
+        let n0 = self.params.n0 as u64;
         let p = self.p;
         let mut stage = self.first();
         while stage.f + stage.g < p {
@@ -146,7 +153,7 @@ impl Shape {
         ensures { λ r. ⌜ r ≡ staysAt self last page ⌝ }
     {
         let added = self.p - 1;
-        let new = new_page(self.s, last.f, last.g, page);
+        let new = new_page(self.params.s as u64, last.f, last.g, page);
         (page < added) & (new != added)
     }
 }

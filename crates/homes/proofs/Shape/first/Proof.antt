@@ -8,14 +8,20 @@ use Rattle.homes.specs.Homes.{np}
 use Rattle.homes.proofs.Shape.first.Statement.{statement}
 use Rattle.homes.proofs.Shape.first.Tie as tie
 
-mul-t2 : tie.Need-mul-t2
-mul-t2 c = search needs
+cast-n0 : tie.Need-cast-n0
+cast-n0 c = search needs
+
+cast-n : tie.Need-cast-n
+cast-n c = search needs
+
+mul-t4 : tie.Need-mul-t4
+mul-t4 c = search needs
 
 returns : tie.Need-returns
 returns c =
-    let self = c .before .args .self in
-    let np-is : np (self .n0) 1 ≡ self .n0 = omega (arith, zero-mod (self .n0)) in
-    (rw np-is, (search needs, omega (arith, mul-le-mul-right (self .n) (c .before .pre .n0-low)), search needs))
+    let self = c .before .before .args .self in
+    let np-is : np (self .params .n0) 1 ≡ self .params .n0 = omega (arith, zero-mod (self .params .n0)) in
+    (rw np-is, (search needs, omega (arith, mul-le-mul-right (self .params .n) (c .before .before .pre .n0-low)), search needs))
 
 pub first-spec : {M : Type 1} → statement M
-first-spec = tie.close (tie.spec mul-t2 returns)
+first-spec = tie.close (tie.spec cast-n0 cast-n mul-t4 returns)

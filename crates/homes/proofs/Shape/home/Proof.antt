@@ -6,7 +6,7 @@ use native.Mathlib.Nat.{mul-le-mul-left}
 use native.Mathlib.Omega.{arith}
 use borrow.Author.Needs.{needs}
 use Rattle.homes.specs.declared.Stage.{Stage}
-use Rattle.homes.specs.Homes.{mover, newPage, home}
+use Rattle.homes.specs.Homes.{mover, newPage, params, home}
 use Rattle.homes.proofs.Steps.{grows, stopped}
 use Rattle.homes.proofs.Homes.{draw-below}
 use Rattle.homes.proofs.Turn.{Before, starts, turned}
@@ -23,6 +23,12 @@ abbrev μ-loop : tie.MeasureT-loop
 product-fits : (d m : ℕ) → d < 2147483647 → m ≤ 8 → d * m < 2 ^ 64
 product-fits d m b h = omega (arith, mul-le-mul-left d h)
 
+cast-n0 : tie.Need-cast-n0 Inv-loop μ-loop
+cast-n0 c = search needs
+
+cast-s : tie.Need-cast-s Inv-loop μ-loop
+cast-s c = search needs
+
 first-requires : tie.Need-first-requires Inv-loop μ-loop
 first-requires c κs = search needs
 
@@ -38,12 +44,12 @@ cast-draw c = search needs
 loop-holds : tie.Need-loop-holds Inv-loop μ-loop
 loop-holds c =
     let first = c .before .first .ensures in
-    starts _ (c .before .before .args .self .n) _ _ _ _ (first .0) (first .1)
+    starts _ (c .before .before .before .before .args .self .params .n) _ _ _ _ (first .0) (first .1)
 
 next-draw-requires : tie.Need-next-draw-requires Inv-loop μ-loop
 next-draw-requires c κs =
     let inv = c .before .before .loop .inv in
-    omega (arith, inv .draw-is, draw-below (c .before .before .before .before .before .args .key) (inv .i))
+    omega (arith, inv .draw-is, draw-below (c .before .before .before .before .before .before .before .args .key) (inv .i))
 
 cast-moves : tie.Need-cast-moves Inv-loop μ-loop
 cast-moves c = search needs
@@ -75,10 +81,10 @@ returns : tie.Need-returns Inv-loop μ-loop
 returns c =
     let l = c .before .before .loop in
     let first = c .before .before .before .before in
-    let key = first .before .args .key in
-    let self = first .before .args .self in
-    let start = ap (λ (t : Stage). home (self .n0) (t .g) (self .s) (self .p) key) (first .first .ensures .0) in
-    sym (stopped (λ x F. mover (self .n0) key x) (newPage (self .s)) (self .n0) (self .p) (self .p - l .stage .f) (suc (l .inv .i)) (l .stage .f) (l .stage .g) (l .address) (c .if1 .left)) ∙ l .inv .rest ∙ start
+    let key = first .before .before .before .args .key in
+    let self = first .before .before .before .args .self in
+    let start = ap (λ (t : Stage). home (params (self .params .n0) (t .g) (self .params .s)) (self .p) key) (first .first .ensures .0) in
+    sym (stopped (λ x F. mover (self .params .n0) key x) (newPage (self .params .s)) (self .params .n0) (self .p) (self .p - l .stage .f) (suc (l .inv .i)) (l .stage .f) (l .stage .g) (l .address) (c .if1 .left)) ∙ l .inv .rest ∙ start
 
 pub home-spec : {M : Type 1} → statement M
 home-spec =
@@ -86,6 +92,8 @@ home-spec =
     (tie.spec
     Inv-loop
     μ-loop
+    cast-n0
+    cast-s
     first-requires
     rem-address
     add-draw

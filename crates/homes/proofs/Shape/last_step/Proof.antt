@@ -17,13 +17,16 @@ Inv-loop n0 p stage₀ stage = Seeking n0 p (lastFrom n0 p (p - stage₀ .f) 1 s
 abbrev μ-loop : tie.MeasureT-loop
 μ-loop n0 p stage₀ stage = p - stage .f
 
+cast-n0 : tie.Need-cast-n0 Inv-loop μ-loop
+cast-n0 c = search needs
+
 first-requires : tie.Need-first-requires Inv-loop μ-loop
 first-requires c κs = search needs
 
 loop-holds : tie.Need-loop-holds Inv-loop μ-loop
 loop-holds c =
-    let at = c .before in
-    seek-starts _ (at .args .self .n) _ _ (c .first .ensures .0) (c .first .ensures .1) (at .pre .1)
+    let at = c .before .before in
+    seek-starts _ (at .args .self .params .n) _ _ (c .first .ensures .0) (c .first .ensures .1) (at .pre .1)
 
 add-if1 : tie.Need-add-if1 Inv-loop μ-loop
 add-if1 c = search needs
@@ -44,10 +47,10 @@ returns : tie.Need-returns Inv-loop μ-loop
 returns c =
     let inv = c .before .before .loop .inv in
     let first = c .before .before .before in
-    let self = first .before .args .self in
-    let start = ap (λ (t : Stage). lastFrom (self .n0) (self .p) (self .p - t .f) 1 t) (first .first .ensures .0) in
+    let self = first .before .before .args .self in
+    let start = ap (λ (t : Stage). lastFrom (self .params .n0) (self .p) (self .p - t .f) 1 t) (first .first .ensures .0) in
     (sym (last-here _ _ (inv .left) (suc (inv .i)) _ (c .if1 .left)) ∙ inv .rest ∙ start, search needs)
 
 pub last-step-spec : {M : Type 1} → statement M
 last-step-spec =
-    tie.close (tie.spec Inv-loop μ-loop first-requires loop-holds add-if1 next-requires loop-less loop-again returns)
+    tie.close (tie.spec Inv-loop μ-loop cast-n0 first-requires loop-holds add-if1 next-requires loop-less loop-again returns)

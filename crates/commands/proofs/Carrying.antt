@@ -4,6 +4,7 @@ use mathlib.Core.List.{List}
 use Prim.Native.Nat.{ℕ, _*_, _≤_, _<_}
 use lib.ListN.{take}
 use borrow.Author.Tests.{lt-ltb, le-ltb}
+use Rattle.homes.specs.declared.Params.{Params}
 use Rattle.numbers.proofs.Laws.{written-nil}
 use Rattle.state.specs.declared.State.{State}
 use Rattle.state.specs.declared.Numbers.{Numbers}
@@ -20,14 +21,14 @@ abbrev pub Leaves : Told → (space row : List ℕ) → Carried → Type 0
 Leaves t space row c = (t ≡ toldOf c) × ((space ≡ c .site .space) × (row ≡ c .site .row))
 
 module _ (s : State) (space row : List ℕ) (c : Command) where
-  module _ (n0 N sweeps cap : ℕ) (e : c ≡ Format n0 N sweeps cap) where
+  module _ (q : Params) (cap : ℕ) (e : c ≡ Format q cap) where
     -- a format of more pages than a log has: the log refuses it, and nothing is called
     pub too-many : 128 < cap → (n : Numbers) → n ≡ refusedBy 12 → Leaves (record { state = s; numbers = n }) space row (carried (site s space row) c)
     unfolding carried
     too-many h n is = rw (e, lt-ltb 128 cap h, is) (refl, (refl, refl))
 
     -- any other format is called on the pages that it asks for
-    pub carries-format : cap ≤ 128 → (t : Told) (new : List ℕ) → Back t space new (formatted s n0 N sweeps cap (take (256 * cap) space))
+    pub carries-format : cap ≤ 128 → (t : Told) (new : List ℕ) → Back t space new (formatted s q cap (take (256 * cap) space))
         → Leaves t new row (carried (site s space row) c)
     unfolding carried left
     carries-format h t new w = rw (e, le-ltb 128 cap h) (w .0, (w .1, sym (written-nil row 0)))

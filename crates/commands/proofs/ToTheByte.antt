@@ -45,7 +45,7 @@ record Tells (l : List ℕ) (c : Command) : Type 0 where
 
 -- so they do where they say the fields of its layout
 tells : (l : List ℕ) (c : Command) → Says l 0 (layoutOf c) → Tells l c
-tells l (Format n0 N s cap) t = record { what = kind.Format; first = t .0; second = t .1 .0; body = cc }
+tells l (Format q cap) t = record { what = kind.Format; first = t .0; second = t .1 .0; body = cc }
 tells l (Put k v) t = record { what = kind.Put; first = t .0; second = t .1 .0; body = cc }
 tells l (Find k) t = record { what = kind.Find; first = t .0; second = t .1 .0; body = cc }
 tells l (Remove k) t = record { what = kind.Remove; first = t .0; second = t .1 .0; body = cc }

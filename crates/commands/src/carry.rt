@@ -1,6 +1,7 @@
 // One command carried out on a state, its pages and its row.
 use crate::Command;
 use crate::Told;
+use homes::Params;
 use state::Done;
 use state::Numbers;
 use state::State;
@@ -46,12 +47,12 @@ fn tell(done: Done) -> Told
     Told { state, numbers }
 }
 
-fn format_lent(state: State, n0: u16, n: u16, s: u16, cap: u16, space: &mut [u8]) -> Told
-    ensures { λ r. ⌜ r ≡ tells (formatted state n0 n s cap (take (256 * cap) (now (space .entry))) .done) ⌝ }
-    ensures { λ _. ⌜ now (space .exit) ≡ written (now (space .entry)) 0 (formatted state n0 n s cap (take (256 * cap) (now (space .entry))) .area) ⌝ }
+fn format_lent(state: State, params: Params, cap: u16, space: &mut [u8]) -> Told
+    ensures { λ r. ⌜ r ≡ tells (formatted state params cap (take (256 * cap) (now (space .entry))) .done) ⌝ }
+    ensures { λ _. ⌜ now (space .exit) ≡ written (now (space .entry)) 0 (formatted state params cap (take (256 * cap) (now (space .entry))) .area) ⌝ }
 {
     let end = lent(cap, &space[..]);
-    let done = register::format(state, n0, n, s, cap, &mut space[..end]);
+    let done = register::format(state, params, cap, &mut space[..end]);
     tell(done)
 }
 
@@ -108,14 +109,14 @@ pub fn carry_out(state: State, space: &mut [u8], row: &mut [u32], command: Comma
     ensures { λ _. ⌜ now (row .exit) ≡ carried (site state (now (space .entry)) (now (row .entry))) command .site .row ⌝ }
 {
     match command {
-        Command::Format { n0, n, s, cap } => {
+        Command::Format { params, cap } => {
             if 128 < cap {
                 return Told {
                     state,
                     numbers: refused(12),
                 };
             }
-            format_lent(state, n0, n, s, cap, space)
+            format_lent(state, params, cap, space)
         }
         Command::Put { key, value } => put_lent(state, space, key, value),
         Command::Find { key } => find_lent(state, &space[..], key),

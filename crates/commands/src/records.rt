@@ -3,6 +3,7 @@ use crate::Command;
 use crate::Form;
 use crate::Item;
 use crate::Kind;
+use homes::Params;
 use state::Numbers;
 use state::State;
 ghost use mathlib.Core.Path.{_≡_};
@@ -53,12 +54,17 @@ fn command_of(kind: Kind, input: &[u8]) -> Command
     ensures { λ r. ⌜ r ≡ commandOf kind (now (input .entry)) ⌝ }
 {
     match kind {
-        Kind::Format => Command::Format {
-            n0: numbers::get_u16(input, 4),
-            n: numbers::get_u16(input, 6),
-            s: numbers::get_u16(input, 8),
-            cap: numbers::get_u16(input, 10),
-        },
+        Kind::Format => {
+            let params = Params {
+                n0: numbers::get_u16(input, 4),
+                n: numbers::get_u16(input, 6),
+                s: numbers::get_u16(input, 8),
+            };
+            Command::Format {
+                params,
+                cap: numbers::get_u16(input, 10),
+            }
+        }
         Kind::Put => Command::Put {
             key: numbers::get_u64(input, 4),
             value: numbers::get_u64(input, 12),

@@ -6,6 +6,7 @@ use Prim.Native.Nat.{ℕ, zero, suc, _*_}
 use native.Mathlib.Omega.{arith}
 use lib.Dec.{eqb}
 use lib.ListN.{length, replicate, length-replicate}
+use Rattle.homes.specs.declared.Params.{Params}
 use Rattle.placing.specs.Image.{cat, page, Image}
 use Rattle.pages.specs.Page.{Record, key}
 use Rattle.pages.specs.Area.{areaFrom}
@@ -42,21 +43,21 @@ blank-image h n =
       rising = rw (blank-cat n) tt;
     }
 
-blank-stands : (n0 N s cap : ℕ) → inRange (fresh n0 N s cap) ≡ true → Stands (begun n0 N s cap) (replicate cap [])
-blank-stands n0 N s cap r = record { range = r; set = record { keys = tt; once = tt }; values = tt; count = refl; image = blank-image (homes (fresh n0 N s cap)) cap }
+blank-stands : (q : Params) (cap : ℕ) → inRange (fresh q cap) ≡ true → Stands (begun q cap) (replicate cap [])
+blank-stands q cap r = record { range = r; set = record { keys = tt; once = tt }; values = tt; count = refl; image = blank-image (homes (fresh q cap)) cap }
 
 -- what a format comes to: it begins a file that stands, or is refused with 1 or 2
-pub data Begins (f : File) (n0 N s cap : ℕ) (l : Left) : Type 0 where
-  began : l ≡ leaves (done (stateOf (begun n0 N s cap)) (Accepted 0 0 0)) (areaFrom 0 (replicate cap [])) [] → Stands (begun n0 N s cap) (replicate cap []) → Begins f n0 N s cap l
-  outside : l ≡ leaves (done (f .state) OutOfRange) (f .area) [] → Begins f n0 N s cap l
-  elsewhere : l ≡ leaves (done (f .state) WrongArea) (f .area) [] → Begins f n0 N s cap l
+pub data Begins (f : File) (q : Params) (cap : ℕ) (l : Left) : Type 0 where
+  began : l ≡ leaves (done (stateOf (begun q cap)) (Accepted 0 0 0)) (areaFrom 0 (replicate cap [])) [] → Stands (begun q cap) (replicate cap []) → Begins f q cap l
+  outside : l ≡ leaves (done (f .state) OutOfRange) (f .area) [] → Begins f q cap l
+  elsewhere : l ≡ leaves (done (f .state) WrongArea) (f .area) [] → Begins f q cap l
 
-pub format-begins : (f : File) (n0 N s cap : ℕ) → Begins f n0 N s cap (left f (format n0 N s cap))
+pub format-begins : (f : File) (q : Params) (cap : ℕ) → Begins f q cap (left f (format q cap))
 unfolding left gateOf
-format-begins f n0 N s cap = go (inRange (fresh n0 N s cap)) (eqb (length (f .area)) (256 * cap)) refl
+format-begins f q cap = go (inRange (fresh q cap)) (eqb (length (f .area)) (256 * cap)) refl
   where
-    go : (u v : Bool) → inRange (fresh n0 N s cap) ≡ u
-        → Begins f n0 N s cap (wrote (onGate (cond u (cond v Open (Shut WrongArea)) (Shut OutOfRange)) (refused (f .state) (f .area)) (record { done = done (fresh n0 N s cap) (Accepted 0 0 0); area = areaFrom 0 (replicate cap []) })))
-    go true true e = began refl (blank-stands n0 N s cap e)
+    go : (u v : Bool) → inRange (fresh q cap) ≡ u
+        → Begins f q cap (wrote (onGate (cond u (cond v Open (Shut WrongArea)) (Shut OutOfRange)) (refused (f .state) (f .area)) (record { done = done (fresh q cap) (Accepted 0 0 0); area = areaFrom 0 (replicate cap []) })))
+    go true true e = began refl (blank-stands q cap e)
     go true false e = elsewhere refl
     go false v e = outside refl

@@ -41,4 +41,4 @@ module _ {s : State} {rs : List Record} {ps : List (List Record)} (w : OnImage s
 
   -- and a home is one of its pages
   pub home-low : (k : ℕ) → homes s k ≤ s .cap
-  home-low k = omega (arith, home-below (s .n0) (s .n) (s .s) (s .p) k (in-shape s (w .range)), ranged s (w .range) .p-high)
+  home-low k = omega (arith, home-below (s .params) (s .p) k (in-shape s (w .range)), ranged s (w .range) .p-high)

@@ -9,6 +9,7 @@ use native.Mathlib.Omega.{arith}
 use lib.Dec.{ltb, eqb}
 use lib.ListN.{length, replicate}
 use borrow.Author.Tests.{ne-eqb}
+use Rattle.homes.specs.declared.Params.{Params}
 use Rattle.placing.specs.Image.{All, RecordSet, Room}
 use Rattle.placing.specs.Lay.{taken}
 use Rattle.placing.proofs.Images.{room-taken}
@@ -161,17 +162,17 @@ module _ {m : Kept} {ps : List (List Record)} (s : Stands m ps) where
   put-step k v (turned-away n e a) = refused (NoRoom n) [] tt a
   put-step k v (joined e a) = accepted (holding m ((k, v) ∷ m .held)) 0 [] refl a
 
-  format-step : (n0 N q cap : ℕ) → Step m ps (format n0 N q cap)
-  format-step n0 N q cap = go (format-begins (fileOf m ps) n0 N q cap)
+  format-step : (q : Params) (cap : ℕ) → Step m ps (format q cap)
+  format-step q cap = go (format-begins (fileOf m ps) q cap)
     where
-      go : Begins (fileOf m ps) n0 N q cap (left (fileOf m ps) (format n0 N q cap)) → Step m ps (format n0 N q cap)
-      go (began e t) = accepted (begun n0 N q cap) 0 [] refl (record { read = 0; moved = 0; pages = replicate cap []; left = e; stands = t })
+      go : Begins (fileOf m ps) q cap (left (fileOf m ps) (format q cap)) → Step m ps (format q cap)
+      go (began e t) = accepted (begun q cap) 0 [] refl (record { read = 0; moved = 0; pages = replicate cap []; left = e; stands = t })
       go (outside e) = refused OutOfRange [] tt e
       go (elsewhere e) = refused WrongArea [] tt e
 
   -- any call
   pub step : (c : Call) → Fits c → Step m ps c
-  step (format n0 N q cap) f = format-step n0 N q cap
+  step (format q cap) f = format-step q cap
   step (find k) f = find-step k f
   step (put k v) f = put-step k v (put-comes k v (f .0) (f .1))
   step (remove k) f = remove-step k f
@@ -209,9 +210,9 @@ step-next m ps s c (said u k e) =
 
 -- before a format is accepted nothing is known, and no other call makes anything known
 none-next : (f : File) (c : Call) → Next none c (left f c)
-none-next f (format n0 N s cap) = go (left f (format n0 N s cap)) (format-begins f n0 N s cap)
+none-next f (format q cap) = go (left f (format q cap)) (format-begins f q cap)
   where
-    go : (l : Left) → Begins f n0 N s cap l → Next none (format n0 N s cap) l
+    go : (l : Left) → Begins f q cap l → Next none (format q cap) l
     go l (began e t) = rw e (replicate cap [], (refl, t))
     go l (outside e) = rw e tt
     go l (elsewhere e) = rw e tt

@@ -76,10 +76,10 @@ module _ (f : File) where
 
 pub total : (f : File) → Total f
 unfolding left
-total f (format n0 N s cap) = formats (gateOf (fresh n0 N s cap) (length (f .area)))
+total f (format q cap) = formats (gateOf (fresh q cap) (length (f .area)))
   where
     new : Outcome
-    new = record { done = done (fresh n0 N s cap) (Accepted 0 0 0); area = areaFrom 0 (replicate cap []) }
+    new = record { done = done (fresh q cap) (Accepted 0 0 0); area = areaFrom 0 (replicate cap []) }
 
     formats : (g : Gate) → Leaves f (wrote (onGate g (refused (f .state) (f .area)) new)) []
     formats g = gated f g new (λ n. absurd (n refl))

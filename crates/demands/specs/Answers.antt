@@ -38,8 +38,8 @@ module _ (T : Ended) where
 -- The arguments stand in the order of the signature: a .0 is the first, a .1 .0 the second, and so on; v has a place for each, and in it what is left of an area or a row that was lent to be changed.
 pub record Answers : Type 0 where
   pub format : Settled Format.ended Format.Reads.Asked Format.Reads.Learnt
-      (λ κs a. left (record { state = a .0; area = now (a .1 .1 .1 .1 .1 .0) }) (format (a .1 .0) (a .1 .1 .0) (a .1 .1 .1 .0) (a .1 .1 .1 .1 .0)))
-      (λ κs a y v. leaves y (v .1 .1 .1 .1 .1 .0) [])
+      (λ κs a. left (record { state = a .0; area = now (a .1 .1 .1 .0) }) (format (a .1 .0) (a .1 .1 .0)))
+      (λ κs a y v. leaves y (v .1 .1 .1 .0) [])
   pub find : Settled Find.ended Find.Reads.Asked Find.Reads.Learnt
       (λ κs a. left (record { state = a .0; area = now (a .1 .0) }) (find (a .1 .1 .0)))
       (λ κs a y v. leaves y (now (a .1 .0)) [])

@@ -28,7 +28,7 @@ Tells f c number commit = (refusal f c ≡ number) × (numbersOf (left f c .said
 
 -- the row that a call is lent
 abbrev pub lent : Call → List ℕ
-lent (format n0 N s cap) = []
+lent (format q cap) = []
 lent (find k) = []
 lent (put k v) = []
 lent (remove k) = []
@@ -84,9 +84,7 @@ module _ (m : Kept) (f : File) where
 
 -- Two files agree in "parameters, lent size, pages grown to and records held": which commit each request became, in whatever order that came about
 pub record Agree (a b : Kept) : Type 0 where
-  pub n0 : a .n0 ≡ b .n0
-  pub n : a .n ≡ b .n
-  pub s : a .s ≡ b .s
+  pub params : a .params ≡ b .params
   pub cap : a .cap ≡ b .cap
   pub p : a .p ≡ b .p
   pub held : (k : ℕ) → commitOf k (a .held) ≡ commitOf k (b .held)

@@ -1,17 +1,19 @@
 -- Histories of calls: "From a fresh file, each call given the pages and state that the last one left" (demands 2 and 3), and what the accepted calls make of a file. What is quoted is the demands', or 01's where it says so.
-use Prim.Native.Nat.{ℕ, _+_, _*_, _^_, _<_}
+use Prim.Native.Nat.{ℕ, _+_, _^_, _<_}
 use mathlib.Core.Bool.{cond}
 use mathlib.Core.Option.{Option, none, some, Option·map}
 use mathlib.Core.List.{List, [], _∷_}
 use lib.ListN.{length}
 use lib.Dec.{eqb}
+use Rattle.homes.specs.declared.Params.{Params}
+use Rattle.homes.specs.Homes.{firstPages}
 use Rattle.pages.specs.Page.{Record, key, value}
 use Rattle.state.specs.declared.State.{State}
 use Rattle.register.specs.Files.{Call, format, find, put, remove, grow, check, due, File, left, numbersOf}
 
 -- 01: "a key (the request number, any 64-bit value, 0 included) and a value (the commit number, any 64-bit value)"; all other numbers may be any
 abbrev pub Fits : Call → Type 0
-Fits (format n0 N s cap) = Unit {0}
+Fits (format q cap) = Unit {0}
 Fits (find k) = k < 2 ^ 64
 Fits (put k v) = (k < 2 ^ 64) × (v < 2 ^ 64)
 Fits (remove k) = k < 2 ^ 64
@@ -30,16 +32,14 @@ refusal f c = numbersOf (left f c .said) .refusal
 
 -- what is known of a fresh file: "parameters, lent size, pages grown to and records held"
 pub record Kept : Type 0 where
-  pub n0 : ℕ
-  pub n : ℕ
-  pub s : ℕ
+  pub params : Params
   pub cap : ℕ
   pub p : ℕ
   pub held : List Record
 
 -- the state of such a file: r is "records held"
 abbrev pub stateOf : Kept → State
-stateOf m = record { n0 = m .n0; n = m .n; s = m .s; p = m .p; cap = m .cap; r = length (m .held) }
+stateOf m = record { params = m .params; p = m .p; cap = m .cap; r = length (m .held) }
 
 -- the records without that of a request
 unfoldable pub without : ℕ → List Record → List Record
@@ -52,20 +52,20 @@ commitOf k [] = none
 commitOf k (x ∷ rs) = cond (eqb (key x) k) (some (value x)) (commitOf k rs)
 
 -- just formatted: 01's "empty file, P = n0 x N"
-abbrev pub begun : (n0 N s cap : ℕ) → Kept
-begun n0 N s cap = record { n0 = n0; n = N; s = s; cap = cap; p = n0 * N; held = [] }
+abbrev pub begun : Params → (cap : ℕ) → Kept
+begun q cap = record { params = q; cap = cap; p = firstPages q; held = [] }
 
 -- with other records
 abbrev pub holding : Kept → List Record → Kept
-holding m rs = record { n0 = m .n0; n = m .n; s = m .s; cap = m .cap; p = m .p; held = rs }
+holding m rs = record { params = m .params; cap = m .cap; p = m .p; held = rs }
 
 -- with one page more
 abbrev pub paged : Kept → Kept
-paged m = record { n0 = m .n0; n = m .n; s = m .s; cap = m .cap; p = m .p + 1; held = m .held }
+paged m = record { params = m .params; cap = m .cap; p = m .p + 1; held = m .held }
 
 -- what an accepted call makes of it. 01: an accepted format "begins a fresh file, and what was held before no longer counts"
 abbrev pub keeps : Option Kept → Call → Option Kept
-keeps o (format n0 N s cap) = some (begun n0 N s cap)
+keeps o (format q cap) = some (begun q cap)
 keeps o (find k) = o
 keeps o (put k v) = Option·map (λ m. holding m ((k, v) ∷ m .held)) o
 keeps o (remove k) = Option·map (λ m. holding m (without k (m .held))) o

@@ -3,10 +3,10 @@ use mathlib.Core.Path.{_≡_, refl}
 use mathlib.Core.List.{List, [], _∷_, _++_, map}
 use mathlib.Core.Bool.{cond}
 use Prim.Native.Nat.{ℕ, _*_}
-use lib.ListN.{length, replicate}
+use lib.ListN.{replicate}
 use Rattle.numbers.specs.Little.{little, bytesOf, numberAt, written}
 use Rattle.numbers.specs.Fields.{encode}
-use Rattle.homes.specs.Homes.{draw, mover, swept, newPage, moved, nextGroups, steps, home}
+use Rattle.homes.specs.Homes.{draw, mover, swept, newPage, moved, nextGroups, steps, params, home}
 use Rattle.pages.specs.Page.{key, pageBytes, recordsIn, wellFormed, readPage, inMemory}
 use Rattle.pages.specs.Slots.{opened, closed}
 use Rattle.pages.specs.Area.{partAt}
@@ -29,7 +29,7 @@ grown = map (newPage 3 16 8) (7 ∷ 4 ∷ 1 ∷ 6 ∷ 3 ∷ 0 ∷ 5 ∷ 2 ∷ []
 
 -- "n0 2, N 2, s 1": the homes of a key at P 4, 5, 6, 7 and 8
 abbrev homes : ℕ → List ℕ
-homes K = map (λ P. home 2 2 1 P K) (4 ∷ 5 ∷ 6 ∷ 7 ∷ 8 ∷ [])
+homes K = map (λ P. home (params 2 2 1) P K) (4 ∷ 5 ∷ 6 ∷ 7 ∷ 8 ∷ [])
 
 -- "Same file: key 42590 is a mover at x = 1, key 42591 isn't": 1 for a mover, 0 for none
 abbrev movers : List ℕ
@@ -37,11 +37,11 @@ movers = map (λ K. cond (mover 2 K 1) 1 0) (42590 ∷ 42591 ∷ [])
 
 -- "P 4: 38 records not due, 39 due": 1 for due, 0 for not
 abbrev dues : List ℕ
-dues = map (λ r. cond (isDue (record { n0 = 2; n = 2; s = 1; p = 4; cap = 4; r = r })) 1 0) (38 ∷ 39 ∷ [])
+dues = map (λ r. cond (isDue (record { params = params 2 2 1; p = 4; cap = 4; r = r })) 1 0) (38 ∷ 39 ∷ [])
 
 -- a file of n0, N and s all 1 in an area that held other bytes before
 abbrev file : (cap : ℕ) → Outcome
-file cap = formatted (record { n0 = 0; n = 0; s = 0; p = 0; cap = 0; r = 0 }) 1 1 1 cap (replicate (256 * cap) 255)
+file cap = formatted (record { params = params 0 0 0; p = 0; cap = 0; r = 0 }) (params 1 1 1) cap (replicate (256 * cap) 255)
 
 -- keys put one after the other, each with itself as its value
 abbrev putAll : List ℕ → Outcome → Outcome
@@ -67,35 +67,31 @@ abbrev twelve : List ℕ
 twelve = 0 ∷ 1 ∷ 2 ∷ 3 ∷ 4 ∷ 5 ∷ 6 ∷ 7 ∷ 8 ∷ 9 ∷ 10 ∷ 11 ∷ []
 
 -- "Keys 0 to 11, then grow: all twelve on page 1, page 0 empty, moved 12."
-abbrev moves : Growth → List ℕ
-moves g = refusal (g .done) ∷ movedBy (g .done) ∷ length (keysOn (g .area) 0) ∷ keysOn (g .area) 1
+abbrev moves : Growth → List (List ℕ)
+moves g = (refusal (g .done) ∷ movedBy (g .done) ∷ []) ∷ keysOn (g .area) 0 ∷ keysOn (g .area) 1 ∷ []
 
 -- "Then key 12 is refused with 7, though page 0 is empty."
-abbrev then12 : Growth → List ℕ
-then12 g = refusal (stored (g .done .state) (g .area) (12, 12) .done) ∷ []
+abbrev then12 : Growth → List (List ℕ)
+then12 g = (refusal (stored (g .done .state) (g .area) (12, 12) .done) ∷ []) ∷ []
 
 -- "Keys 0 to 12 put at P 1: page 0 holds 0 to 11, page 1 holds 12; grow is refused with 7."
-abbrev thirteen : Outcome → List ℕ
-thirteen o = keysOn (o .area) 0 ++ keysOn (o .area) 1 ++ refusal (grow o .done) ∷ []
+abbrev thirteen : Outcome → List (List ℕ)
+thirteen o = keysOn (o .area) 0 ∷ keysOn (o .area) 1 ∷ (refusal (grow o .done) ∷ []) ∷ []
 
 -- "cap 1: the thirteenth key is refused with 7, a held key still gets 6."
-abbrev onePage : Outcome → List ℕ
-onePage o = refusal (stored (o .done .state) (o .area) (12, 12) .done) ∷ refusal (stored (o .done .state) (o .area) (5, 12) .done) ∷ []
+abbrev onePage : Outcome → List (List ℕ)
+onePage o = (refusal (stored (o .done .state) (o .area) (12, 12) .done) ∷ refusal (stored (o .done .state) (o .area) (5, 12) .done) ∷ []) ∷ []
 
--- The table: a row for each figure, as the definitions give it ..
+-- what takes no call
+abbrev alone : List (List ℕ)
+alone = draws ∷ grown ∷ homes 0 ∷ homes 1 ∷ movers ∷ dues ∷ []
+
+-- The table: a row or more for each figure, the keys of a page in a row of their own, as the definitions give it ..
 abbrev pub given : List (List ℕ)
 given =
-    draws
-    ∷ grown
-    ∷ homes 0
-    ∷ homes 1
-    ∷ movers
-    ∷ dues
-    ∷ moves (grow (putAll twelve (file 2)))
-    ∷ then12 (grow (putAll twelve (file 2)))
-    ∷ thirteen (putAll (twelve ++ 12 ∷ []) (file 2))
-    ∷ onePage (putAll twelve (file 1))
-    ∷ []
+    alone
+    ++ (moves (grow (putAll twelve (file 2)))
+    ++ (then12 (grow (putAll twelve (file 2))) ++ (thirteen (putAll (twelve ++ 12 ∷ []) (file 2)) ++ onePage (putAll twelve (file 1)))))
 
 -- .. and as 01 prints it
 abbrev pub printed : List (List ℕ)
@@ -106,32 +102,36 @@ printed =
     ∷ (1 ∷ 4 ∷ 4 ∷ 4 ∷ 4 ∷ [])
     ∷ (1 ∷ 0 ∷ [])
     ∷ (0 ∷ 1 ∷ [])
-    ∷ (0 ∷ 12 ∷ 0 ∷ 0 ∷ 1 ∷ 2 ∷ 3 ∷ 4 ∷ 5 ∷ 6 ∷ 7 ∷ 8 ∷ 9 ∷ 10 ∷ 11 ∷ [])
+    ∷ (0 ∷ 12 ∷ [])
+    ∷ []
+    ∷ (0 ∷ 1 ∷ 2 ∷ 3 ∷ 4 ∷ 5 ∷ 6 ∷ 7 ∷ 8 ∷ 9 ∷ 10 ∷ 11 ∷ [])
     ∷ (7 ∷ [])
-    ∷ (0 ∷ 1 ∷ 2 ∷ 3 ∷ 4 ∷ 5 ∷ 6 ∷ 7 ∷ 8 ∷ 9 ∷ 10 ∷ 11 ∷ 12 ∷ 7 ∷ [])
+    ∷ (0 ∷ 1 ∷ 2 ∷ 3 ∷ 4 ∷ 5 ∷ 6 ∷ 7 ∷ 8 ∷ 9 ∷ 10 ∷ 11 ∷ [])
+    ∷ (12 ∷ [])
+    ∷ (7 ∷ [])
     ∷ (7 ∷ 6 ∷ [])
     ∷ []
 
--- the rows that take a run of the calls, each worked out by itself
-run-moves : moves (grow (putAll twelve (file 2))) ≡ (0 ∷ 12 ∷ 0 ∷ 0 ∷ 1 ∷ 2 ∷ 3 ∷ 4 ∷ 5 ∷ 6 ∷ 7 ∷ 8 ∷ 9 ∷ 10 ∷ 11 ∷ [])
+-- the rows that take a run of the calls, each run worked out by itself
+run-moves : moves (grow (putAll twelve (file 2))) ≡ ((0 ∷ 12 ∷ []) ∷ [] ∷ twelve ∷ [])
 unfolding draw mover swept moved nextGroups steps home little bytesOf numberAt written encode pageBytes recordsIn wellFormed readPage inMemory partAt opened closed all inRange walk putWalk isImage surveyed gateOf imageGate growGate relaid grownFile
 run-moves = refl
 
-run-then12 : then12 (grow (putAll twelve (file 2))) ≡ (7 ∷ [])
+run-then12 : then12 (grow (putAll twelve (file 2))) ≡ ((7 ∷ []) ∷ [])
 unfolding draw mover swept moved nextGroups steps home little bytesOf numberAt written encode pageBytes recordsIn wellFormed readPage inMemory partAt opened closed all inRange walk putWalk isImage surveyed gateOf imageGate growGate relaid grownFile
 run-then12 = refl
 
-run-thirteen : thirteen (putAll (twelve ++ 12 ∷ []) (file 2)) ≡ (0 ∷ 1 ∷ 2 ∷ 3 ∷ 4 ∷ 5 ∷ 6 ∷ 7 ∷ 8 ∷ 9 ∷ 10 ∷ 11 ∷ 12 ∷ 7 ∷ [])
+run-thirteen : thirteen (putAll (twelve ++ 12 ∷ []) (file 2)) ≡ (twelve ∷ (12 ∷ []) ∷ (7 ∷ []) ∷ [])
 unfolding draw mover swept moved nextGroups steps home little bytesOf numberAt written encode pageBytes recordsIn wellFormed readPage inMemory partAt opened closed all inRange walk putWalk isImage surveyed gateOf imageGate growGate relaid grownFile
 run-thirteen = refl
 
-run-one : onePage (putAll twelve (file 1)) ≡ (7 ∷ 6 ∷ [])
+run-one : onePage (putAll twelve (file 1)) ≡ ((7 ∷ 6 ∷ []) ∷ [])
 unfolding draw mover swept moved nextGroups steps home little bytesOf numberAt written encode pageBytes recordsIn wellFormed readPage inMemory partAt opened closed all inRange walk putWalk isImage surveyed gateOf imageGate growGate relaid grownFile
 run-one = refl
 
-row : {a b : List ℕ} {s t : List (List ℕ)} → a ≡ b → s ≡ t → (a ∷ s) ≡ (b ∷ t)
-row e f = rw (e, f)
+rows : {a b s t : List (List ℕ)} → a ≡ b → s ≡ t → a ++ s ≡ b ++ t
+rows e f = rw (e, f)
 
 pub figures : given ≡ printed
 unfolding draw mover swept moved nextGroups steps home little bytesOf numberAt written encode pageBytes recordsIn wellFormed readPage inMemory partAt opened closed all inRange walk putWalk isImage surveyed gateOf imageGate growGate relaid grownFile
-figures = row refl (row refl (row refl (row refl (row refl (row refl (row run-moves (row run-then12 (row run-thirteen (row run-one refl)))))))))
+figures = rows {a = alone} refl (rows run-moves (rows run-then12 (rows run-thirteen run-one)))

@@ -2,6 +2,7 @@
 mod small_files;
 mod text;
 
+use homes::Params;
 use homes::Shape;
 use state::State;
 use text::print_item;
@@ -38,7 +39,8 @@ fn print_draws() {
 fn first_on(page: u64) -> u64
     requires { ⌜ (16 ≤ page) × (page < 24) ⌝ }
 {
-    let shape = Shape::new(2, 8, 3, page + 1);
+    let params = Params { n0: 2, n: 8, s: 3 };
+    let shape = Shape::new(params, page + 1);
     let mut key = 0;
     while key < 1000 && shape.home(key) != page {
         key += 1;
@@ -67,7 +69,8 @@ fn print_order() {
 fn print_home(key: u64, p: u64)
     requires { ⌜ (4 ≤ p) × (p ≤ 8) ⌝ }
 {
-    let shape = Shape::new(2, 2, 1, p);
+    let params = Params { n0: 2, n: 2, s: 1 };
+    let shape = Shape::new(params, p);
     say_number(b"n0 2, N 2, s 1, key ", key);
     say_number(b", P ", p);
     say_number(b": home ", shape.home(key));
@@ -84,7 +87,8 @@ fn print_homes(key: u64) {
 
 // At P 6 the first step alone has been taken, for both groups: a key that it moves has left page key mod 4.
 fn print_mover(key: u64) {
-    let shape = Shape::new(2, 2, 1, 6);
+    let params = Params { n0: 2, n: 2, s: 1 };
+    let shape = Shape::new(params, 6);
     say_number(b"n0 2, N 2, s 1, key ", key);
     if shape.home(key) != key % 4 {
         say(b", x 1: mover\n");
@@ -94,10 +98,9 @@ fn print_mover(key: u64) {
 }
 
 fn print_due(r: u32) {
+    let params = Params { n0: 2, n: 2, s: 1 };
     let state = State {
-        n0: 2,
-        n: 2,
-        s: 1,
+        params,
         p: 4,
         cap: 4,
         r,

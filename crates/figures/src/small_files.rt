@@ -1,4 +1,5 @@
 // Files of one and two pages, n0, N and s all 1: what put and grow answer, and the keys that the pages then hold.
+use homes::Params;
 use crate::text::print_item;
 use crate::text::say;
 use crate::text::say_number;
@@ -25,8 +26,10 @@ fn put_below(mut state: State, area: &mut [u8], end: u64) -> State
 fn file_of(area: &mut [u8], cap: u16, end: u64) -> State
     requires { ⌜ end ≤ 13 ⌝ }
 {
-    let none = State::new(0, 0, 0, 0);
-    let done = register::format(none, 1, 1, 1, cap, area);
+    let zeros = Params { n0: 0, n: 0, s: 0 };
+    let none = State::new(zeros, 0);
+    let ones = Params { n0: 1, n: 1, s: 1 };
+    let done = register::format(none, ones, cap, area);
     put_below(done.state, area, end)
 }
 

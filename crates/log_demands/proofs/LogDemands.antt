@@ -69,7 +69,7 @@ fresh m d w =
 -- a command is called on the file at the site
 called : (d : Site) (c : Command) → AsCalled d c
 unfolding carried
-called d (Format n0 N s cap) = tt
+called d (Format q cap) = tt
 called d (Put k v) = refl
 called d (Find k) = refl
 called d (Remove k) = refl
@@ -79,7 +79,7 @@ called d Check = refl
 -- no call but a format takes a state that is all zero
 before : (space row : List ℕ) (c : Command) → AnswersOne space row c
 unfolding carried left gateOf growGate inRange all
-before space row (Format n0 N s cap) = tt
+before space row (Format q cap) = tt
 before space row (Put k v) = refl
 before space row (Find k) = refl
 before space row (Remove k) = refl

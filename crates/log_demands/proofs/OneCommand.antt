@@ -9,6 +9,7 @@ use native.Mathlib.Omega.{arith}
 use lib.Dec.{ltb, eqb}
 use lib.ListN.{length, take, length-take}
 use borrow.Author.Tests.{eqb-true, eqb-false}
+use Rattle.homes.specs.declared.Params.{Params}
 use Rattle.numbers.specs.Little.{written}
 use Rattle.numbers.proofs.Laws.{written-front, written-length}
 use Rattle.state.specs.declared.State.{State}
@@ -67,12 +68,12 @@ by-refusal o s space n c h k = go (eqb (refusal f c) 0) refl
     go false e = back-same o s space n (left f c) (demands .total f c (eqb-false (refusal f c) 0 e) .0) h
 
 -- of a format: an accepted one begins a file
-format-keeps : (o : Option Kept) (s : State) (space : List ℕ) (n0 N q cap : ℕ) → Holds o s space
-    → KeepsBack o (format n0 N q cap) space (left (firstOn s space cap) (format n0 N q cap))
-format-keeps o s space n0 N q cap h =
-    by-refusal o s space cap (format n0 N q cap) h
-    (λ z. back-fresh (begun n0 N q cap) space (left (firstOn s space cap) (format n0 N q cap)) (fresh-format (firstOn s space cap) n0 N q cap z)
-    (omega (arith, format-lent (firstOn s space cap) n0 N q cap z, length-take (256 * cap) space)))
+format-keeps : (o : Option Kept) (s : State) (space : List ℕ) (q : Params) (cap : ℕ) → Holds o s space
+    → KeepsBack o (format q cap) space (left (firstOn s space cap) (format q cap))
+format-keeps o s space q cap h =
+    by-refusal o s space cap (format q cap) h
+    (λ z. back-fresh (begun q cap) space (left (firstOn s space cap) (format q cap)) (fresh-format (firstOn s space cap) q cap z)
+    (omega (arith, format-lent (firstOn s space cap) q cap z, length-take (256 * cap) space)))
 
 -- of any other call: it goes on with the file on as many pages, and where nothing is kept it keeps nothing
 module _ (c : Call) (fits : Fits c) (nothing : keeps none c ≡ none)
@@ -97,11 +98,11 @@ Keeps o c r = Holds (cond (eqb (r .numbers .refusal) 0) (keeps o (callOf c [])) 
 -- and it is so of every command
 pub command-keeps : (o : Option Kept) (d : Site) (c : Command) → Fit c → Holds o (d .state) (d .space) → Keeps o c (carried d c)
 unfolding carried
-command-keeps o d (Format n0 N q cap) w h = go (ltb 128 cap)
+command-keeps o d (Format q cap) w h = go (ltb 128 cap)
   where
-    go : (u : Bool) → Keeps o (Format n0 N q cap) (cond u (carries (refusedBy 12) d) (calledWith d (Format n0 N q cap) cap))
+    go : (u : Bool) → Keeps o (Format q cap) (cond u (carries (refusedBy 12) d) (calledWith d (Format q cap) cap))
     go true = h
-    go false = format-keeps o (d .state) (d .space) n0 N q cap h
+    go false = format-keeps o (d .state) (d .space) q cap h
 command-keeps o d (Put k v) w h = call-keeps (put k v) (w []) refl (λ m. (holding m ((k, v) ∷ m .held), refl, refl)) o (d .state) (d .space) h
 command-keeps o d (Find k) w h = call-keeps (find k) (w []) refl (λ m. (m, refl, refl)) o (d .state) (d .space) h
 command-keeps o d (Remove k) w h = call-keeps (remove k) (w []) refl (λ m. (holding m (without k (m .held)), refl, refl)) o (d .state) (d .space) h

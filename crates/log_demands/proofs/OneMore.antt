@@ -8,6 +8,7 @@ use native.Mathlib.Omega.{arith}
 use lib.Dec.{eqb}
 use lib.ListN.{length, replicate}
 use borrow.Author.Tests.{eq-eqb, eqb-true}
+use Rattle.homes.specs.declared.Params.{Params}
 use Rattle.placing.proofs.Lists.{all-append}
 use Rattle.pages.specs.Area.{areaFrom}
 use Rattle.pages.proofs.Areas.{area-length}
@@ -47,18 +48,18 @@ fresh-more {f} c fits z k w =
     }
 
 -- an accepted format makes one from any file
-pub fresh-format : (f : File) (n0 N s cap : ℕ) → refusal f (format n0 N s cap) ≡ 0 → Fresh (begun n0 N s cap) (left f (format n0 N s cap) .file)
+pub fresh-format : (f : File) (q : Params) (cap : ℕ) → refusal f (format q cap) ≡ 0 → Fresh (begun q cap) (left f (format q cap) .file)
 unfolding after kept
-fresh-format f n0 N s cap z =
-    record { start = f; calls = format n0 N s cap ∷ []; fits = (tt, tt); keeps = rw (eq-eqb (refusal f (format n0 N s cap)) 0 z); leaves = refl }
+fresh-format f q cap z =
+    record { start = f; calls = format q cap ∷ []; fits = (tt, tt); keeps = rw (eq-eqb (refusal f (format q cap)) 0 z); leaves = refl }
 
 -- and was lent as many pages as it asks for
-pub format-lent : (f : File) (n0 N s cap : ℕ) → refusal f (format n0 N s cap) ≡ 0 → length (f .area) ≡ 256 * cap
+pub format-lent : (f : File) (q : Params) (cap : ℕ) → refusal f (format q cap) ≡ 0 → length (f .area) ≡ 256 * cap
 unfolding left gateOf
-format-lent f n0 N s cap = go (inRange (fresh n0 N s cap)) (eqb (length (f .area)) (256 * cap)) refl
+format-lent f q cap = go (inRange (fresh q cap)) (eqb (length (f .area)) (256 * cap)) refl
   where
     new : Outcome
-    new = record { done = done (fresh n0 N s cap) (Accepted 0 0 0); area = areaFrom 0 (replicate cap []) }
+    new = record { done = done (fresh q cap) (Accepted 0 0 0); area = areaFrom 0 (replicate cap []) }
 
     go : (u v : Bool) → eqb (length (f .area)) (256 * cap) ≡ v
         → numbersOf (wrote (onGate (cond u (cond v Open (Shut WrongArea)) (Shut OutOfRange)) (refused (f .state) (f .area)) new) .said) .refusal ≡ 0

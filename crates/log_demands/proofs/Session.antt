@@ -4,6 +4,7 @@ use mathlib.Core.Bool.{true}
 use mathlib.Core.List.{List, [], _∷_, _++_}
 use Prim.Native.Nat.{ℕ}
 use lib.ListN.{replicate}
+use Rattle.homes.specs.Homes.{params}
 use Rattle.numbers.specs.Little.{Bytes, little, bytesOf, numberAt, written}
 use Rattle.numbers.specs.Fields.{encode}
 use Rattle.numbers.proofs.Laws.{bytes-append}
@@ -49,13 +50,13 @@ session = refl
 
 -- what it keeps: one record on one of two pages
 abbrev outcome : Kept
-outcome = record { n0 = 1; n = 1; s = 1; cap = 2; p = 1; held = (5, 9) ∷ [] }
+outcome = record { params = params 1 1 1; cap = 2; p = 1; held = (5, 9) ∷ [] }
 
 -- the session's bytes are those of its three commands
 bytes : Bytes input
 unfolding bytesOf encode
 bytes =
-    bytes-append (encode (layoutOf (Format 1 1 1 2))) (encode (layoutOf (Put 5 9)) ++ encode (layoutOf (Find 5))) (bytes-encode (layoutOf (Format 1 1 1 2)))
+    bytes-append (encode (layoutOf (Format (params 1 1 1) 2))) (encode (layoutOf (Put 5 9)) ++ encode (layoutOf (Find 5))) (bytes-encode (layoutOf (Format (params 1 1 1) 2)))
     (bytes-append (encode (layoutOf (Put 5 9))) (encode (layoutOf (Find 5))) (bytes-encode (layoutOf (Put 5 9))) (bytes-encode (layoutOf (Find 5))))
 
 pub session-after : After outcome (wholeLog start input .site)

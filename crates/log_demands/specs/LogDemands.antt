@@ -7,6 +7,7 @@ use mathlib.Core.Option.{Option, none, some}
 use mathlib.Core.List.{List, [], _∷_}
 use lib.ListN.{take, drop}
 use lib.Dec.{eqb}
+use Rattle.homes.specs.Homes.{params}
 use Rattle.numbers.specs.Little.{Bytes}
 use Rattle.state.specs.declared.State.{State}
 use Rattle.register.specs.Files.{File, left, numbersOf}
@@ -42,7 +43,7 @@ fileAt d = record { state = d .state; area = take (256 * d .state .cap) (d .spac
 
 -- something of every command but a format
 abbrev pub ButFormat : (Command → Type 0) → Command → Type 0
-ButFormat Says (Format n0 N s cap) = Unit {0}
+ButFormat Says (Format q cap) = Unit {0}
 ButFormat Says (Put k v) = Says (Put k v)
 ButFormat Says (Find k) = Says (Find k)
 ButFormat Says (Remove k) = Says (Remove k)
@@ -55,7 +56,7 @@ AsCalled d = ButFormat (λ c. carried d c .numbers ≡ numbersOf (left (fileAt d
 
 -- 01: "Before a format the state is all zero"
 abbrev pub noFile : State
-noFile = record { n0 = 0; n = 0; s = 0; p = 0; cap = 0; r = 0 }
+noFile = record { params = params 0 0 0; p = 0; cap = 0; r = 0 }
 
 -- 01: "so all calls but format answer 1"
 abbrev pub AnswersOne : (space row : List ℕ) → Command → Type 0

@@ -1,4 +1,5 @@
 // Judges one good page, and the same page with one number of it changed, a case for each page rule. The page is written here number by number, as the scope lays it out, and not by the code under test.
+use homes::Params;
 use homes::Shape;
 use libc::STDOUT_FILENO;
 ghost use mathlib.Core.Path.{_≡_};
@@ -65,7 +66,8 @@ fn judge_changed(name: &[u8], at: usize, eight: bool, x: u64)
     let mut bytes = [0; 256];
     good_page(&mut bytes[..]);
     change(&mut bytes[..], at, eight, x);
-    let shape = Shape::new(1, 8, 1, 8);
+    let params = Params { n0: 1, n: 8, s: 1 };
+    let shape = Shape::new(params, 8);
     let judged = pages::judge(&bytes[..], 5, shape);
     io::write_all(STDOUT_FILENO, name);
     if judged.good {

@@ -1,6 +1,7 @@
 // Single calls on any bytes: each record brings its own state, area and row, and the reply gives them back as the call left them.
 mod records;
 
+use homes::Params;
 use libc::STDIN_FILENO;
 use libc::STDOUT_FILENO;
 use records::Asked;
@@ -17,7 +18,8 @@ fn format(state: State, area: &mut [u8], a: u64) -> Done {
     let n = (a / 65536 % 65536) as u16;
     let s = (a / 4294967296 % 65536) as u16;
     let cap = (a / 281474976710656) as u16;
-    register::format(state, n0, n, s, cap, area)
+    let params = Params { n0, n, s };
+    register::format(state, params, cap, area)
 }
 
 // Whether growth is due is told with every reply: asked for alone, it is an accepted call that does nothing.

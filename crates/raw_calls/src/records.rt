@@ -1,4 +1,5 @@
 // The records of raw calls: 44 bytes of numbers, then the area and the row; a reply has 50 bytes of numbers before them.
+use homes::Params;
 use state::Done;
 use state::Numbers;
 use state::State;
@@ -21,10 +22,13 @@ pub struct Asked {
 fn state_in(bytes: &[u8]) -> State
     requires { ⌜ 20 ≤ length (now bytes) ⌝ }
 {
-    State {
+    let params = Params {
         n0: numbers::get_u16(bytes, 6),
         n: numbers::get_u16(bytes, 8),
         s: numbers::get_u16(bytes, 10),
+    };
+    State {
+        params,
         p: numbers::get_u16(bytes, 12),
         cap: numbers::get_u16(bytes, 14),
         r: numbers::get_u32(bytes, 16),
@@ -84,9 +88,9 @@ pub(crate) fn write_row(bytes: &mut [u8], row: &[u32])
 fn put_state(head: &mut [u8], state: State)
     requires { ⌜ 42 ≤ length (now head) ⌝ }
 {
-    numbers::put_u16(head, 26, state.n0);
-    numbers::put_u16(head, 28, state.n);
-    numbers::put_u16(head, 30, state.s);
+    numbers::put_u16(head, 26, state.params.n0);
+    numbers::put_u16(head, 28, state.params.n);
+    numbers::put_u16(head, 30, state.params.s);
     numbers::put_u16(head, 32, state.p);
     numbers::put_u16(head, 34, state.cap);
     numbers::put_u32(head, 36, state.r);

@@ -35,4 +35,4 @@ entries-few h area (suc n) a =
 
 -- a home fits two bytes
 pub home-small : (shape : Shape) (k r : ℕ) → Ready shape → r ≡ homeIn shape k → r < 2 ^ 16
-home-small shape k r h e = omega (arith, e, home-below (shape .n0) (shape .n) (shape .s) (shape .p) k h, h .P-high)
+home-small shape k r h e = omega (arith, e, home-below (shape .params) (shape .p) k h, h .P-high)

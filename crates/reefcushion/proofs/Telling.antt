@@ -15,7 +15,7 @@ use Rattle.reefcushion.specs.Slip.{stateIn, stateFields, answerFields}
 
 module _ (l : List ℕ) (h : length l ≡ 40) where
   -- a state, store by store
-  pub state-stored : (s : State) {a b c d e f g : List ℕ} → a ≡ written l 0 (bytesOf 2 (s .n0)) → b ≡ written a 2 (bytesOf 2 (s .n)) → c ≡ written b 4 (bytesOf 2 (s .s))
+  pub state-stored : (s : State) {a b c d e f g : List ℕ} → a ≡ written l 0 (bytesOf 2 (s .params .n0)) → b ≡ written a 2 (bytesOf 2 (s .params .n)) → c ≡ written b 4 (bytesOf 2 (s .params .s))
       → d ≡ written c 6 (bytesOf 2 (s .p)) → e ≡ written d 8 (bytesOf 2 (s .cap)) → f ≡ written e 10 (bytesOf 2 0) → g ≡ written f 12 (bytesOf 4 (s .r))
       → g ≡ written l 0 (encode (stateFields s))
   state-stored s q₁ q₂ q₃ q₄ q₅ q₆ q₇ = rw (q₇, q₆, q₅, q₄, q₃, q₂, q₁) (puts-written (stateFields s) l 0 (omega arith))
@@ -47,14 +47,14 @@ state-again s n {l} fit q =
     let f₃ : List Field = (2, s .p) ∷ f₄ in
     let f₂ : List Field = (2, s .s) ∷ f₃ in
     let f₁ : List Field = (2, s .n) ∷ f₂ in
-    let k₁ : matches l 2 f₁ ≡ true = match-rest 2 (s .n0) f₁ l 0 k in
-    let k₂ : matches l 4 f₂ ≡ true = match-rest 2 (s .n) f₂ l 2 k₁ in
-    let k₃ : matches l 6 f₃ ≡ true = match-rest 2 (s .s) f₃ l 4 k₂ in
+    let k₁ : matches l 2 f₁ ≡ true = match-rest 2 (s .params .n0) f₁ l 0 k in
+    let k₂ : matches l 4 f₂ ≡ true = match-rest 2 (s .params .n) f₂ l 2 k₁ in
+    let k₃ : matches l 6 f₃ ≡ true = match-rest 2 (s .params .s) f₃ l 4 k₂ in
     let k₄ : matches l 8 f₄ ≡ true = match-rest 2 (s .p) f₄ l 6 k₃ in
     rw (
-      match-first 2 (s .n0) f₁ l 0 k,
-      match-first 2 (s .n) f₂ l 2 k₁,
-      match-first 2 (s .s) f₃ l 4 k₂,
+      match-first 2 (s .params .n0) f₁ l 0 k,
+      match-first 2 (s .params .n) f₂ l 2 k₁,
+      match-first 2 (s .params .s) f₃ l 4 k₂,
       match-first 2 (s .p) f₄ l 6 k₃,
       match-at [] 2 (s .cap) ((2, 0) ∷ (4, s .r) ∷ []) l 8 k₄,
       match-at ((2, s .cap) ∷ (2, 0) ∷ []) 4 (s .r) [] l 8 k₄,

@@ -6,6 +6,7 @@ use lib.ListN.{length}
 use lib.Dec.{eqb}
 use Rattle.numbers.specs.Little.{numberAt}
 use Rattle.numbers.specs.Fields.{Field, encode}
+use Rattle.homes.specs.Homes.{params}
 use Rattle.state.specs.declared.State.{State}
 use Rattle.state.specs.declared.Numbers.{Numbers}
 use Rattle.state.specs.State.{isDue}
@@ -17,11 +18,11 @@ isSlip l = eqb (length l) 40
 -- the state that a slip brings: "n0 .., N .., s .., P .., cap .., r". Bytes 10 and 11 aren't looked at, nor are those of an answer.
 abbrev pub stateIn : List ℕ → State
 stateIn l =
-    record { n0 = numberAt 2 l 0; n = numberAt 2 l 2; s = numberAt 2 l 4; p = numberAt 2 l 6; cap = numberAt 2 l 8; r = numberAt 4 l 12 }
+    record { params = params (numberAt 2 l 0) (numberAt 2 l 2) (numberAt 2 l 4); p = numberAt 2 l 6; cap = numberAt 2 l 8; r = numberAt 4 l 12 }
 
 -- the state's bytes, with two zeros before r
 abbrev pub stateFields : State → List Field
-stateFields s = (2, s .n0) ∷ (2, s .n) ∷ (2, s .s) ∷ (2, s .p) ∷ (2, s .cap) ∷ (2, 0) ∷ (4, s .r) ∷ []
+stateFields s = (2, s .params .n0) ∷ (2, s .params .n) ∷ (2, s .params .s) ∷ (2, s .p) ∷ (2, s .cap) ∷ (2, 0) ∷ (4, s .r) ∷ []
 
 -- the answer's in 01's numbers, with four zeros at the end
 abbrev pub answerFields : Numbers → List Field

@@ -1,4 +1,5 @@
 // The calls for programs in other languages. Each is the register's call on the state that a slip of forty bytes brings; the slip then holds the state after it and the answer. It takes any lengths and any bytes, and returns the number of its refusal.
+use homes::Params;
 use state::Done;
 use state::Numbers;
 use state::State;
@@ -6,6 +7,7 @@ ghost use mathlib.Core.Path.{_≡_};
 ghost use lib.ListN.{length};
 ghost use Rattle.numbers.specs.Little.{written};
 ghost use Rattle.numbers.specs.Fields.{encode};
+ghost use Rattle.homes.specs.Homes.{params};
 ghost use Rattle.state.specs.Answer.{numbers};
 ghost use Rattle.register.specs.Files.{format, find, put, remove, grow, check};
 ghost use Rattle.reefcushion.specs.Slip.{stateIn, stateFields, answerFields, slipOf, served, servedRow, dueOn};
@@ -21,10 +23,13 @@ fn state_in(slip: &[u8]) -> State
     requires { ⌜ length (now slip) ≡ 40 ⌝ }
     ensures { λ r. ⌜ r ≡ stateIn (now (slip .entry)) ⌝ }
 {
-    State {
+    let params = Params {
         n0: numbers::get_u16(slip, 0),
         n: numbers::get_u16(slip, 2),
         s: numbers::get_u16(slip, 4),
+    };
+    State {
+        params,
         p: numbers::get_u16(slip, 6),
         cap: numbers::get_u16(slip, 8),
         r: numbers::get_u32(slip, 12),
@@ -35,9 +40,9 @@ fn tell_state(slip: &mut [u8], state: State)
     requires { ⌜ length (now slip) ≡ 40 ⌝ }
     ensures { λ _. ⌜ now (slip .exit) ≡ written (now (slip .entry)) 0 (encode (stateFields state)) ⌝ }
 {
-    numbers::put_u16(slip, 0, state.n0);
-    numbers::put_u16(slip, 2, state.n);
-    numbers::put_u16(slip, 4, state.s);
+    numbers::put_u16(slip, 0, state.params.n0);
+    numbers::put_u16(slip, 2, state.params.n);
+    numbers::put_u16(slip, 4, state.params.s);
     numbers::put_u16(slip, 6, state.p);
     numbers::put_u16(slip, 8, state.cap);
     numbers::put_u16(slip, 10, 0);
@@ -80,16 +85,17 @@ pub extern "C" fn reefcushion_format(
     s: u16,
     cap: u16,
 ) -> u32
-    ensures { λ r. ⌜ r ≡ served (now (slip .entry)) (now (area .entry)) (format n0 n s cap) .returned ⌝ }
-    ensures { λ _. ⌜ now (slip .exit) ≡ served (now (slip .entry)) (now (area .entry)) (format n0 n s cap) .slip ⌝ }
-    ensures { λ _. ⌜ now (area .exit) ≡ served (now (slip .entry)) (now (area .entry)) (format n0 n s cap) .file .area ⌝ }
-    ensures again { λ _. ⌜ stateIn (now (slip .exit)) ≡ served (now (slip .entry)) (now (area .entry)) (format n0 n s cap) .file .state ⌝ }
+    ensures { λ r. ⌜ r ≡ served (now (slip .entry)) (now (area .entry)) (format (params n0 n s) cap) .returned ⌝ }
+    ensures { λ _. ⌜ now (slip .exit) ≡ served (now (slip .entry)) (now (area .entry)) (format (params n0 n s) cap) .slip ⌝ }
+    ensures { λ _. ⌜ now (area .exit) ≡ served (now (slip .entry)) (now (area .entry)) (format (params n0 n s) cap) .file .area ⌝ }
+    ensures again { λ _. ⌜ stateIn (now (slip .exit)) ≡ served (now (slip .entry)) (now (area .entry)) (format (params n0 n s) cap) .file .state ⌝ }
 {
     if slip.len() != SLIP {
         return NO_SLIP;
     }
     let state = state_in(&slip[..]);
-    let done = register::format(state, n0, n, s, cap, area);
+    let params = Params { n0, n, s };
+    let done = register::format(state, params, cap, area);
     tell(slip, done)
 }
 

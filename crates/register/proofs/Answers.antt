@@ -5,6 +5,8 @@ use mathlib.Core.List.{List, []}
 use Prim.Native.Nat.{ℕ, _*_, _≤_, _<_}
 use native.Mathlib.Omega.{arith}
 use lib.ListN.{length, replicate}
+use Rattle.homes.specs.declared.Params.{Params}
+use Rattle.homes.specs.Homes.{firstPages}
 use Rattle.pages.specs.Area.{areaFrom}
 use Rattle.state.specs.declared.State.{State}
 use Rattle.state.specs.declared.Done.{Done}
@@ -28,32 +30,32 @@ abbrev pub Grows : Done → List ℕ → List ℕ → Growth → Type 0
 Grows d area row o = (d ≡ o .done) × ((area ≡ o .area) × (row ≡ o .row))
 
 -- more pages than 16 bits count are out of range
-wide-range : (n0 N s cap : ℕ) → 65535 < n0 * N → cap < 65536 → inRange (fresh n0 N s cap) ≡ false
-wide-range n0 N s cap w l = go (inRange (fresh n0 N s cap)) refl
+wide-range : (q : Params) (cap : ℕ) → 65535 < firstPages q → cap < 65536 → inRange (fresh q cap) ≡ false
+wide-range q cap w l = go (inRange (fresh q cap)) refl
   where
-    go : (u : Bool) → inRange (fresh n0 N s cap) ≡ u → u ≡ false
+    go : (u : Bool) → inRange (fresh q cap) ≡ u → u ≡ false
     go false e = refl
-    go true e = absurd (let r : Ranged (fresh n0 N s cap) = ranged (fresh n0 N s cap) e in omega (arith, r .p-high))
+    go true e = absurd (let r : Ranged (fresh q cap) = ranged (fresh q cap) e in omega (arith, r .p-high))
 
 -- past its gate a format has pages to clear
-pub fresh-fits : (n0 N s cap n : ℕ) (f : State) → f ≡ fresh n0 N s cap → inRange f ≡ true → n ≡ 256 * f .cap → (cap ≤ 4096) × (n ≡ 256 * cap)
-fresh-fits n0 N s cap n f k e l =
+pub fresh-fits : (q : Params) (cap n : ℕ) (f : State) → f ≡ fresh q cap → inRange f ≡ true → n ≡ 256 * f .cap → (cap ≤ 4096) × (n ≡ 256 * cap)
+fresh-fits q cap n f k e l =
     let r : Ranged f = ranged f e in
     let c : f .cap ≡ cap = rw k in
     (omega arith, omega arith)
 
-module _ (old : State) (n0 N s cap : ℕ) (area : List ℕ) where
+module _ (old : State) (q : Params) (cap : ℕ) (area : List ℕ) where
   -- a refused format gives back the old state and the old area
-  pub format-shut : (f : State) → f ≡ fresh n0 N s cap → (g : Gate) → g ≡ gateOf f (length area) → (why : Answer) → g ≡ Shut why
-      → Comes (done old why) area (formatted old n0 N s cap area)
+  pub format-shut : (f : State) → f ≡ fresh q cap → (g : Gate) → g ≡ gateOf f (length area) → (why : Answer) → g ≡ Shut why
+      → Comes (done old why) area (formatted old q cap area)
   format-shut f k g gate why e = rw (← k, ← gate, e) (refl, refl)
 
-  pub format-wide : 65535 < n0 * N → cap < 65536 → Comes (done old OutOfRange) area (formatted old n0 N s cap area)
+  pub format-wide : 65535 < firstPages q → cap < 65536 → Comes (done old OutOfRange) area (formatted old q cap area)
   format-wide w l =
-      format-shut (fresh n0 N s cap) refl (gateOf (fresh n0 N s cap) (length area)) refl OutOfRange (sym (range-shut (fresh n0 N s cap) (length area) (wide-range n0 N s cap w l)))
+      format-shut (fresh q cap) refl (gateOf (fresh q cap) (length area)) refl OutOfRange (sym (range-shut (fresh q cap) (length area) (wide-range q cap w l)))
 
-  pub format-open : (f : State) → f ≡ fresh n0 N s cap → (g : Gate) → g ≡ gateOf f (length area) → g ≡ Open → (new : List ℕ) → new ≡ areaFrom 0 (replicate cap [])
-      → Comes (done f (Accepted 0 0 0)) new (formatted old n0 N s cap area)
+  pub format-open : (f : State) → f ≡ fresh q cap → (g : Gate) → g ≡ gateOf f (length area) → g ≡ Open → (new : List ℕ) → new ≡ areaFrom 0 (replicate cap [])
+      → Comes (done f (Accepted 0 0 0)) new (formatted old q cap area)
   format-open f k g gate e new n = rw (← k, ← gate, e) (refl, n)
 
 module _ (s : State) (area : List ℕ) (g : Gate) (gate : g ≡ gateOf s (length area)) where

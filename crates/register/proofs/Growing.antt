@@ -10,7 +10,7 @@ use borrow.Author.Tests.{eqb-true}
 use Rattle.numbers.specs.Little.{Bytes}
 use Rattle.homes.specs.declared.Shape.{Shape}
 use Rattle.homes.specs.declared.Stage.{Stage}
-use Rattle.homes.specs.Homes.{shapeOf, homeIn}
+use Rattle.homes.specs.Homes.{firstPages, shapeOf, homeIn}
 use Rattle.homes.specs.Last.{lastStep, staysAt}
 use Rattle.homes.proofs.Homes.{home-below}
 use Rattle.homes.proofs.Last.{home-stays, home-stayed}
@@ -58,27 +58,27 @@ module _ (s : State) (range : inRange s ≡ true) (low : s .p < s .cap) where
   pub grown-in : (next : State) → next ≡ grown s → inRange next ≡ true
   grown-in next e = rw e (grown-range s range low)
 
-  module _ (next : State) (more : next ≡ grown s) (shape : Shape) (of : shape ≡ shapeOf (next .n0) (next .n) (next .s) (next .p)) where
+  module _ (next : State) (more : next ≡ grown s) (shape : Shape) (of : shape ≡ shapeOf (next .params) (next .p)) where
     pub shape-low : shape .p ≤ s .cap
     shape-low = rw (of, more) (omega arith)
 
     -- it has steps to take
-    pub steps-left : shape .n0 * shape .n < shape .p
+    pub steps-left : firstPages (shape .params) < shape .p
     steps-left = rw (of, more) (let r : Ranged s = ranged s range in omega (arith, r .p-low))
 
-    grown-shape : shape ≡ shapeOf (s .n0) (s .n) (s .s) (s .p + 1)
+    grown-shape : shape ≡ shapeOf (s .params) (s .p + 1)
     grown-shape = rw (of, more)
 
     -- on a page that stays, a record has its home before exactly where it has it after
     pub same-page : (last : Stage) → last ≡ lastStep shape → (k a : ℕ) → staysAt shape last a ≡ true → (homes s k ≡ a → homeIn shape k ≡ a) × (homeIn shape k ≡ a → homes s k ≡ a)
     same-page last is k a on =
         let at = rw (is, grown-shape) at on in (
-          λ e. rw grown-shape (home-stays (s .n0) (s .n) (s .s) (s .p) k a (in-shape s range) at e),
-          λ e. home-stayed (s .n0) (s .n) (s .s) (s .p) k a _ (in-shape s range) at (rw grown-shape at e),
+          λ e. rw grown-shape (home-stays (s .params) (s .p) k a (in-shape s range) at e),
+          λ e. home-stayed (s .params) (s .p) k a _ (in-shape s range) at (rw grown-shape at e),
         )
 
     -- so it stays at home there, by the shape of the file as it was
-    pub stays-home : (last : Stage) → last ≡ lastStep shape → (old : Shape) → old ≡ shapeOf (s .n0) (s .n) (s .s) (s .p) → (k a : ℕ) → staysAt shape last a ≡ true
+    pub stays-home : (last : Stage) → last ≡ lastStep shape → (old : Shape) → old ≡ shapeOf (s .params) (s .p) → (k a : ℕ) → staysAt shape last a ≡ true
         → homeIn old k ≡ a → homeIn shape k ≡ a
     stays-home last is old f k a on e = same-page last is k a on .0 (rw f at e)
 
@@ -101,7 +101,7 @@ module _ (s : State) (range : inRange s ≡ true) (low : s .p < s .cap) where
   homes-low : (rs : List Record) → All (λ x. homeFor (homes (grown s)) x < s .cap) rs
   homes-low rs =
       all-of (λ x. homeFor (homes (grown s)) x < s .cap)
-      (λ x. omega (arith, home-below (s .n0) (s .n) (s .s) (s .p + 1) (key x) (in-shape (grown s) (grown-range s range low))))
+      (λ x. omega (arith, home-below (s .params) (s .p + 1) (key x) (in-shape (grown s) (grown-range s range low))))
       rs
 
   -- the counts tell whether the pages can take all
@@ -116,7 +116,7 @@ module _ (s : State) (range : inRange s ≡ true) (low : s .p < s .cap) where
     unfolding grownFile
     grow-full e = rw (decided, e) (refl, (refl, filled))
 
-    module _ (yes : room ≡ true) (next : State) (more : next ≡ grown s) (shape : Shape) (of : shape ≡ shapeOf (next .n0) (next .n) (next .s) (next .p)) where
+    module _ (yes : room ≡ true) (next : State) (more : next ≡ grown s) (shape : Shape) (of : shape ≡ shapeOf (next .params) (next .p)) where
       -- with room a rebuild may go on
       pub takes-all : taken (homeFor (homeIn shape)) 12 (cat (heldFrom area (s .cap) 0) []) (s .cap) ≡ length (cat (heldFrom area (s .cap) 0) [])
       takes-all = rw (same-homes next more shape of) (eqb-true _ _ (decided ∙ yes))

@@ -68,7 +68,7 @@ module _ (s : State) (v : Verdict) where
       go (Whole image records) q k = f image records q
 
   -- the verdict of a survey by the state's own homes is the gate
-  pub gate-told : (area : List ℕ) (shape : Shape) → shape ≡ shapeOf (s .n0) (s .n) (s .s) (s .p) → v ≡ surveyed (homeIn shape) area (s .cap)
+  pub gate-told : (area : List ℕ) (shape : Shape) → shape ≡ shapeOf (s .params) (s .p) → v ≡ surveyed (homeIn shape) area (s .cap)
       → (g : Gate) → g ≡ imageOf s v → g ≡ imageGate s area
   unfolding imageGate
   gate-told area shape f t g e = e ∙ rw (t, f)

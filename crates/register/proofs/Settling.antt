@@ -77,7 +77,7 @@ module _ (s : State) (area : List ℕ) (next : State) (wrong : Bool) (pages : (n
     goes u new n d m = rw (← plan, e, u, m) (refl, n)
 
 -- a call past its gate, with the shape of its state
-module _ (s : State) (shape : Shape) (is : shape ≡ shapeOf (s .n0) (s .n) (s .s) (s .p)) where
+module _ (s : State) (shape : Shape) (is : shape ≡ shapeOf (s .params) (s .p)) where
   pub shape-fits : inRange s ≡ true → shape .p ≤ s .cap
   shape-fits h = rw is (ranged s h .p-high)
 

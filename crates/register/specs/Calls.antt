@@ -4,6 +4,7 @@ use mathlib.Core.Bool.{Bool, cond}
 use mathlib.Core.List.{List, []}
 use lib.ListN.{length, replicate}
 use lib.Dec.{eqb}
+use Rattle.homes.specs.declared.Params.{Params}
 use Rattle.placing.specs.Image.{cat}
 use Rattle.placing.specs.Lay.{taken}
 use Rattle.placing.specs.Rows.{counts, strayed}
@@ -32,10 +33,10 @@ abbrev pub refused : State → List ℕ → Answer → Outcome
 refused s area why = record { done = done s why; area = area }
 
 -- Format: "empty file, P = n0 x N, r = 0"; "judged on the numbers it is asked for, not on the state before it"
-abbrev pub formatted : State → (n0 N s cap : ℕ) → List ℕ → Outcome
-formatted old n0 N s cap area =
-    onGate (gateOf (fresh n0 N s cap) (length area)) (refused old area)
-    (record { done = done (fresh n0 N s cap) (Accepted 0 0 0); area = areaFrom 0 (replicate cap []) })
+abbrev pub formatted : State → Params → (cap : ℕ) → List ℕ → Outcome
+formatted old q cap area =
+    onGate (gateOf (fresh q cap) (length area)) (refused old area)
+    (record { done = done (fresh q cap) (Accepted 0 0 0); area = areaFrom 0 (replicate cap []) })
 
 -- "Find 1, 2, then the walk."
 abbrev pub found : State → List ℕ → (k : ℕ) → Done

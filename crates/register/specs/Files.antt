@@ -2,6 +2,7 @@
 use Prim.Native.Nat.{ℕ}
 use mathlib.Core.Bool.{Bool}
 use mathlib.Core.List.{List, []}
+use Rattle.homes.specs.declared.Params.{Params}
 use Rattle.state.specs.declared.State.{State}
 use Rattle.state.specs.declared.Done.{Done}
 use Rattle.state.specs.declared.Answer.{Answer}
@@ -12,7 +13,7 @@ use Rattle.register.specs.Calls.{Outcome, Growth, formatted, found, stor
 
 -- "Calls: format .., find, put, remove, grow .., check, due", each with what it is given beside state and area
 pub data Call : Type 0 where
-  format : (n0 N s cap : ℕ) → Call
+  format : Params → (cap : ℕ) → Call
   find : (k : ℕ) → Call
   put : (k v : ℕ) → Call
   remove : (k : ℕ) → Call
@@ -48,7 +49,7 @@ grewTo g = leaves (g .done) (g .area) (g .row)
 
 -- a call on a file, by the definition that its contract names
 unfoldable pub left : File → Call → Left
-left f (format n0 N s cap) = wrote (formatted (f .state) n0 N s cap (f .area))
+left f (format q cap) = wrote (formatted (f .state) q cap (f .area))
 left f (find k) = leaves (found (f .state) (f .area) k) (f .area) []
 left f (put k v) = wrote (stored (f .state) (f .area) (k, v))
 left f (remove k) = wrote (removed (f .state) (f .area) k)

@@ -2,6 +2,7 @@
 mod gates;
 mod growth;
 
+use homes::Params;
 use state::Answer;
 use state::Done;
 use state::State;
@@ -39,17 +40,17 @@ fn clear_pages(area: &mut [u8], cap: usize)
 }
 
 // An empty file, whatever was held before. It is judged on the numbers that are asked for; a refused one leaves the old file and its state.
-pub fn format(state: State, n0: u16, n: u16, s: u16, cap: u16, area: &mut [u8]) -> Done
-    ensures { λ r. ⌜ r ≡ formatted state n0 n s cap (now (area .entry)) .done ⌝ }
-    ensures { λ _. ⌜ now (area .exit) ≡ formatted state n0 n s cap (now (area .entry)) .area ⌝ }
+pub fn format(state: State, params: Params, cap: u16, area: &mut [u8]) -> Done
+    ensures { λ r. ⌜ r ≡ formatted state params cap (now (area .entry)) .done ⌝ }
+    ensures { λ _. ⌜ now (area .exit) ≡ formatted state params cap (now (area .entry)) .area ⌝ }
 {
-    if 65535 < (n0 as u32) * (n as u32) {
+    if 65535 < (params.n0 as u32) * (params.n as u32) {
         return Done {
             state,
             answer: Answer::OutOfRange,
         };
     }
-    let fresh = State::new(n0, n, s, cap);
+    let fresh = State::new(params, cap);
     let gate = gates::enter(fresh, area.len());
     match gate {
         Gate::Shut { why } => Done { state, answer: why },

@@ -1,5 +1,6 @@
 // The log program: commands on standard input, replies on standard output, at most 128 pages.
 use commands::Ran;
+use homes::Params;
 use libc::STDIN_FILENO;
 use libc::STDOUT_FILENO;
 use state::State;
@@ -50,7 +51,8 @@ fn main() {
     let mut row = [0u32; 128];
     let mut input = io::large_buffer();
     let mut replies = io::large_buffer();
-    let mut state = State::new(0, 0, 0, 0);
+    let zeros = Params { n0: 0, n: 0, s: 0 };
+    let mut state = State::new(zeros, 0);
     let mut have = 0;
     let mut last = false;
     let mut turns = u64::MAX;

@@ -8,7 +8,7 @@ use native.Mathlib.Nat.{mul-le-mul}
 use native.Mathlib.Omega.{arith}
 use lib.ListN.{getD}
 use borrow.Author.Tests.{leb-true, le-leb}
-use Rattle.homes.specs.Homes.{InRange}
+use Rattle.homes.specs.Homes.{firstPages, InRange}
 use Rattle.state.specs.declared.State.{State}
 use Rattle.state.specs.State.{all, ranges, inRange, oneMore, oneLess, grown}
 
@@ -36,15 +36,15 @@ every (false ∷ l) h (suc k) = absurd (let z : _≡_ {A = ℕ} 0 1 = cc in omeg
 
 -- The ranges of a state.
 pub record Ranged (s : State) : Type 0 where
-  pub n0-low : 1 ≤ s .n0
-  pub n0-high : s .n0 ≤ 4
-  pub n-low : 1 ≤ s .n
-  pub n-high : s .n ≤ 64
-  pub s-low : 1 ≤ s .s
-  pub s-high : s .s ≤ 8
+  pub n0-low : 1 ≤ s .params .n0
+  pub n0-high : s .params .n0 ≤ 4
+  pub n-low : 1 ≤ s .params .n
+  pub n-high : s .params .n ≤ 64
+  pub s-low : 1 ≤ s .params .s
+  pub s-high : s .params .s ≤ 8
   pub cap-low : 1 ≤ s .cap
   pub cap-high : s .cap ≤ 4096
-  pub p-low : s .n0 * s .n ≤ s .p
+  pub p-low : firstPages (s .params) ≤ s .p
   pub p-high : s .p ≤ s .cap
   pub r-high : s .r ≤ 12 * s .cap
 
@@ -86,7 +86,7 @@ in-range s r =
     )
 
 -- The homes of a state's keys are those of a shape in range.
-pub in-shape : (s : State) → inRange s ≡ true → InRange (s .n0) (s .n) (s .s) (s .p)
+pub in-shape : (s : State) → inRange s ≡ true → InRange (s .params) (s .p)
 in-shape s h = let r : Ranged s = ranged s h in search arith
 
 -- One page more, where the lent pages have one more.

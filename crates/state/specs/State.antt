@@ -3,7 +3,8 @@ use Prim.Native.Nat.{ℕ, _+_, _-_, _*_}
 use mathlib.Core.Bool.{Bool, true, _&&_}
 use mathlib.Core.List.{List, [], _∷_}
 use lib.Dec.{leb, ltb}
-use Rattle.homes.specs.Homes.{home}
+use Rattle.homes.specs.declared.Params.{Params}
+use Rattle.homes.specs.Homes.{firstPages, home}
 use Rattle.state.specs.declared.State.{State}
 
 -- all of a list of tests
@@ -14,11 +15,11 @@ all (t ∷ ts) = t && all ts
 -- "Ranges: n0 1 to 4, N 1 to 64, s 1 to 8, cap 1 to 4,096, n0 x N <= P <= cap, r <= 12 x cap."
 abbrev pub ranges : State → List Bool
 ranges s =
-    leb 1 (s .n0) ∷ leb (s .n0) 4
-    ∷ leb 1 (s .n) ∷ leb (s .n) 64
-    ∷ leb 1 (s .s) ∷ leb (s .s) 8
+    leb 1 (s .params .n0) ∷ leb (s .params .n0) 4
+    ∷ leb 1 (s .params .n) ∷ leb (s .params .n) 64
+    ∷ leb 1 (s .params .s) ∷ leb (s .params .s) 8
     ∷ leb 1 (s .cap) ∷ leb (s .cap) 4096
-    ∷ leb (s .n0 * s .n) (s .p) ∷ leb (s .p) (s .cap)
+    ∷ leb (firstPages (s .params)) (s .p) ∷ leb (s .p) (s .cap)
     ∷ leb (s .r) (12 * s .cap)
     ∷ []
 
@@ -31,20 +32,20 @@ isDue s = inRange s && ltb (48 * s .p) (5 * s .r)
 
 -- the home of a key in a file of that state
 abbrev pub homes : State → ℕ → ℕ
-homes s K = home (s .n0) (s .n) (s .s) (s .p) K
+homes s K = home (s .params) (s .p) K
 
 -- "empty file, P = n0 x N, r = 0"
-abbrev pub fresh : (n0 N s cap : ℕ) → State
-fresh n0 N s cap = record { n0 = n0; n = N; s = s; p = n0 * N; cap = cap; r = 0 }
+abbrev pub fresh : Params → (cap : ℕ) → State
+fresh q cap = record { params = q; p = firstPages q; cap = cap; r = 0 }
 
 -- one record more
 abbrev pub oneMore : State → State
-oneMore s = record { n0 = s .n0; n = s .n; s = s .s; p = s .p; cap = s .cap; r = s .r + 1 }
+oneMore s = record { params = s .params; p = s .p; cap = s .cap; r = s .r + 1 }
 
 -- one record less
 abbrev pub oneLess : State → State
-oneLess s = record { n0 = s .n0; n = s .n; s = s .s; p = s .p; cap = s .cap; r = s .r - 1 }
+oneLess s = record { params = s .params; p = s .p; cap = s .cap; r = s .r - 1 }
 
 -- "one page more"
 abbrev pub grown : State → State
-grown s = record { n0 = s .n0; n = s .n; s = s .s; p = s .p + 1; cap = s .cap; r = s .r }
+grown s = record { params = s .params; p = s .p + 1; cap = s .cap; r = s .r }

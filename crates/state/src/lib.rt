@@ -1,17 +1,16 @@
 // The state of a file, which goes into each call as a value and comes back as a value, and the answers of the calls.
+use homes::Params;
 use homes::Shape;
 ghost use mathlib.Core.Path.{_≡_};
 ghost use mathlib.Core.Bool.{true};
-ghost use Prim.Native.Nat.{_*_, _≤_, _<_};
-ghost use Rattle.homes.specs.Homes.{Ready, shapeOf};
+ghost use Prim.Native.Nat.{_≤_, _<_};
+ghost use Rattle.homes.specs.Homes.{Ready, firstPages, shapeOf};
 ghost use Rattle.state.specs.State.{inRange, isDue, fresh, oneMore, oneLess, grown};
 ghost use Rattle.state.specs.Answer.{numbers};
 
-// Pages a group and groups at the start, sweeps, pages grown to, pages lent, records held.
+// The parameters, pages grown to, pages lent, records held.
 pub struct State {
-    pub n0: u16,
-    pub n: u16,
-    pub s: u16,
+    pub params: Params,
     pub p: u16,
     pub cap: u16,
     pub r: u32,
@@ -48,15 +47,13 @@ pub struct Done {
 
 impl State {
     // The state of an empty file.
-    pub fn new(n0: u16, n: u16, s: u16, cap: u16) -> Self
-        requires { ⌜ n0 * n < 65536 ⌝ }
-        ensures { λ r. ⌜ r ≡ fresh n0 n s cap ⌝ }
+    pub fn new(params: Params, cap: u16) -> Self
+        requires { ⌜ firstPages params < 65536 ⌝ }
+        ensures { λ r. ⌜ r ≡ fresh params cap ⌝ }
     {
         State {
-            n0,
-            n,
-            s,
-            p: n0 * n,
+            params,
+            p: params.n0 * params.n,
             cap,
             r: 0,
         }
@@ -66,9 +63,9 @@ impl State {
     pub fn in_range(self) -> bool
         ensures { λ r. ⌜ r ≡ inRange self ⌝ }
     {
-        let n0 = self.n0;
-        let n = self.n;
-        let s = self.s;
+        let n0 = self.params.n0;
+        let n = self.params.n;
+        let s = self.params.s;
         let p = self.p;
         let cap = self.cap;
         (1 <= n0)
@@ -119,10 +116,11 @@ impl State {
     // What the homes of its keys depend on.
     pub fn shape(self) -> Shape
         requires { ⌜ inRange self ≡ true ⌝ }
-        ensures { λ r. ⌜ r ≡ shapeOf (self .n0) (self .n) (self .s) (self .p) ⌝ }
+        ensures { λ r. ⌜ r ≡ shapeOf (self .params) (self .p) ⌝ }
         ensures ready { λ r. ⌜ Ready r ⌝ }
     {
-        Shape::new(self.n0 as u64, self.n as u64, self.s as u64, self.p as u64)
+        let params = self.params;
+        Shape::new(params, self.p as u64)
     }
 }
 

@@ -37,7 +37,7 @@ use Rattle.walks.specs.Walks.{heldAt, onHeld, endsOn, meets, walk}
 
 -- a home lies in the area
 pub home-fits : (shape : Shape) (k cap a : ℕ) → Ready shape → shape .p ≤ cap → a ≡ homeIn shape k → a < cap
-home-fits shape k cap a r l e = omega (arith, home-below (shape .n0) (shape .n) (shape .s) (shape .p) k r)
+home-fits shape k cap a r l e = omega (arith, home-below (shape .params) (shape .p) k r)
 
 -- false is not true
 no : false ≡ true → ⊥

@@ -91,7 +91,7 @@ tally-requires c κs =
     let l = t .before .loop in
     let s = b .args .next in (
       few (c .before .before .before .before .before .before),
-      homes-inside (l .inv .1) (after (c .before .before)) (λ k. omega (arith, home-below (s .n0) (s .n) (s .s) (s .p) k (b .pre .1 .0), b .pre .1 .1)),
+      homes-inside (l .inv .1) (after (c .before .before)) (λ k. omega (arith, home-below (s .params) (s .p) k (b .pre .1 .0), b .pre .1 .1)),
       omega (arith, l .inv .1 .long, b .pre .0 .0),
       λ k. omega (arith, l .inv .1 .small k, t .loop-test .taken, b .pre .0 .0),
     )

@@ -14,7 +14,7 @@ cast-result-2 : tie.Need-cast-result-2
 cast-result-2 c = search needs
 
 mul-result : tie.Need-mul-result
-mul-result c = omega (arith, product-fits (c .args .self .n0) (c .args .self .n) (omega arith) (omega arith))
+mul-result c = omega (arith, product-fits (c .args .self .params .n0) (c .args .self .params .n) (omega arith) (omega arith))
 
 cast-result-3 : tie.Need-cast-result-3
 cast-result-3 c = search needs

@@ -8,20 +8,11 @@ use Rattle.state.proofs.State.shape.Tie as tie
 cast-new : tie.Need-cast-new
 cast-new c = search needs
 
-cast-new-2 : tie.Need-cast-new-2
-cast-new-2 c = search needs
-
-cast-new-3 : tie.Need-cast-new-3
-cast-new-3 c = search needs
-
-cast-new-4 : tie.Need-cast-new-4
-cast-new-4 c = search needs
-
 new-requires : tie.Need-new-requires
-new-requires c κs = in-shape (c .before .before .before .before .args .self) (c .before .before .before .before .pre)
+new-requires c κs = in-shape (c .before .before .args .self) (c .before .before .pre)
 
 returns : tie.Need-returns
 returns c = search needs
 
 pub shape-spec : {M : Type 1} → statement M
-shape-spec = tie.close (tie.spec cast-new cast-new-2 cast-new-3 cast-new-4 new-requires returns)
+shape-spec = tie.close (tie.spec cast-new new-requires returns)

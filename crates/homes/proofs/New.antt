@@ -23,7 +23,7 @@ abbrev pub starts : (q r w : ℕ) → ℕ
 starts q r w = w * q + min w r
 
 -- The page of k = m * s + w, where k is below G, comes before the next sweep's.
-pub in-sweep : (q r s m w : ℕ) → w < s → r < s → m * s + w < q * s + r → starts q r w + m < starts q r (suc w)
+in-sweep : (q r s m w : ℕ) → w < s → r < s → m * s + w < q * s + r → starts q r w + m < starts q r (suc w)
 in-sweep q r s m w ws rs h =
     ⊎-elim
     (λ wr. let e : m < q + 1 = lt-of-mul-lt-mul-right s (omega arith) in omega arith)

@@ -1,4 +1,5 @@
 pub mod New
+pub mod Sweeps
 pub mod Round
 pub mod Steps
 pub mod Forty
@@ -7,3 +8,4 @@ pub mod Turn
 pub mod Last
 pub mod Rowed
 pub mod Together
+pub mod Promises

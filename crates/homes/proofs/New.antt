@@ -3,7 +3,7 @@
 use mathlib.Core.Bool.{Bool, true, false}
 use mathlib.Core.Logic.{_⊎_, inl, inr, ⊎-elim}
 use mathlib.Core.Path.{_≡_, refl}
-use Prim.Native.Nat.{ℕ, _+_, _-_, _*_, _/_, _%_, _≤_, _<_, min}
+use Prim.Native.Nat.{ℕ, suc, _+_, _-_, _*_, _/_, _%_, _≤_, _<_, min}
 use native.Mathlib.Nat.{mod-lt, div-add-mod', mul-le-mul-right, lt-of-mul-lt-mul-right}
 use native.Mathlib.Omega.{arith}
 use lib.Dec.{ltb}
@@ -18,20 +18,26 @@ split a b = go (ltb a b) refl
     go true e = inl (ltb-true a b e)
     go false e = inr (ltb-false a b e)
 
--- The sweeps' sum at k = m * s + w stays below G = q * s + r where k does.
-sweep-core : (q r s m w : ℕ) → w < s → r < s → m * s + w < q * s + r → w * q + min w r + m < q * s + r
-sweep-core q r s m w ws rs h =
+-- where the new pages of sweep w start, counted from F, of G = q * s + r groups
+abbrev pub starts : (q r w : ℕ) → ℕ
+starts q r w = w * q + min w r
+
+-- The page of k = m * s + w, where k is below G, comes before the next sweep's.
+in-sweep : (q r s m w : ℕ) → w < s → r < s → m * s + w < q * s + r → starts q r w + m < starts q r (suc w)
+in-sweep q r s m w ws rs h =
     ⊎-elim
-    (λ wr. let e : m < q + 1 = lt-of-mul-lt-mul-right s (omega arith) in omega (arith, mul-le-mul-right q ws))
-    (λ rw. let e : m < q = lt-of-mul-lt-mul-right s (omega arith) in omega (arith, mul-le-mul-right q ws))
+    (λ wr. let e : m < q + 1 = lt-of-mul-lt-mul-right s (omega arith) in omega arith)
+    (λ rw. let e : m < q = lt-of-mul-lt-mul-right s (omega arith) in omega arith)
     (split w r)
+
+-- The same of k and G by their quotients and remainders.
+pub swept-sweep : (s G k : ℕ) → 0 < s → k < G → starts (G / s) (G % s) (k % s) + k / s < starts (G / s) (G % s) (suc (k % s))
+swept-sweep s G k hs hk = in-sweep (G / s) (G % s) s (k / s) (k % s) (mod-lt k hs) (mod-lt G hs) (omega (arith, div-add-mod' G s, div-add-mod' k s))
 
 -- The page of the k-th group in order of growth is below F + G.
 pub swept-high : (s F G k : ℕ) → 0 < s → k < G → swept s F G k < F + G
 unfolding swept
-swept-high s F G k hs hk =
-    let core = sweep-core (G / s) (G % s) s (k / s) (k % s) (mod-lt k hs) (mod-lt G hs) (omega (arith, div-add-mod' G s, div-add-mod' k s)) in
-    omega (arith, core, div-add-mod' G s)
+swept-high s F G k hs hk = omega (arith, swept-sweep s G k hs hk, mul-le-mul-right (G / s) (mod-lt k hs), div-add-mod' G s)
 
 -- A new page is not one of the F pages before it.
 pub new-low : (s F G a : ℕ) → F ≤ newPage s F G a

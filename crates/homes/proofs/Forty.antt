@@ -8,7 +8,7 @@ use native.Mathlib.Nat.{suc-add, add-mul, mul-assoc, mul-le-mul-right, add-sub-o
 use native.Mathlib.Omega.{arith}
 use lib.Dec.{ltb, eqb, lit≤}
 use Rattle.homes.specs.declared.Params.{Params}
-use Rattle.homes.specs.Homes.{nextGroups, steps, mover, newPage, firstPages, home, InRange}
+use Rattle.homes.specs.Homes.{nextGroups, steps, mover, newPage, firstPages, homeWithin, home, InRange}
 use Rattle.homes.proofs.New.{split}
 use Rattle.homes.proofs.Steps.{stopped, enough}
 
@@ -76,11 +76,17 @@ steps-few n0 N i h k l e =
     (λ ge. absurd (omega (arith, size-forty n0 N h k l, size-up n0 40 (i - 40) 1 (n0 * N) N, ap (λ (n : ℕ). sizeAfter n0 n 1 (n0 * N) N) (add-sub-of-le ge))))
     (split i 40)
 
+-- As many steps as `home` takes are enough.
+pub whole : (left : ℕ) (q : Params) (P K : ℕ) → InRange q P → P - firstPages q ≤ left → home q P K ≡ homeWithin left q P K
+unfolding home
+whole left q P K r h =
+    enough (λ x F. mover (q .n0) K x) (newPage (q .s)) (q .n0) P (P - firstPages q) left 1 (firstPages q) (q .n) (K % firstPages q) (r .N-low) (omega arith) h
+
 -- A home is found in forty steps.
-pub forty : (q : Params) (P K : ℕ) → InRange q P → home q P K ≡ steps (λ x F. mover (q .n0) K x) (newPage (q .s)) (q .n0) P 40 1 (firstPages q) (q .n) (K % firstPages q)
+pub forty : (q : Params) (P K : ℕ) → InRange q P → home q P K ≡ homeWithin 40 q P K
 unfolding home
 forty q P K r =
     let F = firstPages q in
     let left = P - F in
-    enough (λ x F. mover (q .n0) K x) (newPage (q .s)) (q .n0) P left (40 + left) 1 F (q .n) (K % F) (r .N-low) (omega arith) (omega arith)
+    whole (40 + left) q P K r (omega arith)
     ∙ cut (λ x F. mover (q .n0) K x) (newPage (q .s)) (q .n0) P 40 left 1 F (q .n) (K % F) (omega (arith, r .P-high, size-forty (q .n0) (q .n) (r .n0-low) (r .n0-high) (r .N-low)))

@@ -55,10 +55,14 @@ params n0 N s = record { n0 = n0; n = N; s = s }
 abbrev pub firstPages : Params → ℕ
 firstPages q = q .n0 * q .n
 
--- "Start with address K mod (n0 x N), size F = n0 x N, groups G = N." Each step adds a page at least, so P - F of them reach P. "The last address is the home."
+-- "Start with address K mod (n0 x N), size F = n0 x N, groups G = N.": where at most `left` steps are taken
+abbrev pub homeWithin : (left : ℕ) → (q : Params) → (P K : ℕ) → ℕ
+homeWithin left q P K =
+    steps (λ x F. mover (q .n0) K x) (newPage (q .s)) (q .n0) P left 1 (firstPages q) (q .n) (K % firstPages q)
+
+-- Each step adds a page at least, so P - F of them reach P. "The last address is the home."
 unfoldable pub home : (q : Params) → (P K : ℕ) → ℕ
-home q P K =
-    steps (λ x F. mover (q .n0) K x) (newPage (q .s)) (q .n0) P (P - firstPages q) 1 (firstPages q) (q .n) (K % firstPages q)
+home q P K = homeWithin (P - firstPages q) q P K
 
 -- 01, 'The register': "Ranges: n0 1 to 4, N 1 to 64, s 1 to 8, cap 1 to 4,096, n0 x N <= P <= cap", as far as a home depends on them
 pub record InRange (q : Params) (P : ℕ) : Type 0 where

@@ -22,19 +22,17 @@ use Rattle.survey.specs.declared.Verdict.the-variants.{Whole}
 use Rattle.survey.specs.Survey.{lowestBroken, isImage, onBroken, surveyed}
 use Rattle.state.specs.declared.State.{State}
 use Rattle.state.specs.declared.Answer.{Answer}
-use Rattle.state.specs.declared.Answer.the-variants.{Accepted, OutOfRange, WrongArea, WrongRow, AtCap, Broken, NotImage}
+use Rattle.state.specs.declared.Answer.the-variants.{OutOfRange, WrongArea, WrongRow, AtCap, Broken, NotImage}
 use Rattle.state.specs.State.{inRange, homes, grown}
 use Rattle.state.proofs.Ranges.{ranged, in-range}
-use Rattle.register.specs.declared.Gate.{Gate}
 use Rattle.register.specs.declared.Gate.the-variants.{Open, Shut}
 use Rattle.register.specs.Gates.{gateOf, imageOf, imageGate, growGate}
 use Rattle.register.specs.OneImage.{ImageOfR}
-use Rattle.register.specs.Calls.{checked}
 use Rattle.register.specs.Files.{File}
 use Rattle.register.proofs.Gating.{range-shut, area-shut, gate-open, row-shut, cap-shut, pages-decide}
 use Rattle.register.proofs.Judging.{sound-open}
 use Rattle.register.proofs.CheckImage.{image-sound, check-image}
-use Rattle.demands.specs.Refusals.{Ranged, RightArea, BrokenAt, NoneBroken, LowestBroken, RoomToGrow}
+use Rattle.demands.specs.Refusals.{Ranged, RightArea, SomeBroken, LowestBroken}
 use Rattle.demands.proofs.Clean.{read-held}
 
 -- the tests of the ranges are the ranges
@@ -94,8 +92,8 @@ module _ (h : ℕ → ℕ) (area : List ℕ) where
 -- what check and grow find of the pages of a file that they enter
 pub data Pages (f : File) : Type 0 where
   sick : (a : ℕ) → LowestBroken f a → (ImageOfR (f .state) (f .area) → ⊥) → imageGate (f .state) (f .area) ≡ Shut (Broken a (suc a)) → Pages f
-  strange : NoneBroken f → (ImageOfR (f .state) (f .area) → ⊥) → imageGate (f .state) (f .area) ≡ Shut (NotImage (f .state .cap)) → Pages f
-  whole : NoneBroken f → ImageOfR (f .state) (f .area) → imageGate (f .state) (f .area) ≡ Open → Pages f
+  strange : (SomeBroken f → ⊥) → (ImageOfR (f .state) (f .area) → ⊥) → imageGate (f .state) (f .area) ≡ Shut (NotImage (f .state .cap)) → Pages f
+  whole : (SomeBroken f → ⊥) → ImageOfR (f .state) (f .area) → imageGate (f .state) (f .area) ≡ Open → Pages f
 
 module _ (f : File) (b : Bytes (f .area)) (r : Ranged (f .state)) (l : RightArea (f .state) (f .area)) where
   abbrev s : State
@@ -117,7 +115,7 @@ module _ (f : File) (b : Bytes (f .area)) (r : Ranged (f .state)) (l : RightArea
       check-image s area b l range .0 (rw (← gate-open s (length area) range l, e))
 
   -- with none broken, the test of the image decides
-  none-sick : (u : Bool) → imageGate s area ≡ cond u Open (Shut (NotImage (s .cap))) → NoneBroken f → Pages f
+  none-sick : (u : Bool) → imageGate s area ≡ cond u Open (Shut (NotImage (s .cap))) → (SomeBroken f → ⊥) → Pages f
   none-sick true e n = whole n (open-image e) e
   none-sick false e n = strange n (shut-image (NotImage (s .cap)) e) e
 
@@ -129,7 +127,7 @@ module _ (f : File) (b : Bytes (f .area)) (r : Ranged (f .state)) (l : RightArea
       held = heldFrom area (s .cap) 0
 
       go : (o : Option ℕ) → imageGate s area ≡ imageOf s (onBroken o (Whole (isImage (homes s) held) (length (cat held [])))) → Looked (homes s) area (s .cap) 0 o → Pages f
-      go none e w = none-sick (isImage (homes s) held && eqb (length (cat held [])) (s .r)) e (λ a k. w a (omega arith) (omega (arith, k .0)) (k .1))
+      go none e w = none-sick (isImage (homes s) held && eqb (length (cat held [])) (s .r)) e (λ v. w (v .0) (omega arith) (omega (arith, v .1 .0)) (v .1 .1))
       go (some a) e w = sick a (record { broken = (omega arith, w .2); lowest = λ c u k. w .3 c (omega arith) u (k .1) }) (shut-image (Broken a (suc a)) e) e
 
 -- what a growth finds of its row and of P

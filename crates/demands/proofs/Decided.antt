@@ -28,7 +28,7 @@ use Rattle.register.specs.Gates.{onGate, gateOf, imageGate, growGate}
 use Rattle.register.specs.OneImage.{ImageOfR}
 use Rattle.register.specs.Calls.{done, grownFile}
 use Rattle.register.specs.Files.{Call, format, grow, check, File, left}
-use Rattle.demands.specs.Refusals.{Ranged, RightArea, NoneBroken, LowestBroken, RoomToGrow, order, OneOf, gives, tells, AcceptedTells, Judges}
+use Rattle.demands.specs.Refusals.{Ranged, RightArea, SomeBroken, LowestBroken, RoomToGrow, order, OneOf, gives, tells, AcceptedTells, Judges}
 use Rattle.demands.proofs.InOrder.{listed, one-of, none-of, Comes}
 use Rattle.demands.proofs.Causes.{Enters, out, other, entered, enter, Pages, sick, strange, whole, judge, Rows, other-row, at-cap, below, try-row, takesAll, room-of}
 use Rattle.demands.proofs.CallNumbers.{Known, refuses, gated, looks}
@@ -48,8 +48,8 @@ module _ (f : File) (c : Call) {A : Type 0} where
           accepts = (λ e. absurd (none-of k (0 ∷ 4 ∷ []) p (inl e)), λ a. absurd (n a));
           judges = record {
             lowest = λ e. absurd (none-of k (0 ∷ 4 ∷ []) p (inr (inl e)));
-            some = λ e. absurd (none-of k (0 ∷ 4 ∷ []) p (inr (inl e)));
-            every = all;
+            up-to = λ e. absurd (none-of k (0 ∷ 4 ∷ []) p (inr (inl e)));
+            all = all;
           };
         }
 
@@ -66,7 +66,7 @@ module _ (f : File) (c : Call) {A : Type 0} where
       record {
         known = record { comes = w; gives = one-of 4 (gives c) g; accepted = λ e. absurd (omega arith); broken = λ e. l .broken };
         accepts = (λ e. absurd (omega arith), λ x. absurd (n x));
-        judges = record { lowest = λ e. l; some = λ e. omega arith; every = λ v. absurd (none-of 4 (9 ∷ 7 ∷ []) refl v) };
+        judges = record { lowest = λ e. l; up-to = λ e. omega arith; all = λ v. absurd (none-of 4 (9 ∷ 7 ∷ []) refl v) };
       }
 
   accepts : listed 0 (gives c) ≡ true → A → Comes 0 (order f c) (order f c) → (read moved : ℕ) → AcceptedTells f c (told 0 0 0 read moved)
@@ -75,7 +75,7 @@ module _ (f : File) (c : Call) {A : Type 0} where
       record {
         known = record { comes = w; gives = one-of 0 (gives c) g; accepted = λ e. t; broken = λ e. absurd (omega arith) };
         accepts = (λ e. a, λ x. refl);
-        judges = record { lowest = λ e. absurd (omega arith); some = λ e. absurd (omega arith); every = λ v. absurd (none-of 0 (9 ∷ 7 ∷ []) refl v) };
+        judges = record { lowest = λ e. absurd (omega arith); up-to = λ e. absurd (omega arith); all = λ v. absurd (none-of 0 (9 ∷ 7 ∷ []) refl v) };
       }
 
 module _ (f : File) where
@@ -120,7 +120,7 @@ module _ (f : File) where
     check-decided = rw check-tells (go (enter s area))
       where
         pages : Ranged s → RightArea s area → Pages f → Decided f check Good (onGate (imageGate s area) numbers (told 0 0 0 (s .cap) 0))
-        pages r l (sick a w n i) = rw i (sickly f check refl (λ v. n (v .2)) (inr (r, inr (l, inl ((λ x. x a (w .broken)), refl)))) a w)
+        pages r l (sick a w n i) = rw i (sickly f check refl (λ v. n (v .2)) (inr (r, inr (l, inl ((a, w .broken), refl)))) a w)
         pages r l (strange w n i) = rw i (late f check 9 refl refl (λ v. n (v .2)) (inr (r, inr (l, inr (w, inl (n, refl))))))
         pages r l (whole w m i) = rw i (accepts f check refl (r, l, m) (inr (r, inr (l, inr (w, inr (m, none-of 0 (1 ∷ 2 ∷ 4 ∷ 9 ∷ []) refl))))) (s .cap) 0 refl)
 
@@ -166,7 +166,7 @@ module _ (f : File) where
       pub grow-decided : Decided f (grow row) GoodToGrow (tells f (grow row))
       grow-decided = rw grow-tells (go (enter s area))
         where
-          room : (r : Ranged s) (l : RightArea s area) (d : length row ≡ s .cap) (k : s .p ≡ s .cap → ⊥) (w : NoneBroken f) (m : ImageOfR s area) → Dec (takesAll s area) → Decided f (grow row) GoodToGrow regrown
+          room : (r : Ranged s) (l : RightArea s area) (d : length row ≡ s .cap) (k : s .p ≡ s .cap → ⊥) (w : SomeBroken f → ⊥) (m : ImageOfR s area) → Dec (takesAll s area) → Decided f (grow row) GoodToGrow regrown
           room r l d k w m (yes t) =
               let q : RoomToGrow f = record { is = m; room = room-of s area m .0 t } in
               rw (grown-room t) (accepts f (grow row) refl (r, l, d, k, q)
@@ -177,7 +177,7 @@ module _ (f : File) where
               rw (grown-full t) (late f (grow row) 7 refl refl (λ v. q (v .4)) (inr (r, inr (l, inr (d, inr (k, inr (w, inr (m, inl (q, refl)))))))))
 
           pages : (r : Ranged s) (l : RightArea s area) (d : length row ≡ s .cap) (k : s .p ≡ s .cap → ⊥) → Pages f → Decided f (grow row) GoodToGrow (onGate (imageGate s area) numbers regrown)
-          pages r l d k (sick a w n i) = rw i (sickly f (grow row) refl (λ v. n (v .4 .is)) (inr (r, inr (l, inr (d, inr (k, inl ((λ x. x a (w .broken)), refl)))))) a w)
+          pages r l d k (sick a w n i) = rw i (sickly f (grow row) refl (λ v. n (v .4 .is)) (inr (r, inr (l, inr (d, inr (k, inl ((a, w .broken), refl)))))) a w)
           pages r l d k (strange w n i) = rw i (late f (grow row) 9 refl refl (λ v. n (v .4 .is)) (inr (r, inr (l, inr (d, inr (k, inr (w, inl (n, refl))))))))
           pages r l d k (whole w m i) =
               let held = cat (heldFrom area (s .cap) 0) [] in
@@ -185,7 +185,7 @@ module _ (f : File) where
 
           tries : (r : Ranged s) (l : RightArea s area) → Rows f row → Decided f (grow row) GoodToGrow (onGate (growGate s area (length row)) numbers regrown)
           tries r l (other-row d g) = rw g (early f (grow row) 3 refl refl (λ a. d (a .2)) (inr (r, inr (l, inl (d, refl)))) refl)
-          tries r l (at-cap d k g) = rw g (early f (grow row) 8 refl refl (λ a. a .3 k) (inr (r, inr (l, inr (d, inl ((λ x. x k), refl))))) refl)
+          tries r l (at-cap d k g) = rw g (early f (grow row) 8 refl refl (λ a. a .3 k) (inr (r, inr (l, inr (d, inl (k, refl))))) refl)
           tries r l (below d k g) = rw g (pages r l d k (judge f b r l))
 
           go : Enters s area → Decided f (grow row) GoodToGrow (onGate (growGate s area (length row)) numbers regrown)

@@ -2,12 +2,12 @@
 use mathlib.Core.Path.{_≡_, refl, sym, _∙_}
 use mathlib.Core.Bool.{Bool, true, false, not, _&&_, _||_, false≢true}
 use mathlib.Core.Logic.{_⊎_, inl, inr, ⊎-elim}
-use mathlib.Core.List.{List, [], _∷_, map}
+use mathlib.Core.List.{List, [], _∷_}
 use Prim.Native.Nat.{ℕ}
 use lib.Dec.{eqb}
 use borrow.Author.Tests.{not-true, eqb-true, eqb-false}
 use Rattle.numbers.proofs.Records.{and-left, and-right}
-use Rattle.demands.specs.Refusals.{InOrder, OneOf}
+use Rattle.demands.specs.Refusals.{Cause, when, unless, number, Holds, Fails, InOrder, OneOf}
 
 -- whether a number is one of a list, as a test
 abbrev pub listed : ℕ → List ℕ → Bool
@@ -31,39 +31,44 @@ none-of n (k ∷ ks) e = go (eqb n k) refl e (none-of n ks)
     go false q e on = ⊎-elim (eqb-false n k q) (on e)
 
 -- the numbers of causes, and whether they all differ
-abbrev pub ranks : List (ℕ × Type 0) → List ℕ
+abbrev pub ranks : List Cause → List ℕ
 ranks [] = []
-ranks (c ∷ cs) = c .0 ∷ ranks cs
+ranks (c ∷ cs) = number c ∷ ranks cs
 
 abbrev pub differ : List ℕ → Bool
 differ [] = true
 differ (k ∷ ks) = not (listed k ks) && differ ks
 
+-- a cause doesn't both hold and fail
+clash : (c : Cause) → Holds c → Fails c → ⊥
+clash (when k it) h f = f h
+clash (unless k it) h f = h f
+
 module _ (n : ℕ) where
   -- how n came about: at each cause it is given, or the cause doesn't hold and the next is looked at; past all of them it is another number
-  abbrev pub Comes : (all cs : List (ℕ × Type 0)) → Type 0
+  abbrev pub Comes : (all cs : List Cause) → Type 0
   Comes all [] = OneOf n (ranks all) → ⊥
-  Comes all (c ∷ cs) = ((c .1 → ⊥) × (n ≡ c .0)) ⊎ (c .1 × Comes all cs)
+  Comes all (c ∷ cs) = (Holds c × (n ≡ number c)) ⊎ (Fails c × Comes all cs)
 
   -- past a cause that holds, no number is given
-  none-given : {clear : Type 0} (cs : List (ℕ × Type 0)) → (clear → ⊥) → (OneOf n (ranks cs) → ⊥) → InOrder n clear cs
+  none-given : {clear : Type 0} (cs : List Cause) → (clear → ⊥) → (OneOf n (ranks cs) → ⊥) → InOrder n clear cs
   none-given [] x a = tt
   none-given (c ∷ cs) x a = ((λ e. absurd (a (inl e)), λ w. absurd (x (w .0))), none-given cs (λ w. x (w .0)) (λ w. a (inr w)))
 
   -- a number whose cause doesn't hold is not given
-  not-given : (k : ℕ) (all cs : List (ℕ × Type 0)) → (OneOf k (ranks cs) → ⊥) → OneOf k (ranks all) → Comes all cs → n ≡ k → ⊥
+  not-given : (k : ℕ) (all cs : List Cause) → (OneOf k (ranks cs) → ⊥) → OneOf k (ranks all) → Comes all cs → n ≡ k → ⊥
   not-given k all [] d m w e = w (rw e m)
   not-given k all (c ∷ cs) d m (inl w) e = d (inl (sym e ∙ w .1))
   not-given k all (c ∷ cs) d m (inr w) e = not-given k all cs (λ v. d (inr v)) m (w .1) e
 
-  given : {clear : Type 0} (all cs : List (ℕ × Type 0)) → differ (ranks cs) ≡ true → ((k : ℕ) → OneOf k (ranks cs) → OneOf k (ranks all)) → clear → Comes all cs
+  given : {clear : Type 0} (all cs : List Cause) → differ (ranks cs) ≡ true → ((k : ℕ) → OneOf k (ranks cs) → OneOf k (ranks all)) → clear → Comes all cs
       → InOrder n clear cs
   given all [] d m x w = tt
-  given {clear} all (c ∷ cs) d m x w = go (none-of (c .0) (ranks cs) (not-true _ (and-left (not (listed (c .0) (ranks cs))) (differ (ranks cs)) d))) w (λ p. given all cs (and-right (not (listed (c .0) (ranks cs))) (differ (ranks cs)) d) (λ k v. m k (inr v)) (x, p))
+  given {clear} all (c ∷ cs) d m x w = go (none-of (number c) (ranks cs) (not-true _ (and-left (not (listed (number c) (ranks cs))) (differ (ranks cs)) d))) w (λ p. given all cs (and-right (not (listed (number c) (ranks cs))) (differ (ranks cs)) d) (λ k v. m k (inr v)) (x, p))
     where
-      go : (OneOf (c .0) (ranks cs) → ⊥) → Comes all (c ∷ cs) → (c .1 → Comes all cs → InOrder n (clear × c .1) cs) → InOrder n clear (c ∷ cs)
-      go a (inl w) on = ((λ e. (x, w .0), λ v. w .1), none-given cs (λ v. w .0 (v .1)) (rw (w .1) a))
-      go a (inr w) on = ((λ e. absurd (not-given (c .0) all cs a (m (c .0) (inl refl)) (w .1) e), λ v. absurd (v .1 (w .0))), on (w .0) (w .1))
+      go : (OneOf (number c) (ranks cs) → ⊥) → Comes all (c ∷ cs) → (Fails c → Comes all cs → InOrder n (clear × Fails c) cs) → InOrder n clear (c ∷ cs)
+      go a (inl w) on = ((λ e. (x, w .0), λ v. w .1), none-given cs (λ v. clash c (w .0) (v .1)) (rw (w .1) a))
+      go a (inr w) on = ((λ e. absurd (not-given (number c) all cs a (m (number c) (inl refl)) (w .1) e), λ v. absurd (clash c (v .1) (w .0))), on (w .0) (w .1))
 
-  pub in-order : (cs : List (ℕ × Type 0)) → differ (ranks cs) ≡ true → Comes cs cs → InOrder n Unit cs
+  pub in-order : (cs : List Cause) → differ (ranks cs) ≡ true → Comes cs cs → InOrder n Unit cs
   in-order cs d w = given cs cs d (λ k v. v) tt w

@@ -1,21 +1,20 @@
 -- The refusals, proved: of any state and any bytes.
-use mathlib.Core.Path.{_≡_, refl, sym, ap, _∙_}
-use mathlib.Core.Bool.{Bool, true, false, _&&_, false≢true}
+use mathlib.Core.Path.{_≡_, refl}
+use mathlib.Core.Bool.{Bool, true, false, false≢true}
 use mathlib.Core.Logic.{_↔_, inl}
-use mathlib.Core.List.{List, [], _∷_}
+use mathlib.Core.List.{[], _∷_}
 use Prim.Native.Nat.{ℕ, _*_, _<_}
 use native.Mathlib.Omega.{arith}
 use lib.Dec.{ltb}
 use borrow.Author.Tests.{ltb-true, lt-ltb}
 use Rattle.numbers.specs.Little.{Bytes}
 use Rattle.numbers.proofs.Records.{and-left, and-right}
-use Rattle.state.specs.declared.State.{State}
 use Rattle.state.specs.declared.Answer.{Answer}
 use Rattle.state.specs.declared.Answer.the-variants.{Accepted, OutOfRange, WrongArea, WrongRow, Broken, Absent, Held, NoRoom, AtCap, NotImage}
 use Rattle.state.specs.Answer.{told, numbers}
 use Rattle.state.specs.State.{inRange, isDue}
 use Rattle.register.specs.Files.{Call, format, find, put, remove, grow, check, due, File, Said, answers, says, left, numbersOf}
-use Rattle.demands.specs.Refusals.{Ranged, order, OneOf, tells, Plain, Refusals}
+use Rattle.demands.specs.Refusals.{Ranged, order, tells, Plain, Refusals}
 use Rattle.demands.proofs.InOrder.{ranks, differ, listed, none-of, in-order}
 use Rattle.demands.proofs.Causes.{in-ranges}
 use Rattle.demands.proofs.CallNumbers.{Known}

@@ -18,7 +18,7 @@ use Rattle.walks.specs.Walks.{Walked, went, stopped, walk, findAnswer, putWalk,
 use Rattle.register.specs.Gates.{onGate, gateOf}
 use Rattle.register.specs.Calls.{done, settled, putOpen, removeOpen}
 use Rattle.register.specs.Files.{Call, find, put, remove, File, left}
-use Rattle.demands.specs.Refusals.{Ranged, RightArea, entry, order, OneOf, gives, tells, AcceptedTells}
+use Rattle.demands.specs.Refusals.{Ranged, RightArea, order, OneOf, gives, tells, AcceptedTells}
 use Rattle.demands.proofs.InOrder.{listed, one-of, none-of, Comes}
 use Rattle.demands.proofs.Causes.{Enters, out, other, entered, enter}
 use Rattle.demands.proofs.WalkNumbers.{MetBroken, walk-broken, StopsWith, put-stops, remove-stops}

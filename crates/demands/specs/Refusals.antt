@@ -36,13 +36,13 @@ abbrev pub RightArea : State → List ℕ → Type 0
 RightArea s area = length area ≡ 256 * s .cap
 
 module _ (f : File) where
-  -- page a of the area breaks a page rule
+  -- page a of the area breaks a page rule: it is not read
   abbrev pub BrokenAt : ℕ → Type 0
   BrokenAt a = (a < f .state .cap) × (readPage (homes (f .state)) a (partAt (f .area) a) ≡ none)
 
-  -- "with none broken"
-  abbrev pub NoneBroken : Type 0
-  NoneBroken = (a : ℕ) → BrokenAt a → ⊥
+  -- "a page .. is broken"
+  abbrev pub SomeBroken : Type 0
+  SomeBroken = (a : ℕ) × BrokenAt a
 
   -- "the lowest broken page"
   pub record LowestBroken (a : ℕ) : Type 0 where
@@ -54,26 +54,43 @@ module _ (f : File) where
     pub is : ImageOfR (f .state) (f .area)
     pub room : Room key (homes (grown (f .state))) 12 (f .state .cap) (is .records)
 
--- "A refusal is given when its cause holds and no earlier one does, and not otherwise.": n is the number given; each number stands with that which has to hold lest it be given, in the call's order, and `clear` says that no earlier cause holds
-abbrev pub InOrder : (n : ℕ) → (clear : Type 0) → List (ℕ × Type 0) → Type 0
+-- the cause of a number: that something holds, or that it doesn't
+pub data Cause : Type 1 where
+  when : (number : ℕ) (it : Type 0) → Cause
+  unless : (number : ℕ) (it : Type 0) → Cause
+
+abbrev pub number : Cause → ℕ
+number (when k it) = k
+number (unless k it) = k
+
+abbrev pub Holds : Cause → Type 0
+Holds (when k it) = it
+Holds (unless k it) = it → ⊥
+
+abbrev pub Fails : Cause → Type 0
+Fails (when k it) = it → ⊥
+Fails (unless k it) = it
+
+-- "A refusal is given when its cause holds and no earlier one does, and not otherwise.": n is the number given, the causes stand in the call's order, and no cause before them holds where `clear` does
+abbrev pub InOrder : (n : ℕ) → (clear : Type 0) → List Cause → Type 0
 InOrder n clear [] = Unit {0}
-InOrder n clear (c ∷ cs) = ((n ≡ c .0) ↔ (clear × (c .1 → ⊥))) × InOrder n (clear × c .1) cs
+InOrder n clear (c ∷ cs) = ((n ≡ number c) ↔ (clear × Holds c)) × InOrder n (clear × Fails c) cs
 
 -- "1 a state number out of range", "2 area isn't 256 x cap bytes"
-abbrev pub entry : State → List ℕ → List (ℕ × Type 0)
-entry s area = (1, Ranged s) ∷ (2, RightArea s area) ∷ []
+abbrev pub entry : State → List ℕ → List Cause
+entry s area = unless 1 (Ranged s) ∷ unless 2 (RightArea s area) ∷ []
 
--- "Order: format 1, 2 (judged on the numbers it is asked for, not on the state before it). Find 1, 2, then the walk. Put and remove 1, 2, the walk (4, 5, 6 or 7 as met), then 9. Grow 1, 2, 3, 8, 4, 9, 7. Check 1, 2, 4, 9.", and due gives none. What the walks meet is said by their definitions.
-abbrev pub order : File → Call → List (ℕ × Type 0)
+-- "Order: format 1, 2 (judged on the numbers it is asked for, not on the state before it). Find 1, 2, then the walk. Put and remove 1, 2, the walk (4, 5, 6 or 7 as met), then 9. Grow 1, 2, 3, 8, 4, 9, 7. Check 1, 2, 4, 9." Due gives none. What a walk meets is its definition's to say.
+abbrev pub order : File → Call → List Cause
 order f (format n0 N s cap) = entry (fresh n0 N s cap) (f .area)
 order f (find k) = entry (f .state) (f .area)
 order f (put k v) = entry (f .state) (f .area)
 order f (remove k) = entry (f .state) (f .area)
 order f (grow row) =
-    (1, Ranged (f .state)) ∷ (2, RightArea (f .state) (f .area))
-    ∷ (3, length row ≡ f .state .cap) ∷ (8, f .state .p ≡ f .state .cap → ⊥)
-    ∷ (4, NoneBroken f) ∷ (9, ImageOfR (f .state) (f .area)) ∷ (7, RoomToGrow f) ∷ []
-order f check = (1, Ranged (f .state)) ∷ (2, RightArea (f .state) (f .area)) ∷ (4, NoneBroken f) ∷ (9, ImageOfR (f .state) (f .area)) ∷ []
+    unless 1 (Ranged (f .state)) ∷ unless 2 (RightArea (f .state) (f .area))
+    ∷ unless 3 (length row ≡ f .state .cap) ∷ when 8 (f .state .p ≡ f .state .cap)
+    ∷ when 4 (SomeBroken f) ∷ unless 9 (ImageOfR (f .state) (f .area)) ∷ unless 7 (RoomToGrow f) ∷ []
+order f check = unless 1 (Ranged (f .state)) ∷ unless 2 (RightArea (f .state) (f .area)) ∷ when 4 (SomeBroken f) ∷ unless 9 (ImageOfR (f .state) (f .area)) ∷ []
 order f due = []
 
 -- n is one of these numbers
@@ -116,36 +133,40 @@ AcceptedTells f (grow row) n = (n .value ≡ 0) × (n .read ≡ f .state .cap)
 AcceptedTells f check n = n ≡ told 0 0 0 (f .state .cap) 0
 AcceptedTells f due n = n ≡ told 0 0 0 0 0
 
--- "Check and grow judge pages from 0 upward and stop at the first broken one."; 4 tells "the lowest broken page", "a broken one included" among those read; past it all are read
+-- "Check and grow judge pages from 0 upward and stop at the first broken one.": 4 tells "the lowest broken page", and the pages read are those up to it ("a broken one included"); 9 and 7 come after all pages
 pub record Judges (f : File) (n : Numbers) : Type 0 where
   pub lowest : n .refusal ≡ 4 → LowestBroken f (n .page)
-  pub some : n .refusal ≡ 4 → n .read ≡ n .page + 1
-  pub every : OneOf (n .refusal) (9 ∷ 7 ∷ []) → n .read ≡ f .state .cap
+  pub up-to : n .refusal ≡ 4 → n .read ≡ n .page + 1
+  pub all : OneOf (n .refusal) (9 ∷ 7 ∷ []) → n .read ≡ f .state .cap
 
--- of a file
+-- what is promised of a file
 pub record RefusalsOf (f : File) : Type 0 where
+  -- each call gives its numbers in order, and 1 and 2 before any walk
   pub order : (c : Call) → InOrder (refusal f c) Unit (order f c)
+  -- it gives no others
   pub gives : (c : Call) → OneOf (refusal f c) (gives c)
+  -- what it tells beside the number
   pub plain : (c : Call) → Plain (tells f c)
   pub accepted : (c : Call) → refusal f c ≡ 0 → AcceptedTells f c (tells f c)
   -- format is accepted where neither 1 nor 2 is given
   pub formats : (n0 N s cap : ℕ) → (refusal f (format n0 N s cap) ≡ 0) ↔ (Ranged (fresh n0 N s cap) × RightArea (fresh n0 N s cap) (f .area))
   -- "Check says yes exactly when the area is the image of r records."
   pub checks : (refusal f check ≡ 0) ↔ (Ranged (f .state) × RightArea (f .state) (f .area) × ImageOfR (f .state) (f .area))
-  -- grow "makes the image for P + 1" where there is room for it
+  -- grow is accepted where none of its seven is given
   pub grows : (row : List ℕ) → (refusal f (grow row) ≡ 0)
       ↔ (Ranged (f .state) × RightArea (f .state) (f .area) × (length row ≡ f .state .cap) × (f .state .p ≡ f .state .cap → ⊥) × RoomToGrow f)
+  -- which page 4 tells, and how many pages are read
   pub check-judges : Judges f (tells f check)
   pub grow-judges : (row : List ℕ) → Judges f (tells f (grow row))
-  -- "4 a page looked at is broken; its address"
+  -- of every call: "4 a page looked at is broken; its address"
   pub broken : (c : Call) → refusal f c ≡ 4 → BrokenAt f (tells f c .page)
-  -- 9: "put where r = 12 x cap; remove where r = 0", after the walk has met no other cause
+  -- "the walk (4, 5, 6 or 7 as met), then 9": where the walk meets no cause, 9 is given exactly "where r = 12 x cap" by put, "where r = 0" by remove
   pub put-count : (k v : ℕ) → OneOf (refusal f (put k v)) (0 ∷ 9 ∷ []) → (refusal f (put k v) ≡ 9) ↔ (f .state .r ≡ 12 * f .state .cap)
   pub remove-count : (k : ℕ) → OneOf (refusal f (remove k)) (0 ∷ 9 ∷ []) → (refusal f (remove k) ≡ 9) ↔ (f .state .r ≡ 0)
-  -- "all but due (due answers no)"; "Growth is due exactly when 5r > 48P"
+  -- "Growth is due exactly when 5r > 48P"; out of range "due answers no"
   pub due-yes : (left f due .said ≡ says true) ↔ (Ranged (f .state) × (48 * f .state .p < 5 * f .state .r))
   pub due-no : (left f due .said ≡ says false) ↔ (Ranged (f .state) × (48 * f .state .p < 5 * f .state .r) → ⊥)
 
--- What is promised of any state and any bytes, and proved as `refusals` (proofs/Refusals.antt).
+-- What is promised of every file, any state and any bytes, and proved as `refusals` (proofs/Refusals.antt).
 abbrev pub Refusals : Type 0
 Refusals = (f : File) → Bytes (f .area) → RefusalsOf f

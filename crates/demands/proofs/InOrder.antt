@@ -64,7 +64,10 @@ module _ (n : ℕ) where
   given : {clear : Type 0} (all cs : List Cause) → differ (ranks cs) ≡ true → ((k : ℕ) → OneOf k (ranks cs) → OneOf k (ranks all)) → clear → Comes all cs
       → InOrder n clear cs
   given all [] d m x w = tt
-  given {clear} all (c ∷ cs) d m x w = go (none-of (number c) (ranks cs) (not-true _ (and-left (not (listed (number c) (ranks cs))) (differ (ranks cs)) d))) w (λ p. given all cs (and-right (not (listed (number c) (ranks cs))) (differ (ranks cs)) d) (λ k v. m k (inr v)) (x, p))
+  given {clear} all (c ∷ cs) d m x w =
+      let ks = ranks cs in
+      let apart = not (listed (number c) ks) in
+      go (none-of (number c) ks (not-true _ (and-left apart (differ ks) d))) w (λ p. given all cs (and-right apart (differ ks) d) (λ k v. m k (inr v)) (x, p))
     where
       go : (OneOf (number c) (ranks cs) → ⊥) → Comes all (c ∷ cs) → (Fails c → Comes all cs → InOrder n (clear × Fails c) cs) → InOrder n clear (c ∷ cs)
       go a (inl w) on = ((λ e. (x, w .0), λ v. w .1), none-given cs (λ v. clash c (w .0) (v .1)) (rw (w .1) a))

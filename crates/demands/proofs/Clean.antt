@@ -26,7 +26,7 @@ pub record Clean (h : ℕ → ℕ) (n : ℕ) (ps : List (List Record)) : Type 0 
   pub keys : All (λ x. key x < 2 ^ 64) (cat ps [])
 
 -- what is read page by page is what stands there
-read-held : (h : ℕ → ℕ) (area : List ℕ) (n a : ℕ) (ps : List (List Record)) → pagesFrom h area n a ≡ map some ps → heldFrom area n a ≡ ps
+pub read-held : (h : ℕ → ℕ) (area : List ℕ) (n a : ℕ) (ps : List (List Record)) → pagesFrom h area n a ≡ map some ps → heldFrom area n a ≡ ps
 read-held h area zero a [] e = refl
 read-held h area zero a (p ∷ ps) e = absurd (let z : _≡_ {A = ℕ} 0 1 = cc in omega arith)
 read-held h area (suc n) a [] e = absurd (let z : _≡_ {A = ℕ} 0 1 = cc in omega arith)

@@ -14,3 +14,10 @@ pub mod Fresh
 pub mod Steps
 pub mod Demands
 pub mod Session
+pub mod InOrder
+pub mod Causes
+pub mod WalkNumbers
+pub mod CallNumbers
+pub mod Decided
+pub mod WalkCalls
+pub mod Refusals

@@ -1,3 +1,4 @@
 pub mod Histories
 pub mod Demands
 pub mod Answers
+pub mod Refusals

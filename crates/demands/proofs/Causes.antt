@@ -1,0 +1,162 @@
+-- What the gates of a call tell, as causes: a number out of range, an area or a row of another length, a broken page, no image.
+use mathlib.Core.Path.{_≡_, refl, sym, _∙_}
+use mathlib.Core.Bool.{Bool, true, false, cond, _&&_, false≢true}
+use mathlib.Core.Logic.{_↔_}
+use mathlib.Core.Option.{Option, none, some}
+use mathlib.Core.List.{List, [], _∷_}
+use Prim.Native.Nat.{ℕ, zero, suc, _+_, _*_, _≤_, _<_}
+use native.Mathlib.Decide.{ℕ-discrete}
+use native.Mathlib.Omega.{arith}
+use lib.Dec.{eqb}
+use lib.ListN.{length}
+use Rattle.numbers.specs.Little.{Bytes}
+use Rattle.placing.specs.Image.{cat, Room}
+use Rattle.placing.specs.Lay.{taken}
+use Rattle.placing.proofs.Images.{room-taken}
+use Rattle.placing.proofs.Perms.{perm-length, perm-upTo}
+use Rattle.placing.proofs.Taken.{taken-cong}
+use Rattle.placing.proofs.Seek.{clash}
+use Rattle.pages.specs.Page.{Record, key, homeFor, readPage}
+use Rattle.pages.specs.Area.{partAt, pagesFrom, heldFrom}
+use Rattle.survey.specs.declared.Verdict.the-variants.{Whole}
+use Rattle.survey.specs.Survey.{lowestBroken, isImage, onBroken, surveyed}
+use Rattle.state.specs.declared.State.{State}
+use Rattle.state.specs.declared.Answer.{Answer}
+use Rattle.state.specs.declared.Answer.the-variants.{OutOfRange, WrongArea, WrongRow, AtCap, Broken, NotImage}
+use Rattle.state.specs.State.{inRange, homes, grown}
+use Rattle.state.proofs.Ranges.{ranged, in-range}
+use Rattle.register.specs.declared.Gate.the-variants.{Open, Shut}
+use Rattle.register.specs.Gates.{gateOf, imageOf, imageGate, growGate}
+use Rattle.register.specs.OneImage.{ImageOfR}
+use Rattle.register.specs.Files.{File}
+use Rattle.register.proofs.Gating.{range-shut, area-shut, gate-open, row-shut, cap-shut, pages-decide}
+use Rattle.register.proofs.Judging.{sound-open}
+use Rattle.register.proofs.CheckImage.{image-sound, check-image}
+use Rattle.demands.specs.Refusals.{Ranged, RightArea, SomeBroken, LowestBroken}
+use Rattle.demands.proofs.Clean.{read-held}
+
+-- the tests of the ranges are the ranges
+pub in-ranges : (s : State) → (inRange s ≡ true) ↔ Ranged s
+in-ranges s = (
+  (λ e. let r = ranged s e in search arith),
+  (λ r. in-range s (search arith)),
+)
+
+-- what every call that has a gate finds first
+pub data Enters (s : State) (area : List ℕ) : Type 0 where
+  out : (Ranged s → ⊥) → gateOf s (length area) ≡ Shut OutOfRange → Enters s area
+  other : Ranged s → (RightArea s area → ⊥) → gateOf s (length area) ≡ Shut WrongArea → Enters s area
+  entered : Ranged s → RightArea s area → gateOf s (length area) ≡ Open → Enters s area
+
+pub enter : (s : State) (area : List ℕ) → Enters s area
+enter s area = go (inRange s) refl (ℕ-discrete (length area) (256 * s .cap))
+  where
+    go : (u : Bool) → inRange s ≡ u → Dec (length area ≡ 256 * s .cap) → Enters s area
+    go false e d = out (λ r. false≢true (sym e ∙ in-ranges s .1 r)) (sym (range-shut s (length area) e))
+    go true e (no f) = other (in-ranges s .0 e) f (sym (area-shut s (length area) e f))
+    go true e (yes l) = entered (in-ranges s .0 e) l (sym (gate-open s (length area) e l))
+
+-- what the search for the lowest broken one of n pages from page a on tells
+module _ (h : ℕ → ℕ) (area : List ℕ) where
+  abbrev Sick : ℕ → Type 0
+  Sick a = readPage h a (partAt area a) ≡ none
+
+  -- none is broken from page a up to the one before b
+  abbrev Clear : (a b : ℕ) → Type 0
+  Clear a b = (c : ℕ) → a ≤ c → c < b → Sick c → ⊥
+
+  abbrev Looked : (n a : ℕ) → Option ℕ → Type 0
+  Looked n a none = Clear a (a + n)
+  Looked n a (some b) = (a ≤ b) × (b < a + n) × Sick b × Clear a b
+
+  clear-more : (a b : ℕ) (p : List Record) → readPage h a (partAt area a) ≡ some p → Clear (suc a) b → Clear a b
+  clear-more a b p q on c l u k = go (ℕ-discrete a c)
+    where
+      go : Dec (a ≡ c) → ⊥
+      go (yes t) = clash {x = p} (sym k ∙ rw (← t) q)
+      go (no t) = on c (omega arith) u k
+
+  looked : (n a : ℕ) → Looked n a (lowestBroken a (pagesFrom h area n a))
+  looked zero a = λ c l u k. omega arith
+  looked (suc n) a = go (readPage h a (partAt area a)) refl (looked n (suc a))
+    where
+      on-looked : (p : List Record) → readPage h a (partAt area a) ≡ some p → (o : Option ℕ) → Looked n (suc a) o → Looked (suc n) a o
+      on-looked p q none w = let e : suc a + n ≡ a + suc n = omega arith in clear-more a (a + suc n) p q (rw e at w)
+      on-looked p q (some b) w = (omega arith, omega arith, w .2, clear-more a b p q (w .3))
+
+      go : (o : Option (List Record)) → readPage h a (partAt area a) ≡ o → Looked n (suc a) (lowestBroken (suc a) (pagesFrom h area n (suc a)))
+          → Looked (suc n) a (lowestBroken a (o ∷ pagesFrom h area n (suc a)))
+      go none q w = (omega arith, omega arith, q, λ c l u k. omega arith)
+      go (some p) q w = on-looked p q (lowestBroken (suc a) (pagesFrom h area n (suc a))) w
+
+-- what check and grow find of the pages of a file that they enter
+pub data Pages (f : File) : Type 0 where
+  sick : (a : ℕ) → LowestBroken f a → (ImageOfR (f .state) (f .area) → ⊥) → imageGate (f .state) (f .area) ≡ Shut (Broken a (suc a)) → Pages f
+  strange : (SomeBroken f → ⊥) → (ImageOfR (f .state) (f .area) → ⊥) → imageGate (f .state) (f .area) ≡ Shut (NotImage (f .state .cap)) → Pages f
+  whole : (SomeBroken f → ⊥) → ImageOfR (f .state) (f .area) → imageGate (f .state) (f .area) ≡ Open → Pages f
+
+module _ (f : File) (b : Bytes (f .area)) (r : Ranged (f .state)) (l : RightArea (f .state) (f .area)) where
+  abbrev s : State
+  s = f .state
+
+  abbrev area : List ℕ
+  area = f .area
+
+  -- an image opens the gate, and nothing else does
+  shut-image : (why : Answer) → imageGate s area ≡ Shut why → ImageOfR s area → ⊥
+  shut-image why e w =
+      let q : Shut why ≡ Open = sym e ∙ sound-open s area (image-sound s area b l w) in
+      let z : _≡_ {A = ℕ} 0 1 = cc in
+      omega arith
+
+  open-image : imageGate s area ≡ Open → ImageOfR s area
+  open-image e =
+      let range : inRange s ≡ true = in-ranges s .1 r in
+      check-image s area b l range .0 (rw (← gate-open s (length area) range l, e))
+
+  -- with none broken, the test of the image decides
+  none-sick : (u : Bool) → imageGate s area ≡ cond u Open (Shut (NotImage (s .cap))) → (SomeBroken f → ⊥) → Pages f
+  none-sick true e n = whole n (open-image e) e
+  none-sick false e n = strange n (shut-image (NotImage (s .cap)) e) e
+
+  pub judge : Pages f
+  unfolding imageGate surveyed
+  judge = go (lowestBroken 0 (pagesFrom (homes s) area (s .cap) 0)) refl (looked (homes s) area (s .cap) 0)
+    where
+      held : List (List Record)
+      held = heldFrom area (s .cap) 0
+
+      go : (o : Option ℕ) → imageGate s area ≡ imageOf s (onBroken o (Whole (isImage (homes s) held) (length (cat held [])))) → Looked (homes s) area (s .cap) 0 o → Pages f
+      go none e w = none-sick (isImage (homes s) held && eqb (length (cat held [])) (s .r)) e (λ v. w (v .0) (omega arith) (omega (arith, v .1 .0)) (v .1 .1))
+      go (some a) e w = sick a (record { broken = (omega arith, w .2); lowest = λ c u k. w .3 c (omega arith) u (k .1) }) (shut-image (Broken a (suc a)) e) e
+
+-- what a growth finds of its row and of P
+pub data Rows (f : File) (row : List ℕ) : Type 0 where
+  other-row : (length row ≡ f .state .cap → ⊥) → growGate (f .state) (f .area) (length row) ≡ Shut WrongRow → Rows f row
+  at-cap : length row ≡ f .state .cap → f .state .p ≡ f .state .cap → growGate (f .state) (f .area) (length row) ≡ Shut AtCap → Rows f row
+  below : length row ≡ f .state .cap → (f .state .p ≡ f .state .cap → ⊥) → growGate (f .state) (f .area) (length row) ≡ imageGate (f .state) (f .area) → Rows f row
+
+pub try-row : (f : File) (row : List ℕ) → gateOf (f .state) (length (f .area)) ≡ Open → Rows f row
+try-row f row e = go (ℕ-discrete (length row) (s .cap)) (ℕ-discrete (s .p) (s .cap))
+  where
+    s : State
+    s = f .state
+
+    go : Dec (length row ≡ s .cap) → Dec (s .p ≡ s .cap) → Rows f row
+    go (no d) k = other-row d (sym (row-shut s (f .area) (length row) Open (sym e) refl d))
+    go (yes d) (yes k) = at-cap d k (sym (cap-shut s (f .area) (length row) Open (sym e) refl d k))
+    go (yes d) (no k) = below d k (sym (pages-decide s (f .area) (length row) Open (sym e) refl (imageGate s (f .area)) refl d k))
+
+-- there is room for the records of an image where the pages can take all that stand on them
+abbrev pub takesAll : State → List ℕ → Type 0
+takesAll s area =
+    let held = cat (heldFrom area (s .cap) 0) [] in
+    taken (homeFor (homes (grown s))) 12 held (s .cap) ≡ length held
+
+pub room-of : (s : State) (area : List ℕ) (w : ImageOfR s area) → takesAll s area ↔ Room key (homes (grown s)) 12 (s .cap) (w .records)
+room-of s area w =
+    let h = homeFor (homes (grown s)) in
+    let ps = w .is .pages in
+    let p = w .is .image .arranged .holds in
+    let t = room-taken key (homes (grown s)) 12 (s .cap) (w .records) (w .set) in
+    rw (read-held (homes s) area (s .cap) 0 ps (w .is .pass), taken-cong h 12 (cat ps []) (w .records) (λ j. perm-upTo h j p) (s .cap), perm-length p) (t .1, t .0)

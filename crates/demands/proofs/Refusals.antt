@@ -1,0 +1,110 @@
+-- The refusals, proved: of any state and any bytes.
+use mathlib.Core.Path.{_≡_, refl}
+use mathlib.Core.Bool.{Bool, true, false, false≢true}
+use mathlib.Core.Logic.{_↔_, inl}
+use mathlib.Core.List.{[], _∷_}
+use Prim.Native.Nat.{ℕ, _*_, _<_}
+use native.Mathlib.Omega.{arith}
+use lib.Dec.{ltb}
+use borrow.Author.Tests.{ltb-true, lt-ltb}
+use Rattle.numbers.specs.Little.{Bytes}
+use Rattle.numbers.proofs.Records.{and-left, and-right}
+use Rattle.state.specs.declared.Answer.{Answer}
+use Rattle.state.specs.declared.Answer.the-variants.{Accepted, OutOfRange, WrongArea, WrongRow, Broken, Absent, Held, NoRoom, AtCap, NotImage}
+use Rattle.state.specs.Answer.{told, numbers}
+use Rattle.state.specs.State.{inRange, isDue}
+use Rattle.register.specs.Files.{Call, format, find, put, remove, grow, check, due, File, Said, answers, says, left, numbersOf}
+use Rattle.demands.specs.Refusals.{Ranged, order, tells, Plain, Refusals}
+use Rattle.demands.proofs.InOrder.{ranks, differ, listed, none-of, in-order}
+use Rattle.demands.proofs.Causes.{in-ranges}
+use Rattle.demands.proofs.CallNumbers.{Known}
+use Rattle.demands.proofs.Decided.{format-decided, check-decided, grow-decided}
+use Rattle.demands.proofs.WalkCalls.{find-known, put-settled, remove-settled}
+
+-- what stands beside a refusal's number
+module _ (k : ℕ) where
+  -- a refusal that reads pages
+  looked : (read : ℕ) → listed k (1 ∷ 2 ∷ 3 ∷ 8 ∷ []) ≡ false → Plain (told k 0 0 read 0)
+  looked read d = record { page = λ e. refl; value = λ z e. refl; moved = λ z. refl; read = λ w. absurd (none-of k (1 ∷ 2 ∷ 3 ∷ 8 ∷ []) d w) }
+
+  -- one that reads none
+  unread : Plain (told k 0 0 0 0)
+  unread = record { page = λ e. refl; value = λ z e. refl; moved = λ z. refl; read = λ w. refl }
+
+plain-answer : (a : Answer) → Plain (numbers a)
+plain-answer (Accepted value read moved) =
+    record { page = λ e. refl; value = λ z e. absurd (z refl); moved = λ z. absurd (z refl); read = λ w. absurd (none-of 0 (1 ∷ 2 ∷ 3 ∷ 8 ∷ []) refl w) }
+plain-answer OutOfRange = unread 1
+plain-answer WrongArea = unread 2
+plain-answer WrongRow = unread 3
+plain-answer (Broken page read) =
+    record { page = λ e. absurd (e refl); value = λ z e. refl; moved = λ z. refl; read = λ w. absurd (none-of 4 (1 ∷ 2 ∷ 3 ∷ 8 ∷ []) refl w) }
+plain-answer (Absent read) = looked 5 read refl
+plain-answer (Held value read) =
+    record { page = λ e. refl; value = λ z e. absurd (e refl); moved = λ z. refl; read = λ w. absurd (none-of 6 (1 ∷ 2 ∷ 3 ∷ 8 ∷ []) refl w) }
+plain-answer (NoRoom read) = looked 7 read refl
+plain-answer AtCap = unread 8
+plain-answer (NotImage read) = looked 9 read refl
+
+plain-said : (t : Said) → Plain (numbersOf t)
+plain-said (answers a) = plain-answer a
+plain-said (says u) = unread 0
+
+-- no number stands twice in a call's order
+order-differs : (f : File) (c : Call) → differ (ranks (order f c)) ≡ true
+order-differs f (format n0 N s cap) = refl
+order-differs f (find k) = refl
+order-differs f (put k v) = refl
+order-differs f (remove k) = refl
+order-differs f (grow row) = refl
+order-differs f check = refl
+order-differs f due = refl
+
+due-known : (f : File) → Known f due (tells f due)
+unfolding left
+due-known f = record { comes = λ w. w; gives = inl refl; accepted = λ e. refl; broken = λ e. absurd (omega arith) }
+
+known : (f : File) → Bytes (f .area) → (c : Call) → Known f c (tells f c)
+known f b (format n0 N s cap) = format-decided f n0 N s cap .known
+known f b (find k) = find-known f k
+known f b (put k v) = put-settled f k v .known
+known f b (remove k) = remove-settled f k .known
+known f b (grow row) = grow-decided f row b .known
+known f b check = check-decided f b .known
+known f b due = due-known f
+
+-- due says yes exactly where X holds, and otherwise no
+says-so : (u : Bool) {X : Type 0} → (u ≡ true) ↔ X → ((says u ≡ says true) ↔ X) × ((says u ≡ says false) ↔ (X → ⊥))
+says-so true e =
+    ((λ q. e .0 refl, λ x. refl), (λ q. absurd (let z : _≡_ {A = ℕ} 0 1 = cc in omega arith), λ n. absurd (n (e .0 refl))))
+says-so false e =
+    ((λ q. absurd (let z : _≡_ {A = ℕ} 0 1 = cc in omega arith), λ x. absurd (false≢true (e .1 x))), (λ q x. false≢true (e .1 x), λ n. refl))
+
+due-says : (f : File) → let X = Ranged (f .state) × (48 * f .state .p < 5 * f .state .r) in ((left f due .said ≡ says true) ↔ X) × ((left f due .said ≡ says false) ↔ (X → ⊥))
+unfolding left
+due-says f =
+    let s = f .state in
+    let load = ltb (48 * s .p) (5 * s .r) in
+    says-so (isDue s) (
+      (λ e. (in-ranges s .0 (and-left (inRange s) load e), ltb-true _ _ (and-right (inRange s) load e))),
+      (λ w. rw (in-ranges s .1 (w .0), lt-ltb _ _ (w .1))),
+    )
+
+pub refusals : Refusals
+refusals f b =
+    record {
+      order = λ c. in-order (tells f c .refusal) (order f c) (order-differs f c) (known f b c .comes);
+      gives = λ c. known f b c .gives;
+      plain = λ c. plain-said (left f c .said);
+      accepted = λ c. known f b c .accepted;
+      formats = λ n0 N s cap. format-decided f n0 N s cap .accepts;
+      checks = check-decided f b .accepts;
+      grows = λ row. grow-decided f row b .accepts;
+      check-judges = check-decided f b .judges;
+      grow-judges = λ row. grow-decided f row b .judges;
+      broken = λ c. known f b c .broken;
+      put-count = λ k v. put-settled f k v .count;
+      remove-count = λ k. remove-settled f k .count;
+      due-yes = due-says f .0;
+      due-no = due-says f .1;
+    }

@@ -1,0 +1,136 @@
+-- Find, put and remove on any bytes: refused at the gate, or what the walk tells.
+use mathlib.Core.Path.{_≡_, refl}
+use mathlib.Core.Bool.{Bool, true, false, false≢true}
+use mathlib.Core.Logic.{_↔_, inl, inr, ⊎-elim}
+use mathlib.Core.List.{List, [], _∷_}
+use Prim.Native.Nat.{ℕ, _*_}
+use native.Mathlib.Omega.{arith}
+use lib.Dec.{eqb}
+use lib.ListN.{length}
+use borrow.Author.Tests.{eqb-true, eq-eqb}
+use Rattle.state.specs.declared.State.{State}
+use Rattle.state.specs.declared.Numbers.{Numbers}
+use Rattle.state.specs.State.{homes, oneMore, oneLess}
+use Rattle.state.specs.Answer.{told, numbers}
+use Rattle.walks.specs.declared.Met.{Met}
+use Rattle.walks.specs.declared.Met.the-variants.{Found, Sick, Ends, Past}
+use Rattle.walks.specs.Walks.{Walked, went, stopped, walk, findAnswer, putWalk, removeWalk}
+use Rattle.register.specs.Gates.{onGate, gateOf}
+use Rattle.register.specs.Calls.{done, settled, putOpen, removeOpen}
+use Rattle.register.specs.Files.{Call, find, put, remove, File, left}
+use Rattle.demands.specs.Refusals.{Ranged, RightArea, order, OneOf, gives, tells, AcceptedTells}
+use Rattle.demands.proofs.InOrder.{listed, one-of, none-of, Comes}
+use Rattle.demands.proofs.Causes.{Enters, out, other, entered, enter}
+use Rattle.demands.proofs.WalkNumbers.{MetBroken, walk-broken, StopsWith, put-stops, remove-stops}
+use Rattle.demands.proofs.CallNumbers.{Known, refuses, gated, looks}
+
+-- of a put or a removal: where the walk met no cause, 9 is given exactly where the count is wrong
+pub record Settled (f : File) (c : Call) (Wrong : Type 0) (n : Numbers) : Type 0 where
+  pub known : Known f c n
+  pub count : OneOf (n .refusal) (0 ∷ 9 ∷ []) → (n .refusal ≡ 9) ↔ Wrong
+
+module _ (f : File) where
+  abbrev s : State
+  s = f .state
+
+  abbrev area : List ℕ
+  area = f .area
+
+  module _ (k : ℕ) where
+    find-tells : tells f (find k) ≡ onGate (gateOf s (length area)) numbers (numbers (findAnswer (walk (homes s) area (s .cap) k)))
+    unfolding left
+    find-tells = looks s (done s (findAnswer (walk (homes s) area (s .cap) k))) (gateOf s (length area))
+
+    pub find-known : Known f (find k) (tells f (find k))
+    find-known = rw find-tells (go (enter s area))
+      where
+        met : Ranged s → RightArea s area → (m : Met) → MetBroken f m → Known f (find k) (numbers (findAnswer m))
+        met r l (Found a i c v n) t = record { comes = inr (r, inr (l, none-of 0 (1 ∷ 2 ∷ []) refl)); gives = inl refl; accepted = λ e. refl; broken = λ e. absurd (omega arith) }
+        met r l (Sick a n) t =
+            record {
+              comes = inr (r, inr (l, none-of 4 (1 ∷ 2 ∷ []) refl));
+              gives = one-of 4 (gives (find k)) refl;
+              accepted = λ e. absurd (omega arith);
+              broken = λ e. t;
+            }
+        met r l (Ends a i c n) t = refuses f (find k) 5 n refl refl (inr (r, inr (l, none-of 5 (1 ∷ 2 ∷ []) refl)))
+        met r l (Past n) t = refuses f (find k) 5 n refl refl (inr (r, inr (l, none-of 5 (1 ∷ 2 ∷ []) refl)))
+
+        go : Enters s area → Known f (find k) (onGate (gateOf s (length area)) numbers (numbers (findAnswer (walk (homes s) area (s .cap) k))))
+        go (out r g) = rw g (refuses f (find k) 1 0 refl refl (inl (r, refl)))
+        go (other r l g) = rw g (refuses f (find k) 2 0 refl refl (inr (r, inl (l, refl))))
+        go (entered r l g) = rw g (met r l (walk (homes s) area (s .cap) k) (walk-broken f k))
+
+  -- past the gate, a put or a removal comes to what its walk tells, or to its count
+  module _ (c : Call) (past : (k : ℕ) → (OneOf k (1 ∷ 2 ∷ []) → ⊥) → Comes k (order f c) (order f c)) (zero : listed 0 (gives c) ≡ true) (nine : listed 9 (gives c) ≡ true)
+      (accepts : (read moved : ℕ) → AcceptedTells f c (told 0 0 0 read moved)) (next : State) {Wrong : Type 0} where
+    settles : (wrong : Bool) → (wrong ≡ true) ↔ Wrong → (w : Walked) → StopsWith f (gives c) w → Settled f c Wrong (numbers (settled s area next wrong w .done .answer))
+    settles wrong e (stopped why) t =
+        record {
+          known = record {
+            comes = past (numbers why .refusal) (λ v. t .met (inr (⊎-elim inl (λ u. inr (⊎-elim inl absurd u)) v)));
+            gives = t .gives;
+            accepted = λ z. absurd (t .met (inl z));
+            broken = t .broken;
+          };
+          count = λ v. absurd (t .met (⊎-elim inl (λ u. inr (inr (inr u))) v));
+        }
+    settles true e (went pages read moved) t =
+        record {
+          known = refuses f c 9 read refl nine (past 9 (none-of 9 (1 ∷ 2 ∷ []) refl));
+          count = λ v. (λ z. e .0 refl, λ w. refl);
+        }
+    settles false e (went pages read moved) t =
+        record {
+          known = record {
+            comes = past 0 (none-of 0 (1 ∷ 2 ∷ []) refl);
+            gives = one-of 0 (gives c) zero;
+            accepted = λ z. accepts read moved;
+            broken = λ z. absurd (omega arith);
+          };
+          count = λ v. (λ z. absurd (omega arith), λ w. absurd (false≢true (e .1 w)));
+        }
+
+  -- and is refused before it
+  shut : (c : Call) {Wrong : Type 0} (k : ℕ) → listed k (0 ∷ 4 ∷ []) ≡ false → listed k (0 ∷ 9 ∷ []) ≡ false → listed k (gives c) ≡ true → Comes k (order f c) (order f c)
+      → Settled f c Wrong (told k 0 0 0 0)
+  shut c k p d g w = record { known = refuses f c k 0 p g w; count = λ v. absurd (none-of k (0 ∷ 9 ∷ []) d v) }
+
+  equal : (a b : ℕ) → (eqb a b ≡ true) ↔ (a ≡ b)
+  equal a b = (eqb-true a b, eq-eqb a b)
+
+  module _ (k v : ℕ) where
+    abbrev puts : Numbers
+    puts = numbers (putOpen s area (k, v) .done .answer)
+
+    put-tells : tells f (put k v) ≡ onGate (gateOf s (length area)) numbers puts
+    unfolding left
+    put-tells = gated s area (putOpen s area (k, v)) (gateOf s (length area))
+
+    pub put-settled : Settled f (put k v) (s .r ≡ 12 * s .cap) (tells f (put k v))
+    put-settled = rw put-tells (go (enter s area))
+      where
+        go : Enters s area → Settled f (put k v) (s .r ≡ 12 * s .cap) (onGate (gateOf s (length area)) numbers puts)
+        go (out r g) = rw g (shut (put k v) 1 refl refl refl (inl (r, refl)))
+        go (other r l g) = rw g (shut (put k v) 2 refl refl refl (inr (r, inl (l, refl))))
+        go (entered r l g) =
+            rw g (settles (put k v) (λ n d. inr (r, inr (l, d))) refl refl (λ n m. refl) (oneMore s) (eqb (s .r) (12 * s .cap)) (equal (s .r) (12 * s .cap))
+            (putWalk (homes s) area (s .cap) (k, v)) (put-stops f (k, v)))
+
+  module _ (k : ℕ) where
+    abbrev removes : Numbers
+    removes = numbers (removeOpen s area k .done .answer)
+
+    remove-tells : tells f (remove k) ≡ onGate (gateOf s (length area)) numbers removes
+    unfolding left
+    remove-tells = gated s area (removeOpen s area k) (gateOf s (length area))
+
+    pub remove-settled : Settled f (remove k) (s .r ≡ 0) (tells f (remove k))
+    remove-settled = rw remove-tells (go (enter s area))
+      where
+        go : Enters s area → Settled f (remove k) (s .r ≡ 0) (onGate (gateOf s (length area)) numbers removes)
+        go (out r g) = rw g (shut (remove k) 1 refl refl refl (inl (r, refl)))
+        go (other r l g) = rw g (shut (remove k) 2 refl refl refl (inr (r, inl (l, refl))))
+        go (entered r l g) =
+            rw g (settles (remove k) (λ n d. inr (r, inr (l, d))) refl refl (λ n m. refl) (oneLess s) (eqb (s .r) 0) (equal (s .r) 0)
+            (removeWalk (homes s) area (s .cap) k) (remove-stops f k))

@@ -24,6 +24,7 @@ use Rattle.state.specs.declared.State.{State}
 use Rattle.state.specs.declared.Answer.{Answer}
 use Rattle.state.specs.declared.Answer.the-variants.{OutOfRange, WrongArea, WrongRow, AtCap, Broken, NotImage}
 use Rattle.state.specs.State.{inRange, homes, grown}
+use Rattle.state.specs.Promises.{Ranged}
 use Rattle.state.proofs.Ranges.{ranged, in-range}
 use Rattle.register.specs.declared.Gate.the-variants.{Open, Shut}
 use Rattle.register.specs.Gates.{gateOf, imageOf, imageGate, growGate}
@@ -32,15 +33,8 @@ use Rattle.register.specs.Files.{File}
 use Rattle.register.proofs.Gating.{range-shut, area-shut, gate-open, row-shut, cap-shut, pages-decide}
 use Rattle.register.proofs.Judging.{sound-open}
 use Rattle.register.proofs.CheckImage.{image-sound, check-image}
-use Rattle.demands.specs.Refusals.{Ranged, RightArea, SomeBroken, LowestBroken}
+use Rattle.demands.specs.Refusals.{RightArea, SomeBroken, LowestBroken}
 use Rattle.demands.proofs.Clean.{read-held}
-
--- the tests of the ranges are the ranges
-pub in-ranges : (s : State) → (inRange s ≡ true) ↔ Ranged s
-in-ranges s = (
-  (λ e. let r = ranged s e in search arith),
-  (λ r. in-range s (search arith)),
-)
 
 -- what every call that has a gate finds first
 pub data Enters (s : State) (area : List ℕ) : Type 0 where
@@ -52,9 +46,9 @@ pub enter : (s : State) (area : List ℕ) → Enters s area
 enter s area = go (inRange s) refl (ℕ-discrete (length area) (256 * s .cap))
   where
     go : (u : Bool) → inRange s ≡ u → Dec (length area ≡ 256 * s .cap) → Enters s area
-    go false e d = out (λ r. false≢true (sym e ∙ in-ranges s .1 r)) (sym (range-shut s (length area) e))
-    go true e (no f) = other (in-ranges s .0 e) f (sym (area-shut s (length area) e f))
-    go true e (yes l) = entered (in-ranges s .0 e) l (sym (gate-open s (length area) e l))
+    go false e d = out (λ r. false≢true (sym e ∙ in-range s r)) (sym (range-shut s (length area) e))
+    go true e (no f) = other (ranged s e) f (sym (area-shut s (length area) e f))
+    go true e (yes l) = entered (ranged s e) l (sym (gate-open s (length area) e l))
 
 -- what the search for the lowest broken one of n pages from page a on tells
 module _ (h : ℕ → ℕ) (area : List ℕ) where
@@ -111,7 +105,7 @@ module _ (f : File) (b : Bytes (f .area)) (r : Ranged (f .state)) (l : RightArea
 
   open-image : imageGate s area ≡ Open → ImageOfR s area
   open-image e =
-      let range : inRange s ≡ true = in-ranges s .1 r in
+      let range : inRange s ≡ true = in-range s r in
       check-image s area b l range .0 (rw (← gate-open s (length area) range l, e))
 
   -- with none broken, the test of the image decides

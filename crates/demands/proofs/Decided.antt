@@ -8,6 +8,8 @@ use native.Mathlib.Decide.{ℕ-discrete}
 use native.Mathlib.Omega.{arith}
 use lib.ListN.{length, replicate}
 use borrow.Author.Tests.{eq-eqb, ne-eqb}
+use Rattle.homes.specs.declared.Params.{Params}
+use Rattle.state.specs.Promises.{Ranged}
 use Rattle.numbers.specs.Little.{Bytes}
 use Rattle.placing.specs.Image.{cat}
 use Rattle.placing.specs.Lay.{taken}
@@ -28,7 +30,7 @@ use Rattle.register.specs.Gates.{onGate, gateOf, imageGate, growGate}
 use Rattle.register.specs.OneImage.{ImageOfR}
 use Rattle.register.specs.Calls.{done, grownFile}
 use Rattle.register.specs.Files.{Call, format, grow, check, File, left}
-use Rattle.demands.specs.Refusals.{Ranged, RightArea, SomeBroken, LowestBroken, RoomToGrow, order, OneOf, gives, tells, AcceptedTells, Judges}
+use Rattle.demands.specs.Refusals.{RightArea, SomeBroken, LowestBroken, RoomToGrow, order, OneOf, gives, tells, AcceptedTells, Judges}
 use Rattle.demands.proofs.InOrder.{listed, one-of, none-of, Comes}
 use Rattle.demands.proofs.Causes.{Enters, out, other, entered, enter, Pages, sick, strange, whole, judge, Rows, other-row, at-cap, below, try-row, takesAll, room-of}
 use Rattle.demands.proofs.CallNumbers.{Known, refuses, gated, looks}
@@ -86,12 +88,12 @@ module _ (f : File) where
   area = f .area
 
   -- Format
-  module _ (n0 N sw cap : ℕ) where
+  module _ (q : Params) (cap : ℕ) where
     abbrev new : State
-    new = fresh n0 N sw cap
+    new = fresh q cap
 
     abbrev formats : Call
-    formats = format n0 N sw cap
+    formats = format q cap
 
     format-tells : tells f formats ≡ onGate (gateOf new (length area)) numbers (told 0 0 0 0 0)
     unfolding left

@@ -7,6 +7,8 @@ use Prim.Native.Nat.{ℕ, _*_, _<_}
 use native.Mathlib.Omega.{arith}
 use lib.Dec.{ltb}
 use borrow.Author.Tests.{ltb-true, lt-ltb}
+use Rattle.state.specs.Promises.{Ranged}
+use Rattle.state.proofs.Promises.{state-promises}
 use Rattle.numbers.specs.Little.{Bytes}
 use Rattle.numbers.proofs.Records.{and-left, and-right}
 use Rattle.state.specs.declared.Answer.{Answer}
@@ -14,9 +16,8 @@ use Rattle.state.specs.declared.Answer.the-variants.{Accepted, OutOfRange, Wron
 use Rattle.state.specs.Answer.{told, numbers}
 use Rattle.state.specs.State.{inRange, isDue}
 use Rattle.register.specs.Files.{Call, format, find, put, remove, grow, check, due, File, Said, answers, says, left, numbersOf}
-use Rattle.demands.specs.Refusals.{Ranged, order, tells, Plain, Refusals}
+use Rattle.demands.specs.Refusals.{order, tells, Plain, Refusals}
 use Rattle.demands.proofs.InOrder.{ranks, differ, listed, none-of, in-order}
-use Rattle.demands.proofs.Causes.{in-ranges}
 use Rattle.demands.proofs.CallNumbers.{Known}
 use Rattle.demands.proofs.Decided.{format-decided, check-decided, grow-decided}
 use Rattle.demands.proofs.WalkCalls.{find-known, put-settled, remove-settled}
@@ -52,7 +53,7 @@ plain-said (says u) = unread 0
 
 -- no number stands twice in a call's order
 order-differs : (f : File) (c : Call) → differ (ranks (order f c)) ≡ true
-order-differs f (format n0 N s cap) = refl
+order-differs f (format q cap) = refl
 order-differs f (find k) = refl
 order-differs f (put k v) = refl
 order-differs f (remove k) = refl
@@ -65,7 +66,7 @@ unfolding left
 due-known f = record { comes = λ w. w; gives = inl refl; accepted = λ e. refl; broken = λ e. absurd (omega arith) }
 
 known : (f : File) → Bytes (f .area) → (c : Call) → Known f c (tells f c)
-known f b (format n0 N s cap) = format-decided f n0 N s cap .known
+known f b (format q cap) = format-decided f q cap .known
 known f b (find k) = find-known f k
 known f b (put k v) = put-settled f k v .known
 known f b (remove k) = remove-settled f k .known
@@ -82,13 +83,7 @@ says-so false e =
 
 due-says : (f : File) → let X = Ranged (f .state) × (48 * f .state .p < 5 * f .state .r) in ((left f due .said ≡ says true) ↔ X) × ((left f due .said ≡ says false) ↔ (X → ⊥))
 unfolding left
-due-says f =
-    let s = f .state in
-    let load = ltb (48 * s .p) (5 * s .r) in
-    says-so (isDue s) (
-      (λ e. (in-ranges s .0 (and-left (inRange s) load e), ltb-true _ _ (and-right (inRange s) load e))),
-      (λ w. rw (in-ranges s .1 (w .0), lt-ltb _ _ (w .1))),
-    )
+due-says f = says-so (isDue (f .state)) (state-promises .due (f .state))
 
 pub refusals : Refusals
 refusals f b =
@@ -97,7 +92,7 @@ refusals f b =
       gives = λ c. known f b c .gives;
       plain = λ c. plain-said (left f c .said);
       accepted = λ c. known f b c .accepted;
-      formats = λ n0 N s cap. format-decided f n0 N s cap .accepts;
+      formats = λ q cap. format-decided f q cap .accepts;
       checks = check-decided f b .accepts;
       grows = λ row. grow-decided f row b .accepts;
       check-judges = check-decided f b .judges;

@@ -8,6 +8,7 @@ use native.Mathlib.Omega.{arith}
 use lib.Dec.{eqb}
 use lib.ListN.{length}
 use borrow.Author.Tests.{eqb-true, eq-eqb}
+use Rattle.state.specs.Promises.{Ranged}
 use Rattle.state.specs.declared.State.{State}
 use Rattle.state.specs.declared.Numbers.{Numbers}
 use Rattle.state.specs.State.{homes, oneMore, oneLess}
@@ -18,7 +19,7 @@ use Rattle.walks.specs.Walks.{Walked, went, stopped, walk, findAnswer, putWalk,
 use Rattle.register.specs.Gates.{onGate, gateOf}
 use Rattle.register.specs.Calls.{done, settled, putOpen, removeOpen}
 use Rattle.register.specs.Files.{Call, find, put, remove, File, left}
-use Rattle.demands.specs.Refusals.{Ranged, RightArea, order, OneOf, gives, tells, AcceptedTells}
+use Rattle.demands.specs.Refusals.{RightArea, order, OneOf, gives, tells, AcceptedTells}
 use Rattle.demands.proofs.InOrder.{listed, one-of, none-of, Comes}
 use Rattle.demands.proofs.Causes.{Enters, out, other, entered, enter}
 use Rattle.demands.proofs.WalkNumbers.{MetBroken, walk-broken, StopsWith, put-stops, remove-stops}

@@ -1,5 +1,5 @@
 -- The refusals: which number a call gives and for what cause (01, 'Refusal numbers'), of any file, said by none of the tests that code and definitions go by. `Refusals`, at the end, is what is promised. What is quoted is 01's.
-use Prim.Native.Nat.{ℕ, _+_, _*_, _≤_, _<_}
+use Prim.Native.Nat.{ℕ, _+_, _*_, _<_}
 use mathlib.Core.Path.{_≡_}
 use mathlib.Core.Bool.{true, false}
 use mathlib.Core.Logic.{_↔_, _⊎_}
@@ -7,29 +7,18 @@ use mathlib.Core.Option.{none}
 use mathlib.Core.List.{List, [], _∷_}
 use lib.ListN.{length}
 use Rattle.numbers.specs.Little.{Bytes}
+use Rattle.homes.specs.declared.Params.{Params}
 use Rattle.placing.specs.Image.{Room}
 use Rattle.pages.specs.Page.{key, readPage}
 use Rattle.pages.specs.Area.{partAt}
 use Rattle.state.specs.declared.State.{State}
 use Rattle.state.specs.declared.Numbers.{Numbers}
 use Rattle.state.specs.State.{homes, fresh, grown}
+use Rattle.state.specs.Promises.{Ranged}
 use Rattle.state.specs.Answer.{told}
 use Rattle.register.specs.OneImage.{ImageOfR}
 use Rattle.register.specs.Files.{Call, format, find, put, remove, grow, check, due, File, says, left, numbersOf}
 use Rattle.demands.specs.Histories.{refusal}
-
--- "1 to 4" and the like
-abbrev pub Within : (low x high : ℕ) → Type 0
-Within low x high = (low ≤ x) × (x ≤ high)
-
--- "Ranges: n0 1 to 4, N 1 to 64, s 1 to 8, cap 1 to 4,096, n0 x N <= P <= cap, r <= 12 x cap."
-pub record Ranged (x : State) : Type 0 where
-  pub n0 : Within 1 (x .n0) 4
-  pub n : Within 1 (x .n) 64
-  pub s : Within 1 (x .s) 8
-  pub cap : Within 1 (x .cap) 4096
-  pub p : Within (x .n0 * x .n) (x .p) (x .cap)
-  pub r : x .r ≤ 12 * x .cap
 
 -- the area is "256 x cap bytes"
 abbrev pub RightArea : State → List ℕ → Type 0
@@ -82,7 +71,7 @@ entry s area = unless 1 (Ranged s) ∷ unless 2 (RightArea s area) ∷ []
 
 -- "Order: format 1, 2 (judged on the numbers it is asked for, not on the state before it). Find 1, 2, then the walk. Put and remove 1, 2, the walk (4, 5, 6 or 7 as met), then 9. Grow 1, 2, 3, 8, 4, 9, 7. Check 1, 2, 4, 9." Due gives none. What a walk meets is its definition's to say.
 abbrev pub order : File → Call → List Cause
-order f (format n0 N s cap) = entry (fresh n0 N s cap) (f .area)
+order f (format q cap) = entry (fresh q cap) (f .area)
 order f (find k) = entry (f .state) (f .area)
 order f (put k v) = entry (f .state) (f .area)
 order f (remove k) = entry (f .state) (f .area)
@@ -100,7 +89,7 @@ OneOf n (k ∷ ks) = (n ≡ k) ⊎ OneOf n ks
 
 -- the column "Given by", call by call; "refusal 0 means accepted"
 abbrev pub gives : Call → List ℕ
-gives (format n0 N s cap) = 0 ∷ 1 ∷ 2 ∷ []
+gives (format q cap) = 0 ∷ 1 ∷ 2 ∷ []
 gives (find k) = 0 ∷ 1 ∷ 2 ∷ 4 ∷ 5 ∷ []
 gives (put k v) = 0 ∷ 1 ∷ 2 ∷ 4 ∷ 6 ∷ 7 ∷ 9 ∷ []
 gives (remove k) = 0 ∷ 1 ∷ 2 ∷ 4 ∷ 5 ∷ 9 ∷ []
@@ -125,7 +114,7 @@ pub record Plain (n : Numbers) : Type 0 where
 
 -- what an accepted call tells: "value is 0 for all but find", "format .. read 0", and moved is 0 but for put, remove and grow; check and grow have judged all pages
 abbrev pub AcceptedTells : File → Call → Numbers → Type 0
-AcceptedTells f (format n0 N s cap) n = n ≡ told 0 0 0 0 0
+AcceptedTells f (format q cap) n = n ≡ told 0 0 0 0 0
 AcceptedTells f (find k) n = n .moved ≡ 0
 AcceptedTells f (put k v) n = n .value ≡ 0
 AcceptedTells f (remove k) n = n .value ≡ 0
@@ -149,7 +138,7 @@ pub record RefusalsOf (f : File) : Type 0 where
   pub plain : (c : Call) → Plain (tells f c)
   pub accepted : (c : Call) → refusal f c ≡ 0 → AcceptedTells f c (tells f c)
   -- format is accepted where neither 1 nor 2 is given
-  pub formats : (n0 N s cap : ℕ) → (refusal f (format n0 N s cap) ≡ 0) ↔ (Ranged (fresh n0 N s cap) × RightArea (fresh n0 N s cap) (f .area))
+  pub formats : (q : Params) (cap : ℕ) → (refusal f (format q cap) ≡ 0) ↔ (Ranged (fresh q cap) × RightArea (fresh q cap) (f .area))
   -- "Check says yes exactly when the area is the image of r records."
   pub checks : (refusal f check ≡ 0) ↔ (Ranged (f .state) × RightArea (f .state) (f .area) × ImageOfR (f .state) (f .area))
   -- grow is accepted where none of its seven is given

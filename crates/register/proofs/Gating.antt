@@ -10,7 +10,8 @@ use Rattle.state.specs.declared.State.{State}
 use Rattle.state.specs.declared.Answer.{Answer}
 use Rattle.state.specs.declared.Answer.the-variants.{OutOfRange, WrongArea, WrongRow, AtCap}
 use Rattle.state.specs.State.{inRange}
-use Rattle.state.proofs.Ranges.{Ranged, ranged}
+use Rattle.state.specs.Promises.{Ranged}
+use Rattle.state.proofs.Ranges.{ranged}
 use Rattle.register.specs.declared.Gate.{Gate}
 use Rattle.register.specs.declared.Gate.the-variants.{Open, Shut}
 use Rattle.register.specs.Gates.{gateOf, imageGate, growEntry, growGate}

@@ -27,7 +27,8 @@ use Rattle.survey.proofs.Knowing.{image-known}
 use Rattle.state.specs.declared.State.{State}
 use Rattle.state.specs.declared.Answer.the-variants.{Accepted, NoRoom}
 use Rattle.state.specs.State.{inRange, homes, grown}
-use Rattle.state.proofs.Ranges.{Ranged, ranged, in-shape, grown-range}
+use Rattle.state.specs.Promises.{Ranged}
+use Rattle.state.proofs.Ranges.{ranged, in-shape, grown-range}
 use Rattle.register.specs.declared.Gate.the-variants.{Open}
 use Rattle.register.specs.Gates.{imageGate}
 use Rattle.register.specs.Calls.{done, grownCounts, grownFile}

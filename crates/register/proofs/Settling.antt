@@ -17,7 +17,8 @@ use Rattle.state.specs.declared.Done.{Done}
 use Rattle.state.specs.declared.Answer.{Answer}
 use Rattle.state.specs.declared.Answer.the-variants.{Accepted, NotImage}
 use Rattle.state.specs.State.{inRange, homes, oneMore, oneLess}
-use Rattle.state.proofs.Ranges.{Ranged, ranged}
+use Rattle.state.specs.Promises.{Ranged}
+use Rattle.state.proofs.Ranges.{ranged}
 use Rattle.walks.specs.declared.Met.{Met}
 use Rattle.walks.specs.declared.Met.the-variants.{Found, Sick, Ends, Past}
 use Rattle.walks.specs.declared.Plan.{Plan}

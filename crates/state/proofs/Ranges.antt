@@ -11,6 +11,7 @@ use borrow.Author.Tests.{leb-true, le-leb}
 use Rattle.homes.specs.Homes.{firstPages, InRange}
 use Rattle.state.specs.declared.State.{State}
 use Rattle.state.specs.State.{all, ranges, inRange, oneMore, oneLess, grown}
+use Rattle.state.specs.Promises.{Ranged}
 
 -- Eleven tests joined from left to right are all of their list.
 pub tests-all : (a b c d e f g h i j k : Bool) → (a && b && c && d && e && f && g && h && i && j && k) ≡ all (a ∷ b ∷ c ∷ d ∷ e ∷ f ∷ g ∷ h ∷ i ∷ j ∷ k ∷ [])
@@ -33,20 +34,6 @@ every (true ∷ l) h zero = refl
 every (true ∷ l) h (suc k) = every l h k
 every (false ∷ l) h zero = h
 every (false ∷ l) h (suc k) = absurd (let z : _≡_ {A = ℕ} 0 1 = cc in omega arith)
-
--- The ranges of a state.
-pub record Ranged (s : State) : Type 0 where
-  pub n0-low : 1 ≤ s .params .n0
-  pub n0-high : s .params .n0 ≤ 4
-  pub n-low : 1 ≤ s .params .n
-  pub n-high : s .params .n ≤ 64
-  pub s-low : 1 ≤ s .params .s
-  pub s-high : s .params .s ≤ 8
-  pub cap-low : 1 ≤ s .cap
-  pub cap-high : s .cap ≤ 4096
-  pub p-low : firstPages (s .params) ≤ s .p
-  pub p-high : s .p ≤ s .cap
-  pub r-high : s .r ≤ 12 * s .cap
 
 -- A state whose tests hold is in its ranges.
 pub ranged : (s : State) → inRange s ≡ true → Ranged s

@@ -1,2 +1,3 @@
 pub mod State
 pub mod Answer
+pub mod Promises

@@ -1,0 +1,27 @@
+-- What is promised of a state's tests (01, 'The register'): each says the inequalities that 01 writes. What is quoted is 01's.
+use Prim.Native.Nat.{_*_, _≤_, _<_}
+use mathlib.Core.Path.{_≡_}
+use mathlib.Core.Bool.{true}
+use mathlib.Core.Logic.{_↔_}
+use Rattle.state.specs.declared.State.{State}
+use Rattle.state.specs.State.{inRange, isDue}
+
+-- "Ranges: n0 1 to 4, N 1 to 64, s 1 to 8, cap 1 to 4,096, n0 x N <= P <= cap, r <= 12 x cap."
+pub record Ranged (x : State) : Type 0 where
+  pub n0-low : 1 ≤ x .params .n0
+  pub n0-high : x .params .n0 ≤ 4
+  pub n-low : 1 ≤ x .params .n
+  pub n-high : x .params .n ≤ 64
+  pub s-low : 1 ≤ x .params .s
+  pub s-high : x .params .s ≤ 8
+  pub cap-low : 1 ≤ x .cap
+  pub cap-high : x .cap ≤ 4096
+  pub p-low : x .params .n0 * x .params .n ≤ x .p
+  pub p-high : x .p ≤ x .cap
+  pub r-high : x .r ≤ 12 * x .cap
+
+pub record StatePromises : Type 0 where
+  -- the tests are of these ranges, and of no narrower and no wider ones
+  pub in-range : (x : State) → (inRange x ≡ true) ↔ Ranged x
+  -- "Growth is due exactly when 5r > 48P"; of a state out of range "due answers no"
+  pub due : (x : State) → (isDue x ≡ true) ↔ (Ranged x × (48 * x .p < 5 * x .r))

@@ -1,12 +1,13 @@
 -- A growth past its gate: the records are a set, their homes are pages, and the row of counts tells whether they have room.
 use mathlib.Core.Path.{_≡_, refl, sym, ap, _∙_}
 use mathlib.Core.Bool.{Bool, true, false}
+use mathlib.Core.Logic.{_↔_}
 use mathlib.Core.List.{List, [], _∷_}
-use Prim.Native.Nat.{ℕ, _+_, _*_, _≤_, _<_}
+use Prim.Native.Nat.{ℕ, _+_, _*_, _<_}
 use native.Mathlib.Omega.{arith}
 use lib.Dec.{eqb}
 use lib.ListN.{length}
-use borrow.Author.Tests.{eqb-true}
+use borrow.Author.Tests.{eqb-true, eq-eqb}
 use Rattle.numbers.specs.Little.{Bytes}
 use Rattle.homes.specs.declared.Shape.{Shape}
 use Rattle.homes.specs.declared.Stage.{Stage}
@@ -14,9 +15,10 @@ use Rattle.homes.specs.Homes.{shapeOf, homeIn}
 use Rattle.homes.specs.Last.{staysAt}
 use Rattle.homes.proofs.Homes.{home-below}
 use Rattle.homes.proofs.Last.{home-stays, home-stayed}
-use Rattle.placing.specs.Image.{All, cat, RecordSet}
+use Rattle.placing.specs.Image.{All, cat, RecordSet, Room}
 use Rattle.placing.specs.Lay.{taken}
 use Rattle.placing.specs.Rows.{leftOver, strayed}
+use Rattle.placing.proofs.Images.{room-taken}
 use Rattle.placing.proofs.Rows.{counts-length, row-room}
 use Rattle.pages.specs.Page.{Record, key, homeFor}
 use Rattle.pages.specs.Area.{heldFrom, areaFrom}
@@ -107,12 +109,24 @@ module _ (s : State) (range : inRange s ≡ true) (low : s .p < s .cap) where
       (λ x. omega (arith, home-below (s .n0) (s .n) (s .s) (s .p + 1) (key x) (in-shape (grown s) (grown-range s range low))))
       rs
 
-  -- the counts tell whether the pages can take all
+  -- so the counts tell whether the pages can take all
+  row-takes : (area : List ℕ)
+      → eqb (leftOver 12 (grownCounts s area) 0) 0 ≡ eqb (taken (homeFor (homes (grown s))) 12 (cat (heldFrom area (s .cap) 0) []) (s .cap)) (length (cat (heldFrom area (s .cap) 0) []))
+  row-takes area =
+      let rs : List Record = cat (heldFrom area (s .cap) 0) [] in
+      row-room (homeFor (homes (grown s))) 12 rs (s .cap) (homes-low rs)
+
+  -- and whether there is an arrangement
+  pub row-arranges : (area : List ℕ) → RecordSet key (cat (heldFrom area (s .cap) 0) [])
+      → (leftOver 12 (grownCounts s area) 0 ≡ 0) ↔ Room key (homes (grown s)) 12 (s .cap) (cat (heldFrom area (s .cap) 0) [])
+  row-arranges area set =
+      let t = room-taken key (homes (grown s)) 12 (s .cap) (cat (heldFrom area (s .cap) 0) []) set in
+      let e = row-takes area in
+      (λ z. t .1 (eqb-true _ _ (sym e ∙ eq-eqb _ 0 z)), λ r. eqb-true _ 0 (e ∙ eq-eqb _ _ (t .0 r)))
+
   module _ (area row : List ℕ) (filled : row ≡ grownCounts s area) (room : Bool) (told : room ≡ eqb (leftOver 12 row 0) 0) where
     decided : eqb (taken (homeFor (homes (grown s))) 12 (cat (heldFrom area (s .cap) 0) []) (s .cap)) (length (cat (heldFrom area (s .cap) 0) [])) ≡ room
-    decided =
-        let rs : List Record = cat (heldFrom area (s .cap) 0) [] in
-        sym (told ∙ rw filled (row-room (homeFor (homes (grown s))) 12 rs (s .cap) (homes-low rs)))
+    decided = sym (told ∙ rw filled (row-takes area))
 
     -- without room the area stays, and the row is filled
     pub grow-full : room ≡ false → Grows (done s (NoRoom (s .cap))) area row (grownFile s area)

@@ -1,4 +1,5 @@
--- `survey::tally` meets its contract.
+-- `survey::tally` meets its contract: where nothing is counted the row stays. The loop's invariant is `Tallied`: the first i keys are counted, and what page `seen` says is known.
+-- The measure is how many records are left.
 use mathlib.Core.Path.{_≡_, refl, sym, _∙_}
 use mathlib.Core.Logic.{⊎-elim}
 use Prim.Native.Nat.{_-_, _<_}

@@ -1,10 +1,10 @@
 -- What check tells its user.
-use mathlib.Core.Path.{_≡_, refl, sym, _∙_}
+use mathlib.Core.Path.{_≡_, refl, _∙_}
 use mathlib.Core.Bool.{Bool, true, false, cond, _&&_}
 use mathlib.Core.Logic.{_↔_}
-use mathlib.Core.Option.{none, some}
-use mathlib.Core.List.{List, [], _∷_, map, Permᴰ·refl}
-use Prim.Native.Nat.{ℕ, suc, _*_}
+use mathlib.Core.Option.{none}
+use mathlib.Core.List.{List, [], Permᴰ·refl}
+use Prim.Native.Nat.{ℕ, _*_}
 use native.Mathlib.Omega.{arith}
 use lib.Dec.{eqb}
 use lib.ListN.{length}
@@ -17,7 +17,7 @@ use Rattle.pages.specs.Area.{pagesFrom, heldFrom}
 use Rattle.survey.specs.declared.Verdict.{Verdict}
 use Rattle.survey.specs.declared.Verdict.the-variants.{Sick, Whole}
 use Rattle.survey.specs.Survey.{lowestBroken, surveyed}
-use Rattle.survey.proofs.ImageTest.{GoodFrom, image-set, image-test, none-broken, good-pages}
+use Rattle.survey.proofs.ImageTest.{GoodFrom, image-set, image-test, none-broken, good-pages, all-pass}
 use Rattle.state.specs.declared.State.{State}
 use Rattle.state.specs.declared.Answer.the-variants.{Accepted, NotImage}
 use Rattle.state.specs.State.{inRange, homes}
@@ -27,21 +27,6 @@ use Rattle.register.specs.OneImage.{AreaImage, ImageOfR}
 use Rattle.register.specs.Calls.{done, checked}
 use Rattle.register.proofs.Gating.{gate-open}
 use Rattle.register.proofs.Judging.{Sound, open-sound, sound-open}
-
--- good pages have no broken one among them
-none-lowest : (a : ℕ) (ps : List (List Record)) → lowestBroken a (map some ps) ≡ none
-none-lowest a [] = refl
-none-lowest a (p ∷ ps) = none-lowest (suc a) ps
-
--- what pages are read as is one list
-same-pages : (ps qs : List (List Record)) → map some ps ≡ map some qs → ps ≡ qs
-same-pages [] [] e = refl
-same-pages [] (q ∷ qs) e = absurd (let z : _≡_ {A = ℕ} 0 1 = cc in omega arith)
-same-pages (p ∷ ps) [] e = absurd (let z : _≡_ {A = ℕ} 0 1 = cc in omega arith)
-same-pages (p ∷ ps) (q ∷ qs) e =
-    let x : p ≡ q = cc in
-    let t : map some ps ≡ map some qs = cc in
-    rw (x, same-pages ps qs t)
 
 -- an image of records is that of the records that stand on it
 of-own : {h : ℕ → ℕ} {n : ℕ} {rs : List Record} {ps : List (List Record)} → Image key h 12 n rs ps → Image key h 12 n (cat ps []) ps
@@ -88,12 +73,11 @@ module _ (s : State) (area : List ℕ) (b : Bytes area) (l : length area ≡ 256
   image-sound w =
       let ps : List (List Record) = heldFrom area (s .cap) 0 in
       let i : AreaImage s area (w .records) = w .is in
-      let whole : lowestBroken 0 (pagesFrom (homes s) area (s .cap) 0) ≡ none = rw (i .pass) (none-lowest 0 (i .pages)) in
-      let e : i .pages ≡ ps = same-pages (i .pages) ps (sym (i .pass) ∙ none-broken (homes s) area (s .cap) 0 whole) in
-      let m : Image key (homes s) 12 (s .cap) (w .records) ps = rw e at (i .image) in
+      let k = all-pass (homes s) area (s .cap) (i .pages) (i .pass) in
+      let m : Image key (homes s) 12 (s .cap) (w .records) ps = rw (k .1) at (i .image) in
       record {
-        whole = whole;
-        image = image-test (homes s) ps (s .cap) (held-length area (s .cap) 0) (good whole) .1 (of-own m);
+        whole = k .0;
+        image = image-test (homes s) ps (s .cap) (held-length area (s .cap) 0) (good (k .0)) .1 (of-own m);
         count = perm-length (m .arranged .holds) ∙ w .count;
       }
 

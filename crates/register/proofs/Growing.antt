@@ -1,27 +1,32 @@
 -- A growth past its gate: the records are a set, their homes are pages, and the row of counts tells whether they have room.
 use mathlib.Core.Path.{_≡_, refl, sym, ap, _∙_}
 use mathlib.Core.Bool.{Bool, true, false}
+use mathlib.Core.Logic.{_↔_}
 use mathlib.Core.List.{List, [], _∷_}
-use Prim.Native.Nat.{ℕ, _+_, _*_, _≤_, _<_}
+use Prim.Native.Nat.{ℕ, _+_, _*_, _<_}
 use native.Mathlib.Omega.{arith}
 use lib.Dec.{eqb}
 use lib.ListN.{length}
-use borrow.Author.Tests.{eqb-true}
+use borrow.Author.Tests.{eqb-true, eq-eqb}
 use Rattle.numbers.specs.Little.{Bytes}
 use Rattle.homes.specs.declared.Shape.{Shape}
 use Rattle.homes.specs.declared.Stage.{Stage}
 use Rattle.homes.specs.Homes.{firstPages, shapeOf, homeIn}
-use Rattle.homes.specs.Last.{lastStep, staysAt}
+use Rattle.homes.specs.Last.{staysAt}
 use Rattle.homes.proofs.Homes.{home-below}
 use Rattle.homes.proofs.Last.{home-stays, home-stayed}
-use Rattle.placing.specs.Image.{All, cat, RecordSet}
+use Rattle.placing.specs.Image.{All, cat, RecordSet, Room}
 use Rattle.placing.specs.Lay.{taken}
-use Rattle.placing.specs.Rows.{counts, leftOver, strayed}
+use Rattle.placing.specs.Rows.{leftOver, strayed}
+use Rattle.placing.proofs.Images.{room-taken}
 use Rattle.placing.proofs.Rows.{counts-length, row-room}
 use Rattle.pages.specs.Page.{Record, key, homeFor}
 use Rattle.pages.specs.Area.{heldFrom, areaFrom}
 use Rattle.pages.specs.Known.{KnownAt}
 use Rattle.rebuild.specs.Rebuild.{relaid}
+use Rattle.survey.specs.declared.Count.the-variants.{Homes}
+use Rattle.survey.specs.declared.Verdict.{Verdict}
+use Rattle.survey.specs.Counts.{Counts, Countable}
 use Rattle.survey.proofs.ImageTest.{image-set, good-pages}
 use Rattle.survey.proofs.Knowing.{image-known}
 use Rattle.state.specs.declared.State.{State}
@@ -30,9 +35,10 @@ use Rattle.state.specs.State.{inRange, homes, grown}
 use Rattle.state.specs.Promises.{Ranged}
 use Rattle.state.proofs.Ranges.{ranged, in-shape, grown-range}
 use Rattle.register.specs.declared.Gate.the-variants.{Open}
-use Rattle.register.specs.Gates.{imageGate}
+use Rattle.register.specs.Gates.{imageOf, imageGate}
+use Rattle.register.specs.Past.{OnePageMore}
 use Rattle.register.specs.Calls.{done, grownCounts, grownFile}
-use Rattle.register.proofs.Judging.{Sound, open-sound}
+use Rattle.register.proofs.Judging.{open-counted, Sound, open-sound}
 use Rattle.register.proofs.Answers.{Grows}
 
 -- the records of an area that is an image are a set
@@ -59,74 +65,85 @@ module _ (s : State) (range : inRange s ≡ true) (low : s .p < s .cap) where
   pub grown-in : (next : State) → next ≡ grown s → inRange next ≡ true
   grown-in next e = rw e (grown-range s range low)
 
-  module _ (next : State) (more : next ≡ grown s) (shape : Shape) (of : shape ≡ shapeOf (next .params) (next .p)) where
-    pub shape-low : shape .p ≤ s .cap
-    shape-low = rw (of, more) (omega arith)
+  -- it has steps to take
+  pub steps-left : (next : State) → next ≡ grown s → (shape : Shape) → shape ≡ shapeOf (next .params) (next .p) → firstPages (shape .params) < shape .p
+  steps-left next more shape of = rw (of, more) (let r : Ranged s = ranged s range in omega (arith, r .p-low))
 
-    -- it has steps to take
-    pub steps-left : firstPages (shape .params) < shape .p
-    steps-left = rw (of, more) (let r : Ranged s = ranged s range in omega (arith, r .p-low))
-
+  module _ {next : State} {shape : Shape} {last : Stage} (m : OnePageMore s next shape last) where
     grown-shape : shape ≡ shapeOf (s .params) (s .p + 1)
-    grown-shape = rw (of, more)
+    grown-shape = rw (m .shaped, m .grows)
+
+    -- its homes are those of the grown state
+    same-homes : homeIn shape ≡ homes (grown s)
+    same-homes = rw grown-shape
 
     -- on a page that stays, a record has its home before exactly where it has it after
-    pub same-page : (last : Stage) → last ≡ lastStep shape → (k a : ℕ) → staysAt shape last a ≡ true → (homes s k ≡ a → homeIn shape k ≡ a) × (homeIn shape k ≡ a → homes s k ≡ a)
-    same-page last is k a on =
-        let at = rw (is, grown-shape) at on in (
+    same-page : (k a : ℕ) → staysAt shape last a ≡ true → (homes s k ≡ a → homeIn shape k ≡ a) × (homeIn shape k ≡ a → homes s k ≡ a)
+    same-page k a on =
+        let at = rw (m .steps, grown-shape) at on in (
           λ e. rw grown-shape (home-stays (s .params) (s .p) k a (in-shape s range) at e),
           λ e. home-stayed (s .params) (s .p) k a _ (in-shape s range) at (rw grown-shape at e),
         )
 
-    -- so it stays at home there, by the shape of the file as it was
-    pub stays-home : (last : Stage) → last ≡ lastStep shape → (old : Shape) → old ≡ shapeOf (s .params) (s .p) → (k a : ℕ) → staysAt shape last a ≡ true
-        → homeIn old k ≡ a → homeIn shape k ≡ a
-    stays-home last is old f k a on e = same-page last is k a on .0 (rw f at e)
+    -- so its homes may be counted in a row of all pages, if those before were of the file as it was
+    pub countable : (old : Shape) → old ≡ shapeOf (s .params) (s .p) → (n : ℕ) → n ≡ s .cap → Countable (Homes shape last) (λ k a. homeIn old k ≡ a) n
+    countable old f n l =
+        let r : Ranged s = ranged s range in
+        let p : shape .p ≡ s .p + 1 = rw grown-shape in
+        (m .ready, omega arith, omega (arith, r .cap-high), m .within, λ k a e on. same-page k a on .0 (rw f at e))
+
+    -- and past the gate of the pages the counts are those of the growth
+    pub open-counts : (area row : List ℕ) (n : ℕ) → n ≡ s .cap → (v : Verdict) → imageOf s v ≡ Open → Counts v (Homes shape last) (cat (heldFrom area (s .cap) 0) []) n row
+        → row ≡ grownCounts s area
+    open-counts area row n l v e k = rw (l, same-homes) at (open-counted s v shape last (cat (heldFrom area (s .cap) 0) []) n row e k)
 
     -- what is known of the homes on its pages, if they are an image for the file as it was
-    pub grown-known : (area : List ℕ) → Bytes area → length area ≡ 256 * s .cap → imageGate s area ≡ Open → (last : Stage) → last ≡ lastStep shape
-        → (a : ℕ) → a < s .cap → KnownAt (homeIn shape) (staysAt shape last) area a
-    grown-known area b l e last is =
+    pub grown-known : (area : List ℕ) → Bytes area → length area ≡ 256 * s .cap → imageGate s area ≡ Open → (a : ℕ) → a < s .cap → KnownAt (homeIn shape) (staysAt shape last) area a
+    grown-known area b l e =
         let k : Sound s area = open-sound s area e in
-        image-known (homes s) (homeIn shape) (staysAt shape last) (same-page last is) area (s .cap) (good-pages (homes s) area b (s .cap) 0 (omega arith) (k .whole)) (k .image)
+        image-known (homes s) (homeIn shape) (staysAt shape last) same-page area (s .cap) (good-pages (homes s) area b (s .cap) 0 (omega arith) (k .whole)) (k .image)
 
-    -- its homes are those of the grown state
-    pub same-homes : homeIn shape ≡ homes (grown s)
-    same-homes = rw (of, more)
-
-    -- so its counts are those of the growth
-    pub same-counts : (area row : List ℕ) → row ≡ counts (homeFor (homeIn shape)) (cat (heldFrom area (s .cap) 0) []) (s .cap) 0 → row ≡ grownCounts s area
-    same-counts area row e = rw same-homes at e
-
-  -- and pages of the area
+  -- all homes after are pages of the area
   homes-low : (rs : List Record) → All (λ x. homeFor (homes (grown s)) x < s .cap) rs
   homes-low rs =
       all-of (λ x. homeFor (homes (grown s)) x < s .cap)
       (λ x. omega (arith, home-below (s .params) (s .p + 1) (key x) (in-shape (grown s) (grown-range s range low))))
       rs
 
-  -- the counts tell whether the pages can take all
+  -- so the counts tell whether the pages can take all
+  row-takes : (area : List ℕ)
+      → eqb (leftOver 12 (grownCounts s area) 0) 0 ≡ eqb (taken (homeFor (homes (grown s))) 12 (cat (heldFrom area (s .cap) 0) []) (s .cap)) (length (cat (heldFrom area (s .cap) 0) []))
+  row-takes area =
+      let rs : List Record = cat (heldFrom area (s .cap) 0) [] in
+      row-room (homeFor (homes (grown s))) 12 rs (s .cap) (homes-low rs)
+
+  -- and whether there is an arrangement
+  pub row-arranges : (area : List ℕ) → RecordSet key (cat (heldFrom area (s .cap) 0) [])
+      → (leftOver 12 (grownCounts s area) 0 ≡ 0) ↔ Room key (homes (grown s)) 12 (s .cap) (cat (heldFrom area (s .cap) 0) [])
+  row-arranges area set =
+      let t = room-taken key (homes (grown s)) 12 (s .cap) (cat (heldFrom area (s .cap) 0) []) set in
+      let e = row-takes area in
+      (λ z. t .1 (eqb-true _ _ (sym e ∙ eq-eqb _ 0 z)), λ r. eqb-true _ 0 (e ∙ eq-eqb _ _ (t .0 r)))
+
   module _ (area row : List ℕ) (filled : row ≡ grownCounts s area) (room : Bool) (told : room ≡ eqb (leftOver 12 row 0) 0) where
     decided : eqb (taken (homeFor (homes (grown s))) 12 (cat (heldFrom area (s .cap) 0) []) (s .cap)) (length (cat (heldFrom area (s .cap) 0) [])) ≡ room
-    decided =
-        let rs : List Record = cat (heldFrom area (s .cap) 0) [] in
-        sym (told ∙ rw filled (row-room (homeFor (homes (grown s))) 12 rs (s .cap) (homes-low rs)))
+    decided = sym (told ∙ rw filled (row-takes area))
 
     -- without room the area stays, and the row is filled
     pub grow-full : room ≡ false → Grows (done s (NoRoom (s .cap))) area row (grownFile s area)
     unfolding grownFile
     grow-full e = rw (decided, e) (refl, (refl, filled))
 
-    module _ (yes : room ≡ true) (next : State) (more : next ≡ grown s) (shape : Shape) (of : shape ≡ shapeOf (next .params) (next .p)) where
+    module _ (yes : room ≡ true) {next : State} {shape : Shape} {last : Stage} (m : OnePageMore s next shape last) where
       -- with room a rebuild may go on
       pub takes-all : taken (homeFor (homeIn shape)) 12 (cat (heldFrom area (s .cap) 0) []) (s .cap) ≡ length (cat (heldFrom area (s .cap) 0) [])
-      takes-all = rw (same-homes next more shape of) (eqb-true _ _ (decided ∙ yes))
+      takes-all = rw (same-homes m) (eqb-true _ _ (decided ∙ yes))
 
       -- and makes the file anew
       pub grow-done : (moved : ℕ) → moved ≡ strayed key (heldFrom area (s .cap) 0) (relaid (homeIn shape) (s .cap) (heldFrom area (s .cap) 0))
           → (new : List ℕ) → new ≡ areaFrom 0 (relaid (homeIn shape) (s .cap) (heldFrom area (s .cap) 0))
           → Grows (done next (Accepted 0 (s .cap) moved)) new row (grownFile s area)
       unfolding grownFile
-      grow-done moved m new n =
-          let h = same-homes next more shape of in
-          rw (decided, yes) (rw (more, m, h), (n ∙ rw h, filled))
+      grow-done moved k new n =
+          let h = same-homes m in
+          rw (decided, yes) (rw (m .grows, k, h), (n ∙ rw h, filled))

@@ -10,15 +10,19 @@ use lib.Dec.{eqb}
 use lib.ListN.{length}
 use borrow.Author.Tests.{eqb-true, eq-eqb}
 use Rattle.homes.specs.declared.Shape.{Shape}
+use Rattle.homes.specs.declared.Stage.{Stage}
 use Rattle.homes.specs.Homes.{shapeOf, homeIn}
 use Rattle.numbers.proofs.Records.{and-left, and-right}
 use Rattle.placing.specs.Image.{cat}
+use Rattle.placing.specs.Rows.{counts}
 use Rattle.pages.proofs.Areas.{pages-length}
-use Rattle.pages.specs.Page.{Record}
+use Rattle.pages.specs.Page.{Record, homeFor}
 use Rattle.pages.specs.Area.{pagesFrom, heldFrom}
 use Rattle.survey.specs.declared.Verdict.{Verdict}
 use Rattle.survey.specs.declared.Verdict.the-variants.{Sick, Whole}
+use Rattle.survey.specs.declared.Count.the-variants.{Homes}
 use Rattle.survey.specs.Survey.{lowestBroken, isImage, onBroken, surveyed}
+use Rattle.survey.specs.Counts.{Counts}
 use Rattle.state.specs.declared.State.{State}
 use Rattle.state.specs.declared.Answer.the-variants.{Broken, NotImage}
 use Rattle.state.specs.State.{homes}
@@ -59,13 +63,14 @@ module _ (s : State) (v : Verdict) where
     pub image-shut : (image && eqb records (s .r)) ≡ false → Shut (NotImage (s .cap)) ≡ imageOf s v
     image-shut u = rw (e, u)
 
-  -- where it is open, no page is broken
-  pub open-whole : imageOf s v ≡ Open → (A : Type 0) → ((image : Bool) (records : ℕ) → v ≡ Whole image records → A) → A
-  open-whole e A f = go v refl e
+  -- where it is open, no page is broken, and the homes that were to be counted are
+  pub open-counted : (next : Shape) (last : Stage) (rs : List Record) (n : ℕ) (row : List ℕ) → imageOf s v ≡ Open → Counts v (Homes next last) rs n row
+      → row ≡ counts (homeFor (homeIn next)) rs n 0
+  open-counted next last rs n row e k = go v e k
     where
-      go : (w : Verdict) → v ≡ w → imageOf s w ≡ Open → A
+      go : (w : Verdict) → imageOf s w ≡ Open → Counts w (Homes next last) rs n row → row ≡ counts (homeFor (homeIn next)) rs n 0
       go (Sick a) q k = absurd (let z : _≡_ {A = ℕ} 0 1 = cc in omega arith)
-      go (Whole image records) q k = f image records q
+      go (Whole image records) q k = k
 
   -- the verdict of a survey by the state's own homes is the gate
   pub gate-told : (area : List ℕ) (shape : Shape) → shape ≡ shapeOf (s .params) (s .p) → v ≡ surveyed (homeIn shape) area (s .cap)

@@ -5,3 +5,4 @@ pub mod Answers
 pub mod Settling
 pub mod Growing
 pub mod CheckImage
+pub mod Promises

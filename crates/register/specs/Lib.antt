@@ -3,3 +3,4 @@ pub mod Past
 pub mod Calls
 pub mod Files
 pub mod OneImage
+pub mod Promises

@@ -4,8 +4,12 @@ use mathlib.Core.Path.{_≡_}
 use mathlib.Core.Bool.{true}
 use mathlib.Core.List.{List}
 use lib.ListN.{length}
+use Rattle.homes.specs.declared.Shape.{Shape}
+use Rattle.homes.specs.declared.Stage.{Stage}
+use Rattle.homes.specs.Homes.{shapeOf, Ready}
+use Rattle.homes.specs.Last.{lastStep, Within}
 use Rattle.state.specs.declared.State.{State}
-use Rattle.state.specs.State.{inRange}
+use Rattle.state.specs.State.{inRange, grown}
 use Rattle.register.specs.declared.Gate.{Gate}
 use Rattle.register.specs.declared.Gate.the-variants.{Open, Shut}
 use Rattle.register.specs.Gates.{onGate, imageGate}
@@ -25,6 +29,14 @@ EnteredToGrow s m n (Shut why) = Unit {0}
 abbrev pub OpenToGrow : State → List ℕ → ℕ → Gate → Type 0
 OpenToGrow s area n Open = (inRange s ≡ true) × (length area ≡ 256 * s .cap) × (n ≡ s .cap) × (s .p < s .cap) × (imageGate s area ≡ Open)
 OpenToGrow s area n (Shut why) = Unit {0}
+
+-- the file of one page more: its state and its shape, and the step by which the page is added
+pub record OnePageMore (s next : State) (shape : Shape) (last : Stage) : Type 0 where
+  pub grows : next ≡ grown s
+  pub shaped : shape ≡ shapeOf (next .params) (next .p)
+  pub ready : Ready shape
+  pub steps : last ≡ lastStep shape
+  pub within : Within last
 
 -- what a growth comes to that enters
 abbrev pub grewEntered : State → List ℕ → (row : List ℕ) → Growth

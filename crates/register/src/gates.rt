@@ -2,6 +2,7 @@
 use crate::Gate;
 use state::Answer;
 use state::State;
+use survey::Count;
 use survey::Verdict;
 ghost use mathlib.Core.Path.{_≡_};
 ghost use mathlib.Core.Bool.{true};
@@ -61,7 +62,14 @@ pub(crate) fn image_gate(state: State, area: &[u8]) -> Gate
     ensures { λ r. ⌜ r ≡ imageGate state (now (area .entry)) ⌝ }
 {
     let shape = state.shape();
-    let verdict = survey::survey(area, state.cap as usize, shape);
+    let mut none = [0; 0];
+    let verdict = survey::survey(
+        area,
+        state.cap as usize,
+        shape,
+        Count::Nothing,
+        &mut none[..],
+    );
     image_of(state, verdict)
 }
 

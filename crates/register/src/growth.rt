@@ -1,12 +1,15 @@
 // A growth past its entry: the pages are judged and the homes counted, the counts decide, and the file is made anew.
 use crate::Gate;
+use homes::Shape;
+use homes::Stage;
 use state::Answer;
 use state::Done;
 use state::State;
+use survey::Count;
 ghost use mathlib.Core.Path.{_≡_};
 ghost use lib.ListN.{length};
 ghost use Rattle.register.specs.declared.Gate.the-variants.{Open};
-ghost use Rattle.register.specs.Past.{EnteredToGrow, OpenToGrow, grewEntered};
+ghost use Rattle.register.specs.Past.{EnteredToGrow, OpenToGrow, OnePageMore, grewEntered};
 ghost use Rattle.register.specs.Calls.{grownCounts, grownFile};
 
 // The counts into the row.
@@ -21,17 +24,22 @@ fn fill_row(row: &mut [u32], counts: &[u32])
     }
 }
 
-// A growth of an image, with the counts of its records' homes after it: the row is filled and decides whether there is room; then the file is made anew in its own area.
-fn grow_image(state: State, area: &mut [u8], row: &mut [u32], counts: &[u32]) -> Done
-    requires { ⌜ OpenToGrow state (now area) (length (now row)) Open × (now counts ≡ grownCounts state (now area)) ⌝ }
+// A growth of an image to a file of one page more, with the counts of its records' homes there: the row is filled and decides whether there is room; then the file is made anew in its own area.
+fn grow_image(
+    state: State,
+    next: State,
+    shape: Shape,
+    last: Stage,
+    area: &mut [u8],
+    row: &mut [u32],
+    counts: &[u32],
+) -> Done
+    requires { ⌜ OpenToGrow state (now area) (length (now row)) Open × (now counts ≡ grownCounts state (now area)) × OnePageMore state next shape last ⌝ }
     ensures { λ r. ⌜ r ≡ grownFile state (now (area .entry)) .done ⌝ }
     ensures { λ _. ⌜ now (area .exit) ≡ grownFile state (now (area .entry)) .area ⌝ }
     ensures { λ _. ⌜ now (row .exit) ≡ grownFile state (now (area .entry)) .row ⌝ }
 {
     let cap = state.cap as usize;
-    let next = state.grown();
-    let shape = next.shape();
-    let last = shape.last_step();
     fill_row(row, counts);
     if !survey::has_room(&row[..]) {
         return Done {
@@ -60,14 +68,15 @@ fn grow_counting(state: State, area: &mut [u8], row: &mut [u32], counts: &mut [u
 {
     let cap = state.cap as usize;
     let old = state.shape();
-    let after = state.grown();
-    let shape = after.shape();
+    let next = state.grown();
+    let shape = next.shape();
     let last = shape.last_step();
-    let verdict = survey::survey_counting(&area[..], cap, old, shape, last, counts);
+    let count = Count::Homes { next: shape, last };
+    let verdict = survey::survey(&area[..], cap, old, count, counts);
     let gate = crate::gates::image_of(state, verdict);
     match gate {
         Gate::Shut { why } => Done { state, answer: why },
-        Gate::Open => grow_image(state, area, row, &counts[..]),
+        Gate::Open => grow_image(state, next, shape, last, area, row, &counts[..]),
     }
 }
 

@@ -1,27 +1,39 @@
 -- The records counted by home: one by one on a page, page by page in an area; and what the counts leave over.
 use mathlib.Core.Path.{_≡_, refl, sym, ap, _∙_}
-use mathlib.Core.Bool.{Bool, true, false}
-use mathlib.Core.List.{List, [], _∷_, _++_, map, append-nil, map-append}
+use mathlib.Core.Bool.{Bool, true, false, cond}
+use mathlib.Core.Option.{some}
+use mathlib.Core.List.{List, [], _∷_, _++_, map, append-nil, map-append, map-map}
 use Prim.Native.Nat.{ℕ, suc, _+_, _*_, _-_, _≤_, _<_}
 use native.Mathlib.Nat.{zero-add}
 use native.Mathlib.Numerals.{add-one}
 use native.Mathlib.Omega.{arith}
 use lib.Dec.{ltb, eqb}
 use lib.ListN.{length, getD, set, take, drop, replicate, length-take, length-set, length-replicate, getD-replicate, length-append, length-drop, length-map, List·getD-eq-default}
-use lib.Seq.{getD-set-same, getD-set-other, getD-take, length-take-le, take-suc, drop-cons, drop-length, ext-getD}
-use borrow.Author.Tests.{ltb-true, ltb-false, eqb-true, eqb-false}
+use lib.Seq.{getD-set-same, getD-set-other, take-append-seam, take-suc, drop-cons, drop-length, ext-getD}
+use borrow.Author.Tests.{le-ltb, ltb-true, ltb-false, eqb-true, eqb-false}
 use borrow.Author.Fill.{fill-more}
+use Rattle.homes.specs.declared.Shape.{Shape}
+use Rattle.homes.specs.declared.Stage.{Stage}
+use Rattle.homes.specs.Homes.{homeIn}
+use Rattle.homes.specs.Last.{staysAt}
 use Rattle.placing.specs.Image.{cat}
 use Rattle.placing.specs.Lay.{one}
 use Rattle.placing.specs.Rows.{atHome, counts, leftOver}
 use Rattle.placing.proofs.Rows.{counts-length, counts-at}
 use Rattle.placing.proofs.Lists.{count-le}
-use Rattle.pages.specs.Page.{Record, homeFor, recordsIn}
+use Rattle.pages.specs.declared.Page.{Page}
+use Rattle.pages.specs.declared.Judged.{Judged}
+use Rattle.pages.specs.Page.{Record, key, homeFor, recordsIn, inMemory, judged}
+use Rattle.pages.specs.Slots.{recordsOf}
 use Rattle.pages.specs.Area.{partAt, heldFrom}
 use Rattle.pages.proofs.Rows.{row-at}
 use Rattle.pages.proofs.Read.{held-few}
 use Rattle.pages.proofs.Write.{zeros}
+use Rattle.survey.specs.declared.Count.{Count}
+use Rattle.survey.specs.declared.Count.the-variants.{Nothing, Homes}
+use Rattle.survey.specs.declared.Verdict.the-variants.{Whole}
 use Rattle.survey.specs.Looks.{tallied}
+use Rattle.survey.specs.Counts.{homesOf, Counts, Countable, Stands}
 
 -- a row cleared up to i is as long as before
 pub cleared-length : (row₀ row : List ℕ) (i : ℕ) → i ≤ length row₀ → row ≡ replicate i 0 ++ drop i row₀ → length row ≡ length row₀
@@ -64,30 +76,72 @@ tally-le hs row k = go (ltb k (length row)) refl
     go true e = omega (arith, tally-at hs row k (ltb-true k (length row) e), count-le (λ j. eqb j k) hs)
     go false e = rw (List·getD-eq-default (tallied hs row) 0 {n = k} (omega (arith, tally-length hs row, ltb-false k (length row) e))) (omega arith)
 
--- the first i of n homes are tallied
-pub record Tallied (n : ℕ) (homes row₀ row : List ℕ) (i : ℕ) : Type 0 where
-  pub low : i ≤ n
-  pub long : n ≤ length homes
-  pub done : row ≡ tallied (take i homes) row₀
+module _ (next : Shape) (last : Stage) where
+  -- a page beyond the last doesn't stay
+  beyond : false ≡ staysAt next last (next .p)
+  unfolding staysAt
+  beyond = sym (rw (le-ltb (next .p) (next .p - 1) (omega arith)))
 
-module _ {n : ℕ} {homes row₀ row : List ℕ} {i : ℕ} (t : Tallied n homes row₀ row i) where
+  -- the home of a key after a growth: kept, where the page stays that it was, and else worked out
+  pub new-home : (k : ℕ) {x old seen : ℕ} {stays : Bool} → seen ≡ old → stays ≡ staysAt next last seen → (staysAt next last old ≡ true → homeIn next k ≡ old)
+      → x ≡ cond stays old (homeIn next k) → x ≡ homeIn next k
+  new-home k {x} {old} {seen} {stays} s a keeps e = go stays (sym (a ∙ ap (staysAt next last) s)) e
+    where
+      go : (u : Bool) → staysAt next last old ≡ u → x ≡ cond u old (homeIn next k) → x ≡ homeIn next k
+      go true on q = q ∙ sym (keeps on)
+      go false on q = q
+
+  -- the first i of n keys are counted, and what page `seen` says is known
+  pub record Tallied (n : ℕ) (keys row₀ row : List ℕ) (seen : ℕ) (stays : Bool) (i : ℕ) : Type 0 where
+    pub low : i ≤ n
+    pub asked : stays ≡ staysAt next last seen
+    pub done : row ≡ tallied (map (homeIn next) (take i keys)) row₀
+
+  pub tally-starts : (n : ℕ) (keys row : List ℕ) → Tallied n keys row row (next .p) false 0
+  tally-starts n keys row = record { low = omega arith; asked = beyond; done = refl }
+
+module _ {next : Shape} {last : Stage} {n : ℕ} {keys row₀ row : List ℕ} {seen : ℕ} {stays : Bool} {i : ℕ} (t : Tallied next last n keys row₀ row seen stays i) where
   pub part-length : length row ≡ length row₀
-  part-length = ap length (t .done) ∙ tally-length (take i homes) row₀
+  part-length = ap length (t .done) ∙ tally-length (map (homeIn next) (take i keys)) row₀
 
   pub part-le : (k : ℕ) → getD row k 0 ≤ getD row₀ k 0 + i
-  part-le k = rw (t .done) (omega (arith, tally-le (take i homes) row₀ k, length-take i homes))
+  part-le k =
+      let hs : List ℕ = map (homeIn next) (take i keys) in
+      rw (t .done) (omega (arith, tally-le hs row₀ k, length-map (take i keys) (homeIn next), length-take i keys))
 
-  pub tally-goes-on : i < n → Tallied n homes row₀ (set row (getD homes i 0) (getD row (getD homes i 0) 0 + 1)) (i + 1)
-  tally-goes-on l =
-      let m : i < length homes = omega arith in
+  pub tally-goes-on : {x seen′ : ℕ} {stays′ : Bool} → i < n → i < length keys → stays′ ≡ staysAt next last seen′ → x ≡ homeIn next (getD keys i 0)
+      → Tallied next last n keys row₀ (set row x (getD row x 0 + 1)) seen′ stays′ (i + 1)
+  tally-goes-on l m a e =
+      let hs : List ℕ = map (homeIn next) (take i keys) in
+      let k : ℕ = getD keys i 0 in
       record {
         low = omega arith;
-        long = t .long;
-        done = rw (add-one i, take-suc homes i 0 m, tally-append (take i homes) (getD homes i 0 ∷ []) row₀, ← t .done);
+        asked = a;
+        done = rw (add-one i, take-suc keys i 0 m, map-append (homeIn next) (take i keys) (k ∷ []), tally-append hs (homeIn next k ∷ []) row₀, ← t .done, e);
       }
 
-  pub tally-ends : n ≤ i → row ≡ tallied (take n homes) row₀
-  tally-ends l = let e : n ≡ i = omega arith in rw e (t .done)
+-- a page has as many keys as it says
+pub page-holds : (p : Page) (rs : List Record) → p ≡ inMemory rs → p .count ≤ length (p .keys)
+unfolding inMemory
+page-holds p rs e = rw (e, length-append, length-map) (omega arith)
+
+-- and they are those of its records
+page-keys : (p : Page) (rs : List Record) → p ≡ inMemory rs → take (p .count) (p .keys) ≡ map key rs
+unfolding inMemory
+page-keys p rs e = rw (e, ← length-map rs key) (take-append-seam (map key rs) _)
+
+module _ (count : Count) (next : Shape) (last : Stage) (is : count ≡ Homes next last) where
+  -- what is known where homes are counted
+  pub countable-homes : (had : ℕ → ℕ → Type 0) (n : ℕ) → Countable count had n → Countable (Homes next last) had n
+  countable-homes had n k = rw is at k
+
+  -- all keys of a page counted are its records counted
+  pub tally-ends : (p : Page) {row₀ row : List ℕ} {seen : ℕ} {stays : Bool} {i : ℕ} → Tallied next last (p .count) (p .keys) row₀ row seen stays i
+      → p .count ≤ i → p ≡ inMemory (recordsOf p) → row ≡ tallied (homesOf count (recordsOf p)) row₀
+  tally-ends p {i = i} t l e =
+      let n : i ≡ p .count = omega (arith, t .low) in
+      let rs : List Record = recordsOf p in
+      t .done ∙ rw (n, page-keys p rs e, map-map (homeIn next) key rs, is)
 
 module _ {R : Type 0} (home : R → ℕ) where
   -- to count records by their homes is to count their homes
@@ -110,62 +164,73 @@ module _ {R : Type 0} (home : R → ℕ) where
           ∙ (rw (getD-replicate {A = ℕ} n k 0 0 l, zero-add, at-homes s k))
           ∙ sym (rw z at (counts-at home s n 0 k l))
 
--- the first n of these numbers are the homes of n records
-pub record HomesOf (h : ℕ → ℕ) (rs : List Record) (n : ℕ) (homes : List ℕ) : Type 0 where
-  pub count : n ≡ length rs
-  pub long : n ≤ length homes
-  pub each : (i : ℕ) → i < n → getD homes i 0 ≡ homeFor h (getD rs i (0, 0))
+-- of two lists of records the homes of the one are counted, and then those of the other
+homes-append : (count : Count) (rs ss : List Record) → homesOf count (rs ++ ss) ≡ homesOf count rs ++ homesOf count ss
+homes-append Nothing rs ss = refl
+homes-append (Homes next last) rs ss = map-append (homeFor (homeIn next)) rs ss
 
--- so, taken, they are those homes
-first-homes : (h : ℕ → ℕ) (rs : List Record) (n : ℕ) (homes : List ℕ) → HomesOf h rs n homes → take n homes ≡ map (homeFor h) rs
-first-homes h rs n homes f =
-    ext-getD 0 (take n homes) (map (homeFor h) rs) (m ∙ f .count ∙ sym (length-map rs (homeFor h))) (λ i l. at i (omega (arith, m)))
-  where
-    m : length (take n homes) ≡ n
-    m = length-take-le n homes (f .long)
-
-    at : (i : ℕ) → i < n → getD (take n homes) i 0 ≡ getD (map (homeFor h) rs) i 0
-    at i l = getD-take n homes i 0 l ∙ f .each i l ∙ sym (rw append-nil at (row-at (homeFor h) rs [] i (0, 0) (omega (arith, f .count))))
+homes-few : (count : Count) (rs : List Record) → length (homesOf count rs) ≤ length rs
+homes-few Nothing rs = omega arith
+homes-few (Homes next last) rs = omega (arith, length-map rs (homeFor (homeIn next)))
 
 -- the pages below a are counted, and those from a on are left to tally
-pub record Counted (h : ℕ → ℕ) (area : List ℕ) (cap : ℕ) (row : List ℕ) (a : ℕ) : Type 0 where
-  pub low : a ≤ cap
-  pub long : length row ≡ cap
+pub record Counted (count : Count) (area : List ℕ) (cap n : ℕ) (row : List ℕ) (a : ℕ) : Type 0 where
+  pub long : length row ≡ n
   pub small : (k : ℕ) → getD row k 0 ≤ 12 * a
-  pub rest : tallied (map (homeFor h) (cat (heldFrom area (cap - a) a) [])) row ≡ counts (homeFor h) (cat (heldFrom area cap 0) []) cap 0
+  pub rest : tallied (homesOf count (cat (heldFrom area (cap - a) a) [])) row ≡ tallied (homesOf count (cat (heldFrom area cap 0) [])) (replicate n 0)
 
-pub count-starts : (h : ℕ → ℕ) (area : List ℕ) (cap : ℕ) (row : List ℕ) → row ≡ replicate cap 0 → Counted h area cap row 0
-count-starts h area cap row e =
-    record {
-      low = omega arith;
-      long = ap length e ∙ length-replicate cap 0;
-      small = λ k. rw e (omega (arith, zeros cap k));
-      rest = let z : cap - 0 ≡ cap = omega arith in rw (z, e) (tally-counts (homeFor h) (cat (heldFrom area cap 0) []) cap);
-    }
+-- a row of zeros is where they start
+pub count-starts : (count : Count) (area : List ℕ) (cap m : ℕ) (row : List ℕ) → row ≡ replicate m 0 → Counted count area cap (length row) row 0
+count-starts count area cap m row e =
+    let l : length row ≡ m = ap length e ∙ length-replicate m 0 in
+    let z : cap - 0 ≡ cap = omega arith in
+    record { long = refl; small = λ k. rw e (omega (arith, zeros m k)); rest = rw (z, l, e) }
 
-module _ {h : ℕ → ℕ} {area : List ℕ} {cap : ℕ} {row : List ℕ} {a : ℕ} (c : Counted h area cap row a) where
-  -- the page that is read next, and the homes of its records
-  module _ {n : ℕ} {homes : List ℕ} (f : HomesOf h (recordsIn (partAt area a)) n homes) where
-    -- each of these homes is a place of the row
-    pub homes-inside : ((k : ℕ) → h k < cap) → (i : ℕ) → i < n → getD homes i 0 < length row
-    homes-inside b i l = rw (f .each i l, c .long) (b _)
+module _ {count : Count} {area : List ℕ} {cap n : ℕ} {row : List ℕ} {a : ℕ} (c : Counted count area cap n row a) where
+  -- the records of page a counted
+  pub count-goes-on : {row′ : List ℕ} (rs : List Record) → rs ≡ recordsIn (partAt area a) → a < cap → row′ ≡ tallied (homesOf count rs) row
+      → Counted count area cap n row′ (a + 1)
+  count-goes-on {row′} rs is l e =
+      let js : List ℕ = homesOf count rs in
+      let m : cap - a ≡ suc (cap - suc a) = omega arith in
+      let more : List Record = cat (heldFrom area (cap - suc a) (suc a)) [] in
+      record {
+        long = ap length e ∙ tally-length js row ∙ c .long;
+        small = λ k. rw e (omega (arith, tally-le js row k, c .small k, homes-few count rs, ap length is, held-few (partAt area a)));
+        rest = rw (e, add-one a) (sym (tally-append js (homesOf count more) row)) ∙ rw (m, ← is, homes-append count rs more) at (c .rest);
+      }
 
-    pub count-goes-on : {row′ : List ℕ} → a < cap → row′ ≡ tallied (take n homes) row → Counted h area cap row′ (a + 1)
-    count-goes-on {row′} l e =
-        let rs : List Record = recordsIn (partAt area a) in
-        let js : List ℕ = map (homeFor h) rs in
-        let t : row′ ≡ tallied js row = e ∙ rw (first-homes h rs n homes f) in
-        let m : cap - a ≡ suc (cap - suc a) = omega arith in
-        let more : List Record = cat (heldFrom area (cap - suc a) (suc a)) [] in
-        record {
-          low = omega arith;
-          long = ap length t ∙ tally-length js row ∙ c .long;
-          small = λ k. rw t (omega (arith, tally-le js row k, c .small k, length-map rs (homeFor h), held-few (partAt area a)));
-          rest = rw (t, add-one a) (sym (tally-append js (map (homeFor h) more) row)) ∙ rw (m, map-append (homeFor h) rs more) at (c .rest);
-        }
+  -- all counted
+  pub count-ends : cap ≤ a → (m : ℕ) → n ≡ m → (image : Bool) (records : ℕ) → Counts (Whole image records) count (cat (heldFrom area cap 0) []) m row
+  count-ends l m q image records = go count (let z : cap - a ≡ 0 = omega arith in rw (z, q) at (c .rest))
+    where
+      rs : List Record
+      rs = cat (heldFrom area cap 0) []
 
-  pub count-ends : cap ≤ a → row ≡ counts (homeFor h) (cat (heldFrom area cap 0) []) cap 0
-  count-ends l = let z : cap - a ≡ 0 = omega arith in rw z at (c .rest)
+      go : (k : Count) → tallied (homesOf k []) row ≡ tallied (homesOf k rs) (replicate m 0) → Counts (Whole image records) k rs m row
+      go Nothing e = tt
+      go (Homes next last) e = e ∙ tally-counts (homeFor (homeIn next)) rs m
+
+-- a page that was judged, with its records
+module _ (h : ℕ → ℕ) (j : Judged) (rs : List Record) (e : j ≡ judged h (some rs)) where
+  pub judged-page : j .page ≡ inMemory rs
+  unfolding judged
+  judged-page = rw e
+
+  -- each stands there with its home
+  stands-home : (k a : ℕ) → Stands j k a → h k ≡ a
+  unfolding judged inMemory
+  stands-home k a s =
+      let n : j .page .count ≡ length rs = rw e in
+      let b : s .slot < length rs = omega (arith, n, s .low) in
+      let f : getD (j .page .keys) (s .slot) 0 ≡ key (getD rs (s .slot) (0, 0)) = rw e (row-at key rs _ (s .slot) (0, 0) b) in
+      let g : getD (j .homes) (s .slot) 0 ≡ h (key (getD rs (s .slot) (0, 0))) = rw e (row-at (homeFor h) rs _ (s .slot) (0, 0) b) in
+      ap h (sym (s .key) ∙ f) ∙ sym g ∙ s .home
+
+  -- so they may be counted, if all records may
+  pub page-countable : (count : Count) (m n : ℕ) → m ≡ n → Countable count (λ k a. h k ≡ a) n → Countable count (Stands j) m
+  page-countable Nothing m n l w = tt
+  page-countable (Homes next last) m n l w = rw l (w .0, w .1, w .2, w .3, λ k a s. w .4 k a (stands-home k a s))
 
 -- what the counts from i on leave over
 pub over-goes-on : (row : List ℕ) (i x y : ℕ) → i < length row → y ≡ x + getD row i 0 - 12 → leftOver 12 (drop (i + 1) row) y ≡ leftOver 12 (drop i row) x

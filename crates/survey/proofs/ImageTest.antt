@@ -1,5 +1,5 @@
 -- The survey's test tells whether good pages are an image (01, 'The one image').
-use mathlib.Core.Path.{_≡_, refl, sym, ap}
+use mathlib.Core.Path.{_≡_, refl, sym, ap, _∙_}
 use mathlib.Core.Bool.{Bool, true, false, _&&_}
 use mathlib.Core.Logic.{_↔_}
 use mathlib.Core.Option.{Option, none, some}
@@ -24,6 +24,7 @@ use Rattle.pages.specs.Area.{partAt, pagesFrom, heldFrom}
 use Rattle.pages.proofs.RoundTrip.{Good, read-good}
 use Rattle.pages.proofs.Bounds.{keys-small}
 use Rattle.pages.proofs.Rules.{homes-all, rises-sorted}
+use Rattle.pages.proofs.Areas.{held-length}
 use Rattle.survey.specs.Survey.{lowestBroken, startsAtHome, startsAt, nextLow, imageFrom, isImage}
 
 module _ (h : ℕ → ℕ) where
@@ -194,3 +195,31 @@ module _ (h : ℕ → ℕ) (area : List ℕ) where
           let g : Good h a l p = read-good h a l p q in
           let keys : All (λ x. key x < 2 ^ 64) (recordsIn l) = keys-small area a (omega arith) b in
           (rw (← g .records) (record { few = g .few; homes = g .homes; rising = g .rising; keys = rw (g .records) keys }), on (rw q at e))
+
+-- what pages are read as is one list
+same-pages : (ps qs : List (List Record)) → map some ps ≡ map some qs → ps ≡ qs
+same-pages [] [] e = refl
+same-pages [] (q ∷ qs) e = absurd (let z : _≡_ {A = ℕ} 0 1 = cc in omega arith)
+same-pages (p ∷ ps) [] e = absurd (let z : _≡_ {A = ℕ} 0 1 = cc in omega arith)
+same-pages (p ∷ ps) (q ∷ qs) e =
+    let x : p ≡ q = cc in
+    let t : map some ps ≡ map some qs = cc in
+    rw (x, same-pages ps qs t)
+
+-- good pages have no broken one among them
+none-lowest : (a : ℕ) (ps : List (List Record)) → lowestBroken a (map some ps) ≡ none
+none-lowest a [] = refl
+none-lowest a (p ∷ ps) = none-lowest (suc a) ps
+
+-- so, where all pages pass, what they are read as stands on them
+module _ (h : ℕ → ℕ) (area : List ℕ) (n : ℕ) (ps : List (List Record)) where
+  pub all-pass : pagesFrom h area n 0 ≡ map some ps → (lowestBroken 0 (pagesFrom h area n 0) ≡ none) × (ps ≡ heldFrom area n 0)
+  all-pass e =
+      let w : lowestBroken 0 (pagesFrom h area n 0) ≡ none = rw e (none-lowest 0 ps) in
+      (w, same-pages ps (heldFrom area n 0) (sym e ∙ none-broken h area n 0 w))
+
+  -- and the test tells whether they are an image
+  pub pages-test : Bytes area → 256 * n ≤ length area → pagesFrom h area n 0 ≡ map some ps → (isImage h ps ≡ true) ↔ Image key h 12 n (cat ps []) ps
+  pages-test b l e =
+      let w = all-pass e in
+      image-test h ps n (rw (w .1) (held-length area n 0)) (rw (w .1) (good-pages h area b n 0 (omega arith) (w .0)))

@@ -1,5 +1,5 @@
 pub mod Looking
 pub mod Counting
-pub mod Rehoming
 pub mod ImageTest
 pub mod Knowing
+pub mod Promises

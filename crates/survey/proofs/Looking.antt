@@ -95,10 +95,6 @@ module _ (h : ℕ → ℕ) where
   look-records s a [] = refl
   look-records s a (x ∷ p) = rw (ne-eqb (suc (length p)) 0 (λ e. omega arith))
 
--- a broken page is no whole area
-pub not-whole : (a : ℕ) (image : Bool) (records : ℕ) → Sick a ≡ Whole image records → ⊥
-not-whole a image records e = let z : _≡_ {A = ℕ} 0 1 = cc in omega arith
-
 module _ (h : ℕ → ℕ) (area : List ℕ) (cap : ℕ) where
   -- page a as it is read
   abbrev pub pageAt : ℕ → Option (List Record)
@@ -119,16 +115,7 @@ module _ (h : ℕ → ℕ) (area : List ℕ) (cap : ℕ) where
       let e : cap - 0 ≡ cap = omega arith in
       rw (e, u) (refl, refl, omega arith, omega arith)
 
-  -- a judged page has twelve records at most
-  few-read : (a : ℕ) (o : Option (List Record)) → pageAt a ≡ o → judged h o .page .count ≤ 12
-  unfolding judged inMemory
-  few-read a none e = omega arith
-  few-read a (some rs) e = read-good h a (partAt area a) rs e .few
-
-  pub judged-few : (a : ℕ) (j : Judged) → j ≡ judged h (pageAt a) → j .page .count ≤ 12
-  judged-few a j e = rw e (few-read a (pageAt a) refl)
-
-  -- a good one has the records that stand at its place
+  -- a page that was judged good has the records that stand at its place
   pub judged-held : (a : ℕ) (j : Judged) → j ≡ judged h (pageAt a) → j .good ≡ true → j ≡ judged h (some (recordsIn (partAt area a)))
   unfolding judged
   judged-held a j e b = go (pageAt a) refl e

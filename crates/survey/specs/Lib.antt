@@ -1,2 +1,4 @@
 pub mod Survey
 pub mod Looks
+pub mod Counts
+pub mod Promises

@@ -40,7 +40,7 @@ module _ (h : ℕ → ℕ) where
   nextLow low (x ∷ []) = suc (rankIn key h x)
   nextLow low (x ∷ (y ∷ p)) = nextLow low (y ∷ p)
 
-  -- Whether pages that pass their rules are an image, page by page: `full` tells whether the page before is full, `low` what stands after all records so far. Proved to be 01's sentence (`image-test`).
+  -- Whether pages that pass their rules are an image, page by page: `full` tells whether the page before is full, `low` what stands after all records so far. Proved to be 01's sentence (`SurveyPromises`).
   abbrev pub imageFrom : (full : Bool) → (low a : ℕ) → List (List Record) → Bool
   imageFrom full low a [] = true
   imageFrom full low a (p ∷ ps) = startsAtHome full a p && (startsAt low p && imageFrom (leb 12 (length p)) (nextLow low p) (suc a) ps)

@@ -3,25 +3,30 @@ use homes::Shape;
 use homes::Stage;
 use pages::Judged;
 ghost use mathlib.Core.Path.{_≡_};
-ghost use mathlib.Core.Bool.{Bool, true, cond};
 ghost use mathlib.Core.List.{[]};
-ghost use Prim.Native.Nat.{ℕ, _*_, _≤_, _<_};
-ghost use lib.ListN.{length, getD, take, replicate};
+ghost use Prim.Native.Nat.{ℕ, _*_, _≤_};
+ghost use lib.ListN.{length, getD, replicate};
 ghost use lib.Dec.{eqb};
 ghost use Rattle.homes.specs.Homes.{Ready, homeIn};
-ghost use Rattle.homes.specs.Last.{Within, staysAt};
 ghost use Rattle.placing.specs.Image.{cat};
-ghost use Rattle.placing.specs.Rows.{counts, leftOver};
-ghost use Rattle.pages.specs.Page.{homeFor};
+ghost use Rattle.placing.specs.Rows.{leftOver};
+ghost use Rattle.pages.specs.Page.{inMemory};
+ghost use Rattle.pages.specs.Slots.{recordsOf};
 ghost use Rattle.pages.specs.Area.{heldFrom};
-ghost use Rattle.survey.specs.declared.Verdict.the-variants.{Whole};
 ghost use Rattle.survey.specs.Survey.{surveyed};
 ghost use Rattle.survey.specs.Looks.{unseen, looked, tallied};
+ghost use Rattle.survey.specs.Counts.{Stands, Countable, homesOf, Counts};
 
 // The lowest broken page; or, with none broken, whether the pages are an image, and of how many records.
 pub enum Verdict {
     Sick { page: usize },
     Whole { image: bool, records: u32 },
+}
+
+// What is counted while the pages are judged: nothing, or the records of each home in the file as it grew by the step `last`.
+pub enum Count {
+    Nothing,
+    Homes { next: Shape, last: Stage },
 }
 
 // What has been seen of the pages so far: whether they may be an image, whether the last of them is full, and (home, key) of the last record, if there is any.
@@ -82,27 +87,6 @@ fn look(seen: Seen, judged: Judged, a: usize) -> Seen
     }
 }
 
-// Judges the pages from 0 upward, and stops at the first broken one.
-pub fn survey(area: &[u8], cap: usize, shape: Shape) -> Verdict
-    requires { ⌜ (cap ≤ 4096) × (length (now area) ≡ 256 * cap) × Ready shape ⌝ }
-    ensures { λ r. ⌜ r ≡ surveyed (homeIn shape) (now (area .entry)) cap ⌝ }
-{
-    let mut seen = unseen();
-    let mut a = 0;
-    while a < cap {
-        let judged = pages::judge_at(area, a, shape);
-        if !judged.good {
-            return Verdict::Sick { page: a };
-        }
-        seen = look(seen, judged, a);
-        a += 1;
-    }
-    Verdict::Whole {
-        image: seen.image,
-        records: seen.records,
-    }
-}
-
 fn clear(row: &mut [u32])
     ensures { λ _. ⌜ now (row .exit) ≡ replicate (length (now (row .entry))) 0 ⌝ }
 {
@@ -113,57 +97,40 @@ fn clear(row: &mut [u32])
     }
 }
 
-// The first of these homes, each counted.
-fn tally(count: usize, homes: [u64; 12], row: &mut [u32])
-    requires { ⌜ (count ≤ 12) × ((i : ℕ) → i < count → getD homes i 0 < length (now row)) × (length (now row) ≤ 4096) × ((k : ℕ) → getD (now row) k 0 ≤ 49152) ⌝ }
-    ensures { λ _. ⌜ now (row .exit) ≡ tallied (take count homes) (now (row .entry)) ⌝ }
+// The records of a judged page, counted by their homes in the file as it grew, if that is wanted. A home whose page stays is kept, and what that page says is asked for once; others are worked out.
+fn tally(judged: Judged, count: Count, row: &mut [u32])
+    requires { ⌜ (judged .page .count ≤ 12) × (judged .page ≡ inMemory (recordsOf (judged .page))) × ((k : ℕ) → getD (now row) k 0 ≤ 49152) ⌝ }
+    requires { ⌜ Countable count (Stands judged) (length (now row)) ⌝ }
+    ensures { λ _. ⌜ now (row .exit) ≡ tallied (homesOf count (recordsOf (judged .page))) (now (row .entry)) ⌝ }
 {
+    let Count::Homes { next, last } = count else {
+        return;
+    };
+    let homes = judged.homes;
+    let page = judged.page;
+    let held = page.count;
+    let keys = page.keys;
+    let mut seen = next.p;
+    let mut stays = false;
     let mut i = 0;
-    while i < count {
-        let home = homes[i] as usize;
+    while i < held {
+        let old = homes[i];
+        if old != seen {
+            stays = next.stays(last, old);
+            seen = old;
+        }
+        let new = if stays { old } else { next.home(keys[i]) };
+        let home = new as usize;
         row[home] = row[home] + 1;
         i += 1;
     }
 }
 
-// The homes of a judged page's records in a file that grew by the step `last`. A home whose page stays is kept, and what that page says is asked for once; others are worked out.
-fn rehomed(judged: Judged, next: Shape, last: Stage) -> [u64; 12]
-    requires { ⌜ (judged .page .count ≤ 12) × Ready next × Within last ⌝ }
-    ensures { λ r. ⌜ ((i : ℕ) → i < judged .page .count → getD r i 0 ≡ cond (staysAt next last (getD (judged .homes) i 0)) (getD (judged .homes) i 0) (homeIn next (getD (judged .page .keys) i 0))) ⌝ }
-{
-    let homes = judged.homes;
-    let page = judged.page;
-    let count = page.count;
-    let keys = page.keys;
-    let mut out = [0; 12];
-    let mut seen = next.p;
-    let mut stays = false;
-    let mut i = 0;
-    while i < count {
-        let home = homes[i];
-        if home != seen {
-            stays = next.stays(last, home);
-            seen = home;
-        }
-        out[i] = if stays { home } else { next.home(keys[i]) };
-        i += 1;
-    }
-    out
-}
-
-// Judges as `survey` does, and counts the records of each home in the file as it grew by the step `last`. The counts are those of all pages where none is broken.
-pub fn survey_counting(
-    area: &[u8],
-    cap: usize,
-    shape: Shape,
-    next: Shape,
-    last: Stage,
-    row: &mut [u32],
-) -> Verdict
-    requires { ⌜ (cap ≤ 4096) × (length (now area) ≡ 256 * cap) × Ready shape × (length (now row) ≡ cap) ⌝ }
-    requires { ⌜ Ready next × (next .p ≤ cap) × Within last × ((k a : ℕ) → staysAt next last a ≡ true → homeIn shape k ≡ a → homeIn next k ≡ a) ⌝ }
+// Judges the pages from 0 upward, and stops at the first broken one. Where none is broken, all records are counted whose homes are wanted.
+pub fn survey(area: &[u8], cap: usize, shape: Shape, count: Count, row: &mut [u32]) -> Verdict
+    requires { ⌜ (cap ≤ 4096) × (length (now area) ≡ 256 * cap) × Ready shape × Countable count (λ k a. homeIn shape k ≡ a) (length (now row)) ⌝ }
     ensures { λ r. ⌜ r ≡ surveyed (homeIn shape) (now (area .entry)) cap ⌝ }
-    ensures counted { λ r. ⌜ ((image : Bool) (records : ℕ) → r ≡ Whole image records → now (row .exit) ≡ counts (homeFor (homeIn next)) (cat (heldFrom (now (area .entry)) cap 0) []) cap 0) ⌝ }
+    ensures counted { λ r. ⌜ Counts r count (cat (heldFrom (now (area .entry)) cap 0) []) (length (now (row .entry))) (now (row .exit)) ⌝ }
 {
     clear(row);
     let mut seen = unseen();
@@ -174,9 +141,7 @@ pub fn survey_counting(
             return Verdict::Sick { page: a };
         }
         seen = look(seen, judged, a);
-        let homes = rehomed(judged, next, last);
-        let page = judged.page;
-        tally(page.count, homes, row);
+        tally(judged, count, row);
         a += 1;
     }
     Verdict::Whole {

@@ -6,8 +6,9 @@ use borrow.Author.Needs.{needs}
 use Rattle.homes.specs.Homes.{homeIn}
 use Rattle.state.proofs.Ranges.{ranged}
 use Rattle.register.specs.Gates.{imageGate}
-use Rattle.register.proofs.Judging.{sick-below, gate-told, open-whole}
-use Rattle.register.proofs.Growing.{grown-low, grown-in, shape-low, steps-left, stays-home, same-counts}
+use Rattle.register.specs.Past.{OnePageMore}
+use Rattle.register.proofs.Judging.{sick-below, gate-told}
+use Rattle.register.proofs.Growing.{grown-low, grown-in, steps-left, countable, open-counts}
 use Rattle.register.proofs.Answers.{entered-shut, entered-open}
 use Rattle.register.proofs.growth.grow_counting.Statement.{statement}
 use Rattle.register.proofs.growth.grow_counting.Tie as tie
@@ -33,29 +34,29 @@ last-step-requires c κs =
     let b = c .before .before .before .before .before .before .before in
     (c .shape2 .ensures .1, steps-left (b .args .state) (b .pre .0 .0) (b .pre .0 .3) _ (c .before .grown .ensures) _ (c .shape2 .ensures .0))
 
-survey-counting-requires : tie.Need-survey-counting-requires
-survey-counting-requires c κs =
-    let q = c .before .before in
-    let h = q .before in
-    let o = h .before .before in
-    let b = o .before .before .before .before .before in
+-- what was worked out is the file of one page more
+more : (c : tie.After-last-step) → OnePageMore (c .before .before .before .before .before .before .before .before .args .state) (c .before .before .grown .result) (c .before .shape2 .result) (c .last-step .result)
+more c =
+    record {
+      grows = c .before .before .grown .ensures;
+      shaped = c .before .shape2 .ensures .0;
+      ready = c .before .shape2 .ensures .1;
+      steps = c .last-step .ensures .0;
+      within = c .last-step .ensures .1;
+    }
+
+survey-requires : tie.Need-survey-requires
+survey-requires c κs =
+    let o = c .before .before .before .before .before in
+    let b = c .before .before .before .before .before .before .before .before .before .before in
     let s = b .args .state in
-    let n = b .pre .0 in (
-      (ranged s (n .0) .cap-high, n .1, o .shape .ensures .1, b .pre .1),
-      (
-        h .shape2 .ensures .1,
-        shape-low s (n .0) (n .3) _ (h .before .grown .ensures) _ (h .shape2 .ensures .0),
-        q .last-step .ensures .1,
-        stays-home s (n .0) (n .3) _ (h .before .grown .ensures) _ (h .shape2 .ensures .0) _ (q .last-step .ensures .0) _ (o .shape .ensures .0),
-      ),
-    )
+    let n = b .pre .0 in
+    (ranged s (n .0) .cap-high, n .1, o .shape .ensures .1, countable s (n .0) (n .3) (more (c .before .before)) _ (o .shape .ensures .0) _ (b .pre .1))
 
 image-of-requires : tie.Need-image-of-requires
 image-of-requires c κs a e =
-    let v = c .before .before in
-    let o = v .before .before .before .before .before .before in
-    let b = o .before .before .before .before .before in
-    omega (arith, sick-below (homeIn (o .shape .result)) (now (b .args .area)) (b .args .state .cap) _ a (v .survey-counting .ensures .0) e, ranged (b .args .state) (b .pre .0 .0) .cap-high)
+    let b = c .before .before .before .before .before .before .before .before .before .before .before .before .before in
+    omega (arith, sick-below (homeIn (c .before .before .before .before .before .before .before .before .shape .result)) (now (b .args .area)) (b .args .state .cap) _ a (c .before .before .survey .ensures .0) e, ranged (b .args .state) (b .pre .0 .0) .cap-high)
 
 enum-known-gate : tie.Need-enum-known-gate
 enum-known-gate c = search needs
@@ -66,24 +67,21 @@ enum-told c = search needs
 -- the gate is that of the pages
 gate : (c : tie.After-image-of) → c .image-of .result ≡ imageGate (c .before .before .before .before .before .before .before .before .before .before .before .before .before .before .args .state) (now (c .before .before .before .before .before .before .before .before .before .before .before .before .before .before .args .area))
 gate c =
-    let v = c .before .before .before in
-    let o = v .before .before .before .before .before .before in
-    let b = o .before .before .before .before .before in
-    gate-told (b .args .state) _ (now (b .args .area)) _ (o .shape .ensures .0) (v .survey-counting .ensures .0) _ (c .image-of .ensures)
+    let b = c .before .before .before .before .before .before .before .before .before .before .before .before .before .before in
+    gate-told (b .args .state) _ (now (b .args .area)) _ (c .before .before .before .before .before .before .before .before .before .shape .ensures .0) (c .before .before .before .survey .ensures .0) _ (c .image-of .ensures)
 
 grow-image-requires : tie.Need-grow-image-requires
 grow-image-requires c κs =
-    let t = c .before .before .before in
-    let i = t .before .before in
-    let v = i .before .before .before in
-    let q = v .before .before .before in
-    let h = q .before in
-    let b = h .before .before .before .before .before .before .before in
+    let yes = c .before .before .before .enum-told .given .1 in
+    let i = c .before .before .before .before .before in
+    let v = c .before .before .before .before .before .before .before .before in
+    let q = c .before .before .before .before .before .before .before .before .before .before .before in
+    let b = c .before .before .before .before .before .before .before .before .before .before .before .before .before .before .before .before .before .before .before in
     let s = b .args .state in
     let n = b .pre .0 in (
-      (n .0, n .1, n .2, n .3, sym (gate i) ∙ t .enum-told .given .1),
-      open-whole s _ (sym (i .image-of .ensures) ∙ t .enum-told .given .1) _
-          (λ image records e. same-counts s (n .0) (n .3) _ (h .before .grown .ensures) _ (h .shape2 .ensures .0) (now (b .args .area)) _ (v .survey-counting .ensures .1 image records e)),
+      (n .0, n .1, n .2, n .3, sym (gate i) ∙ yes),
+      open-counts s (n .0) (n .3) (more q) (now (b .args .area)) _ _ (b .pre .1) (v .survey .result) (sym (i .image-of .ensures) ∙ yes) (v .survey .ensures .1),
+      more q,
     )
 
 same-length : tie.Need-same-length
@@ -94,9 +92,8 @@ same-length-2 c = search needs
 
 returns : tie.Need-returns
 returns c =
-    let i = c .before .before .before in
-    let b = i .before .before .before .before .before .before .before .before .before .before .before .before .before .before in
-    entered-shut (b .args .state) (now (b .args .area)) (now (b .args .row)) _ (gate i) _ (c .before .gate .given .1)
+    let b = c .before .before .before .before .before .before .before .before .before .before .before .before .before .before .before .before .before in
+    entered-shut (b .args .state) (now (b .args .area)) (now (b .args .row)) _ (gate (c .before .before .before)) _ (c .before .gate .given .1)
 
 same-length-3 : tie.Need-same-length-3
 same-length-3 c = search needs
@@ -109,11 +106,8 @@ same-length-5 c = search needs
 
 returns-2 : tie.Need-returns-2
 returns-2 c =
-    let g = c .before .before .before .before in
-    let t = g .before .before .before .before in
-    let i = t .before .before in
-    let b = i .before .before .before .before .before .before .before .before .before .before .before .before .before .before in
-    entered-open (b .args .state) (now (b .args .area)) (now (b .args .row)) _ (gate i) (t .enum-told .given .1) _ _ _ (g .grow-image .ensures)
+    let b = c .before .before .before .before .before .before .before .before .before .before .before .before .before .before .before .before .before .before .before .before .before .before .before .before in
+    entered-open (b .args .state) (now (b .args .area)) (now (b .args .row)) _ (gate (c .before .before .before .before .before .before .before .before .before .before)) (c .before .before .before .before .before .before .before .before .enum-told .given .1) _ _ _ (c .before .before .before .before .grow-image .ensures)
 
 pub grow-counting-spec : {M : Type 1} → statement M
 grow-counting-spec =
@@ -124,7 +118,7 @@ grow-counting-spec =
     grown-requires
     shape-requires-2
     last-step-requires
-    survey-counting-requires
+    survey-requires
     image-of-requires
     enum-known-gate
     enum-told

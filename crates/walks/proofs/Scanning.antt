@@ -1,4 +1,5 @@
--- The slots of a page, one by one, on the way to a key: what is left of them decides, and where the scan leaves them.
+-- The slots of a page, one by one, on the way to a key: what is left of them decides, and where the
+-- scan leaves them.
 use mathlib.Core.Path.{_≡_, refl, sym, ap, _∙_}
 use mathlib.Core.Bool.{Bool, true, false, _||_}
 use mathlib.Core.Option.{none, some}
@@ -71,7 +72,8 @@ module _ (h : ℕ → ℕ) (k : ℕ) where
   after-ahead [] f = refl
   after-ahead (x ∷ s) f = rw (le-leb (rankOf h k) (rankIn key h x) (omega (arith, f .0)))
 
-  -- from slot i on, what is left of a page's records tells where the key is held, and where its place is
+  -- from slot i on, what is left of a page's records tells where the key is held, and where its
+  -- place is
   pub record Left (p : Page) (i : ℕ) : Type 0 where
     pub upto : i ≤ p .count
     pub held : heldAt k i (drop i (recordsOf p)) ≡ heldAt k 0 (recordsOf p)
@@ -123,7 +125,8 @@ after-last h k p i l =
     let e : drop i (recordsOf p) ≡ [] = drop-of-length-le (recordsOf p) {i = i} (omega (arith, records-count p)) in
     rw e tt
 
--- the test of slot i on the way to the key k, which lives at a home: t tells whether its record stands after the sought
+-- the test of slot i on the way to the key k, which lives at a home: t tells whether its record
+-- stands after the sought
 pub record Tested (h : ℕ → ℕ) (p : Page) (hs : List ℕ) (k home i : ℕ) (t : Bool) : Type 0 where
   pub rows : Rows h p hs
   pub left : Left h k p i

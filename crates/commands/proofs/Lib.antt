@@ -5,3 +5,4 @@ pub mod Lending
 pub mod Carrying
 pub mod Turning
 pub mod Parts
+pub mod Promises

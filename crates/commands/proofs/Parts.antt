@@ -20,12 +20,8 @@ use Rattle.commands.specs.declared.Item.the-variants.{Asks, Unknown, Cut
 use Rattle.commands.specs.Records.{lengthOf, formOf, commandOf, formed, firstOf}
 use Rattle.commands.specs.Carry.{Site, Carried}
 use Rattle.commands.specs.Log.{Turn, waits, stops, goes, onItem, turn, Log, rests, answered, onTurn, log, wholeLog}
+use Rattle.commands.specs.Promises.{joined}
 use Rattle.commands.proofs.Reading.{head-low, of-number}
-use Rattle.commands.proofs.Turning.{behind}
-
--- one log and then another: the replies one after the other, the bytes taken added, the site and the stop of the second
-abbrev pub joined : Log → Log → Log
-joined a b = behind (a .replies) (a .taken) b
 
 -- the command of a whole record is the same with more behind it
 command-front : (k : Kind) (l m : List ℕ) → lengthOf k ≤ length l → commandOf k (l ++ m) ≡ commandOf k l

@@ -59,7 +59,7 @@ formed l (form.Known k n) = cond (eqb (numberAt 2 l 0) n) (cond (ltb (length l) 
 unfoldable pub firstOf : List ℕ → Item
 firstOf l = cond (ltb (length l) 4) Cut (formed l (formOf (numberAt 2 l 2)))
 
--- the bytes of a command's record: length and kind, "length first", then its numbers. `reads` and `read-only` say that a command is read from these bytes and from no others.
+-- the bytes of a command's record: length and kind, "length first", then its numbers. `LogPromises` (Promises.antt) says that a command is read from these bytes and from no others.
 abbrev pub layoutOf : Command → List Field
 layoutOf (Format q cap) = (2, 12) ∷ (2, 257) ∷ (2, q .n0) ∷ (2, q .n) ∷ (2, q .s) ∷ (2, cap) ∷ []
 layoutOf (Put k v) = (2, 20) ∷ (2, 258) ∷ (8, k) ∷ (8, v) ∷ []

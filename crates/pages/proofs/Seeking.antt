@@ -12,7 +12,7 @@ use lib.ListN.{length, drop, getD}
 use Rattle.pages.specs.declared.Page.{Page}
 use Rattle.pages.specs.Page.{Record, key, homeFor, rank, padded}
 use Rattle.placing.specs.Lay.{ranked}
-use Rattle.pages.specs.Slots.{ahead, upToBack, aheadIn, paired, recordsOf}
+use Rattle.pages.specs.Slots.{ahead, upToBack, paired, recordsOf}
 use Rattle.pages.proofs.Rows.{row-at}
 
 -- the order of (home, key) is that of the ranks
@@ -51,18 +51,9 @@ module _ (f : ℕ → ℕ) (n i r : ℕ) where
       let e : n - i ≡ 0 = omega arith in
       rw e
 
--- the rank at a place, by a row of homes and a row of keys
-abbrev pub rowRank : List ℕ → List ℕ → ℕ → ℕ
-rowRank hs ks j = ranked (getD hs j 0) (getD ks j 0)
-
 -- the rank at a place of a row of keys, whose homes are worked out
 abbrev pub keyRank : (ℕ → ℕ) → List ℕ → ℕ → ℕ
 keyRank h ks j = ranked (h (getD ks j 0)) (getD ks j 0)
-
--- the places passed by both rows are those of the spec
-pub rows-passed : (n i : ℕ) (hs ks : List ℕ) (r : ℕ) → passed (rowRank hs ks) n i r ≡ aheadIn n i hs ks r
-rows-passed zero i hs ks r = refl
-rows-passed (suc n) i hs ks r = ap (λ (on : ℕ). cond (ltb (rowRank hs ks i) r) on i) (rows-passed n (suc i) hs ks r)
 
 module _ {R : Type 0} (rk : R → ℕ) (f : ℕ → ℕ) (r : ℕ) (d : R) where
   -- the places passed are the records ahead in a list that has those ranks
@@ -106,22 +97,12 @@ homes-key h n ks vs hs e j l =
     rw (e, row-at (homeFor h) (paired n ks vs) _ j (0, 0) (omega (arith, paired-length n ks vs)), paired-key n ks vs j l)
 
 module _ (h : ℕ → ℕ) (r : ℕ) where
-  -- on a judged page its rows give the records ahead of r
-  pub place-ahead : (rs : List Record) → aheadIn (length rs) 0 (padded (map (λ x. h (key x)) rs)) (padded (map key rs)) r ≡ ahead (rank h) r rs
-  place-ahead rs =
-      let hs : List ℕ = padded (map (λ x. h (key x)) rs) in
-      let ks : List ℕ = padded (map key rs) in
-      sym (rows-passed (length rs) 0 hs ks r)
-      ∙ passed-ahead (rank h) (rowRank hs ks) r (0, 0) 0 rs
-      (λ j l. rw (zero-add, row-at (λ x. h (key x)) rs _ j (0, 0) l, row-at key rs _ j (0, 0) l))
-      ∙ zero-add (ahead (rank h) r rs)
-
   -- the test of a key whose home was worked out
   pub key-test : (ks : List ℕ) (i home : ℕ) (t u : Bool) → home ≡ h (getD ks i 0) → t ≡ ltb (ranked home (getD ks i 0)) r → t ≡ u
       → ltb (keyRank h ks i) r ≡ u
   key-test ks i home t u e q v = rw (← e, ← q, v)
 
-  -- on a page whose homes are worked out its keys do
+  -- the places passed by the keys of a page are its records ahead of r
   pub records-ahead : (p : Page) → passed (keyRank h (p .keys)) (p .count) 0 r ≡ ahead (rank h) r (recordsOf p)
   unfolding recordsOf
   records-ahead p =

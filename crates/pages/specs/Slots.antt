@@ -5,7 +5,6 @@ use mathlib.Core.List.{List, [], _∷_, _++_}
 use lib.ListN.{take, drop, getD}
 use lib.Dec.{leb, ltb}
 use Rattle.pages.specs.Page.{Record, key, value, inMemory}
-use Rattle.placing.specs.Lay.{ranked}
 use Rattle.pages.specs.declared.Page.{Page}
 use Rattle.pages.specs.declared.Pushed.{Pushed}
 
@@ -28,13 +27,6 @@ module _ {R : Type 0} (rank : R → ℕ) where
   abbrev pub upToBack : ℕ → R → List R → ℕ → ℕ
   upToBack r d s zero = 0
   upToBack r d s (suc n) = let on = upToBack r d s n in cond (ltb (rank (getD s n d)) r) (suc n) on
-
--- how many of n places from i on stand before r, by a row of homes and a row of keys
-abbrev pub aheadIn : (n i : ℕ) → List ℕ → List ℕ → ℕ → ℕ
-aheadIn zero i hs ks r = i
-aheadIn (suc n) i hs ks r =
-    let on = aheadIn n (suc i) hs ks r in
-    cond (ltb (ranked (getD hs i 0) (getD ks i 0)) r) on i
 
 -- the first n records of a page's two rows
 abbrev pub paired : ℕ → List ℕ → List ℕ → List Record

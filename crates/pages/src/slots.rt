@@ -1,5 +1,4 @@
 // Places among the records of a page in memory, and a record put in or taken out.
-use crate::Judged;
 use crate::Page;
 use crate::Pushed;
 use homes::Shape;
@@ -8,30 +7,11 @@ ghost use mathlib.Core.List.{[], _∷_, _++_};
 ghost use Prim.Native.Nat.{_≤_, _<_};
 ghost use lib.ListN.{take};
 ghost use Rattle.homes.specs.Homes.{Ready, homeIn};
-ghost use Rattle.pages.specs.Page.{rank, inMemory, judged};
+ghost use Rattle.pages.specs.Page.{rank, inMemory};
 ghost use Rattle.placing.specs.Lay.{ranked};
-ghost use Rattle.pages.specs.Slots.{opened, closed, ahead, aheadIn, upToBack, recordsOf, pushed};
+ghost use Rattle.pages.specs.Slots.{opened, closed, ahead, upToBack, recordsOf, pushed};
 
-// How many records of a judged page stand before (home, key), from the front.
-pub fn place(judged: Judged, home: u64, key: u64) -> usize
-    requires { ⌜ judged .page .count ≤ 12 ⌝ }
-    ensures { λ r. ⌜ r ≡ aheadIn (judged .page .count) 0 (judged .homes) (judged .page .keys) (ranked home key) ⌝ }
-{
-    let homes = judged.homes;
-    let page = judged.page;
-    let count = page.count;
-    let keys = page.keys;
-    let mut i = 0;
-    while i < count {
-        if !crate::before(homes[i], keys[i], home, key) {
-            return i;
-        }
-        i += 1;
-    }
-    i
-}
-
-// The same where no home is known: homes are worked out as they are met, from the front.
+// How many records of a page stand before (home, key), from the front. Their homes are worked out as they are met.
 pub fn place_ahead(page: Page, shape: Shape, home: u64, key: u64) -> usize
     requires { ⌜ (page .count ≤ 12) × Ready shape ⌝ }
     ensures { λ r. ⌜ r ≡ ahead (rank (homeIn shape)) (ranked home key) (recordsOf page) ⌝ }

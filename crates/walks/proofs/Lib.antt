@@ -1,3 +1,4 @@
+pub mod Scanning
 pub mod Meeting
 pub mod PutPlan
 pub mod Pouring

@@ -20,7 +20,7 @@ use Rattle.pages.proofs.Places.{ins-opened, ahead-le}
 use Rattle.pages.proofs.Areas.{with-length, part-other}
 use Rattle.walks.specs.Walks.{writes}
 use Rattle.walks.specs.Plans.{held, poured}
-use Rattle.walks.proofs.Meeting.{records-count}
+use Rattle.walks.proofs.Scanning.{records-count}
 
 -- the place on a page after the first is sought
 pub place-sought : (h : ℕ → ℕ) (rs : List Record) (known : Bool) (at key home : ℕ) → known ≡ false → home ≡ h key

@@ -25,7 +25,8 @@ use Rattle.walks.specs.declared.Plan.{Plan}
 use Rattle.walks.specs.declared.Plan.the-variants.{Go, Stop}
 use Rattle.walks.specs.Walks.{Pages, went, stopped, wrote, heldAt, onHeld, endsOn, meets, walk, carry, putMet, putWalk}
 use Rattle.walks.specs.Plans.{held, poured, reached, planned, placedIn}
-use Rattle.walks.proofs.Meeting.{Seen, pages-next, page-broken, page-read, records-count}
+use Rattle.walks.proofs.Scanning.{records-count}
+use Rattle.walks.proofs.Meeting.{Seen, pages-next, page-broken, page-read}
 
 -- what is left of the way to the first page with room, from page a on, where n pages were read
 abbrev pub reachLeft : (ℕ → ℕ) → List ℕ → (cap f at a n : ℕ) → Plan

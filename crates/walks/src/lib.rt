@@ -48,7 +48,7 @@ pub enum Plan {
     },
 }
 
-// The walk to a key, page by page and slot by slot, left from inside.
+// The walk to a key, page by page and slot by slot, left from inside: at a slot that is empty or stands after the sought (home, key), and at the key.
 pub fn meet(area: &[u8], cap: usize, shape: Shape, key: u64) -> Met
     requires { ⌜ (cap ≤ 4096) × (length (now area) ≡ 256 * cap) × Ready shape × (shape .p ≤ cap) ⌝ }
     ensures { λ r. ⌜ r ≡ walk (homeIn shape) (now (area .entry)) cap key ⌝ }
@@ -57,7 +57,7 @@ pub fn meet(area: &[u8], cap: usize, shape: Shape, key: u64) -> Met
     let home = shape.home(key);
     let mut a = home as usize;
     let mut read: u32 = 0;
-    let met = 'pages: loop {
+    'pages: loop {
         if cap <= a {
             break 'pages Met::Past { read };
         }
@@ -66,12 +66,19 @@ pub fn meet(area: &[u8], cap: usize, shape: Shape, key: u64) -> Met
         if !judged.good {
             break 'pages Met::Sick { page: a, read };
         }
-        let page = judged.page;
-        let count = page.count;
-        let keys = page.keys;
-        let values = page.values;
-        let mut slot = 0;
-        while slot < count {
+        let count = judged.page.count;
+        let keys = judged.page.keys;
+        let values = judged.page.values;
+        let homes = judged.homes;
+        for slot in 0..12 {
+            if (slot == count) | pages::before(home, key, homes[slot], keys[slot]) {
+                break 'pages Met::Ends {
+                    page: a,
+                    at: slot,
+                    count,
+                    read,
+                };
+            }
             if keys[slot] == key {
                 let value = values[slot];
                 break 'pages Met::Found {
@@ -82,18 +89,7 @@ pub fn meet(area: &[u8], cap: usize, shape: Shape, key: u64) -> Met
                     read,
                 };
             }
-            slot += 1;
-        }
-        let at = pages::slots::place(judged, home, key);
-        if at < 12 {
-            break 'pages Met::Ends {
-                page: a,
-                at,
-                count,
-                read,
-            };
         }
         a += 1;
-    };
-    met
+    }
 }

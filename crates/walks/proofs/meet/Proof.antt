@@ -1,26 +1,23 @@
--- `walks::meet` meets its contract. The outer invariant: what is left of the walk is the whole of it. The inner one: what is left of the page's slots is all of them.
-use mathlib.Core.Path.{_≡_, refl, sym, _∙_}
+-- `walks::meet` meets its contract. The outer invariant: what is left of the walk is the whole of it. The inner one: what is left of the page's slots decides as all of them do.
+use mathlib.Core.Path.{_≡_, refl, _∙_}
 use mathlib.Core.Bool.{true}
 use Prim.Native.Nat.{_-_, _≤_, _<_}
-use native.Mathlib.Nat.{lt-of-lt-of-le}
 use native.Mathlib.Omega.{arith}
-use borrow.Author.Needs.{needs, scaled-fits}
+use borrow.Author.Needs.{needs}
 use borrow.Author.Tests.{not-true, not-false}
 use denote.Ref.{now}
-use lib.Dec.{lit<}
 use Rattle.homes.specs.Homes.{homeIn}
-use Rattle.pages.specs.Slots.{recordsOf}
-use Rattle.walks.specs.Walks.{heldAt, walk}
-use Rattle.walks.proofs.Meeting.{home-fits, Seen, Missed, page-few, slotsLeft, slot-on, slot-hit, slot-end, walkLeft, walk-starts, walk-past, walk-sick, walk-found, place-fits, walk-ends, walk-on}
+use Rattle.walks.specs.Walks.{walk}
+use Rattle.walks.proofs.Scanning.{Left, Rows, Tested, left-all, after-last, slot-after, slot-used, slot-hit, slot-on}
+use Rattle.walks.proofs.Meeting.{home-fits, Seen, page-few, page-rows, walkLeft, walk-starts, walk-past, walk-sick, walk-found, walk-ends, walk-on}
 use Rattle.walks.proofs.meet.Statement.{statement}
 use Rattle.walks.proofs.meet.Tie as tie
 
 abbrev Inv-loop : tie.InvT-loop
-Inv-loop area cap shape key home a read judged count keys values slot₀ slot = (slot ≤ count) × (slotsLeft (judged .page) key slot ≡ heldAt key 0 (recordsOf
-    (judged .page)))
+Inv-loop area cap shape key home a read count keys values homes slot₀ slot = Left (homeIn shape) key (record { count = count; keys = keys; values = values }) slot
 
 abbrev μ-loop : tie.MeasureT-loop
-μ-loop area cap shape key home a read judged count keys values slot₀ slot = count - slot
+μ-loop area cap shape key home a read count keys values homes slot₀ slot = 12 - slot
 
 abbrev Inv-pages : tie.InvT-pages
 Inv-pages area cap shape key home a₀ read₀ a read =
@@ -54,28 +51,68 @@ seen c = record { lies = c .before .if1 .left; is = c .judge-at .ensures }
 good : (c : tie.Else2 Inv-loop μ-loop Inv-pages μ-pages) → c .before .before .judge-at .result .good ≡ true
 good c = not-false _ (c .if2 .left)
 
+-- and its rows are known
+rows : (c : tie.Else2 Inv-loop μ-loop Inv-pages μ-pages)
+    → Rows (homeIn (c .before .before .before .before .before .before .before .args .shape)) (c .before .before .judge-at .result .page)
+    (c .before .before .judge-at .result .homes)
+rows c =
+    let j = c .before .before in
+    let w = j .before .before in
+    let s = w .before .before .before in
+    page-rows (seen j) (good c) (omega (arith, s .pre, w .pages .inv, j .before .if1)) (λ i. omega (arith, w .before .before .shared-slice-known .given i))
+
 -- and has twelve records at most
 few : (c : tie.Else2 Inv-loop μ-loop Inv-pages μ-pages) → c .before .before .judge-at .result .page .count ≤ 12
 few c = page-few (seen (c .before .before)) (good c)
 
+-- a slot is tested for what is left from it on
+tested : (c : tie.After-before2 Inv-loop μ-loop Inv-pages μ-pages)
+    → Tested (homeIn (c .before .before .before .before .before .before .before .before .before .before .before .before .before .args .shape))
+    (c .before .before .before .before .before .before .before .before .judge-at .result .page)
+    (c .before .before .before .before .before .before .before .before .judge-at .result .homes)
+    (c .before .before .before .before .before .before .before .before .before .before .before .before .before .args .key)
+    (c .before .before .before .before .before .before .before .before .before .before .before .home .result)
+    (c .before .before .loop .slot) (c .before2 .result)
+tested c =
+    let d = c .before .before .before .before .before .before in
+    let w = d .before .before .before .before in
+    record {
+      rows = rows d;
+      left = c .before .before .loop .inv;
+      small = omega (arith, w .before .before .before .fits);
+      lives = w .before .home .ensures;
+      told = c .before2 .ensures;
+    }
+
 loop-holds : tie.Need-loop-holds Inv-loop μ-loop Inv-pages μ-pages
-loop-holds c = search needs
+loop-holds c = left-all _ _ _
 
-mul-if3 : tie.Need-mul-if3 Inv-loop μ-loop Inv-pages μ-pages
-mul-if3 c =
-    let l : c .before .loop .slot < 12 = lt-of-lt-of-le (c .loop-test .taken) (few (c .before .before .before .before .before)) in
-    scaled-fits (c .before .loop .slot) 12 8 l (lit< tt)
+mul-before : tie.Need-mul-before Inv-loop μ-loop Inv-pages μ-pages
+mul-before c = search needs
 
-array-read-if3 : tie.Need-array-read-if3 Inv-loop μ-loop Inv-pages μ-pages
-array-read-if3 c = lt-of-lt-of-le (c .loop-test .taken) (few (c .before .before .before .before .before))
+array-read-before : tie.Need-array-read-before Inv-loop μ-loop Inv-pages μ-pages
+array-read-before c = search needs
+
+mul-before-2 : tie.Need-mul-before-2 Inv-loop μ-loop Inv-pages μ-pages
+mul-before-2 c = search needs
+
+array-read-before-2 : tie.Need-array-read-before-2 Inv-loop μ-loop Inv-pages μ-pages
+array-read-before-2 c = search needs
+
+before-requires : tie.Need-before-requires Inv-loop μ-loop Inv-pages μ-pages
+before-requires c κs = search needs
+
+mul-if4 : tie.Need-mul-if4 Inv-loop μ-loop Inv-pages μ-pages
+mul-if4 c = search needs
+
+array-read-if4 : tie.Need-array-read-if4 Inv-loop μ-loop Inv-pages μ-pages
+array-read-if4 c = search needs
 
 mul-value : tie.Need-mul-value Inv-loop μ-loop Inv-pages μ-pages
-mul-value c =
-    let l : c .before .before .loop .slot < 12 = lt-of-lt-of-le (c .before .loop-test .taken) (few (c .before .before .before .before .before .before)) in
-    scaled-fits (c .before .before .loop .slot) 12 8 l (lit< tt)
+mul-value c = search needs
 
 array-read-value : tie.Need-array-read-value Inv-loop μ-loop Inv-pages μ-pages
-array-read-value c = lt-of-lt-of-le (c .before .loop-test .taken) (few (c .before .before .before .before .before .before))
+array-read-value c = search needs
 
 add-slot : tie.Need-add-slot Inv-loop μ-loop Inv-pages μ-pages
 add-slot c = search needs
@@ -84,31 +121,7 @@ loop-less : tie.Need-loop-less Inv-loop μ-loop Inv-pages μ-pages
 loop-less c = search needs
 
 loop-again : tie.Need-loop-again Inv-loop μ-loop Inv-pages μ-pages
-loop-again c = (omega arith, slot-on _ _ _ (c .before .loop-test .taken) (c .if3 .left) ∙ c .before .before .loop .inv .1)
-
-place-requires : tie.Need-place-requires Inv-loop μ-loop Inv-pages μ-pages
-place-requires c κs = few (c .before .before .before .before .before)
-
--- where no slot holds the key, its place is sought
-missed : (c : tie.After-place Inv-loop μ-loop Inv-pages μ-pages)
-    → Missed (homeIn (c .before .before .before .before .before .before .before .before .before .before .before .before .before .args .shape)) (now
-    (c .before .before .before .before .before .before .before .before .before .before .before .before .before .args .area))
-    (c .before .before .before .before .before .before .before .before .before .before .pages .a)
-    (c .before .before .before .before .before .before .before .before .before .before .before .before .before .args .key)
-    (c .before .before .before .before .before .before .before .before .before .before .before .home .result) (c .place .result)
-    (c .before .before .before .before .before .before .before .before .judge-at .result)
-missed c =
-    let l = c .before .before in
-    let w = l .before .before .before .before .before .before .before .before in
-    let s = w .before .before .before in
-    record {
-      fits = omega (arith, s .pre, w .pages .inv, l .before .before .before .before .before .before .before .if1);
-      bytes = λ i. omega (arith, w .before .before .shared-slice-known .given i);
-      small = omega (arith, s .fits);
-      away = sym (l .loop .inv .1) ∙ slot-end _ _ _ (c .before .loop-test .left);
-      lives = w .before .home .ensures;
-      placed = c .place .ensures;
-    }
+loop-again c = slot-on (tested (c .before .before)) (c .before .if3 .left) (c .if4 .left)
 
 add-a : tie.Need-add-a Inv-loop μ-loop Inv-pages μ-pages
 add-a c = search needs
@@ -118,11 +131,16 @@ pages-less c = search needs
 
 pages-again : tie.Need-pages-again Inv-loop μ-loop Inv-pages μ-pages
 pages-again c =
-    let d = c .before .before .before .before .before .before .before in
+    let d = c .before .before .before .before .before in
     let j = d .before .before in
     let w = j .before .before in
-    let k = w .before .before .before .args .key in
-    (omega arith, omega arith, walk-on (seen j) k (w .pages .read) (good d) (missed (c .before)) (c .if4 .left) ∙ w .pages .inv .2)
+    let s = w .before .before .before in
+    let left = c .before .loop .inv in
+    let after = after-last (homeIn (s .args .shape)) (s .args .key) (j .judge-at .result .page) (c .before .loop .slot) (omega (arith, c .loop-test .left, few d)) in (
+      omega arith,
+      omega arith,
+      walk-on (seen j) (s .args .key) (w .pages .read) (good d) (rows d) (omega (arith, s .fits)) left after (c .loop-test .left) ∙ w .pages .inv .2,
+    )
 
 returns : tie.Need-returns Inv-loop μ-loop Inv-pages μ-pages
 returns c =
@@ -141,22 +159,27 @@ returns-2 c =
 
 returns-3 : tie.Need-returns-3 Inv-loop μ-loop Inv-pages μ-pages
 returns-3 c =
-    let d = c .before .before .before .before .before .before in
+    let b = c .before in
+    let d = b .before .before .before .before .before .before in
     let j = d .before .before in
     let w = j .before .before in
     let s = w .before .before .before in
-    let held = sym (c .before .before .loop .inv .1) ∙ slot-hit _ _ _ (c .before .loop-test .taken) (c .if3 .taken) in
-    (walk-found (seen j) (s .args .key) (w .pages .read) (good d) _ _ held ∙ w .pages .inv .2, (omega arith, omega arith, few d, omega arith))
+    let t = tested b in (
+      walk-ends (seen j) (s .args .key) (w .pages .read) (good d) (rows d) (t .small) (t .left) (slot-after t (c .if3 .taken)) (b .before .loop-test .taken)
+          ∙ w .pages .inv .2,
+      (j .before .if1 .left, t .left .upto, few d, omega arith, omega arith),
+    )
 
 returns-4 : tie.Need-returns-4 Inv-loop μ-loop Inv-pages μ-pages
 returns-4 c =
-    let d = c .before .before .before .before .before .before .before in
+    let b = c .before .before in
+    let d = b .before .before .before .before .before .before in
     let j = d .before .before in
     let w = j .before .before in
-    let k = w .before .before .before .args .key in
-    let m = missed (c .before) in (
-      walk-ends (seen j) k (w .pages .read) (good d) m (c .if4 .taken) ∙ w .pages .inv .2,
-      (j .before .if1 .left, place-fits (seen j) k (w .pages .read) (good d) m, few d, omega arith, omega arith),
+    let s = w .before .before .before in
+    let t = tested b in (
+      walk-found (seen j) (s .args .key) (w .pages .read) (good d) _ _ (slot-hit t (c .before .if3 .left) (c .if4 .taken)) ∙ w .pages .inv .2,
+      (j .before .if1 .left, slot-used t (c .before .if3 .left), few d, omega arith),
     )
 
 pub meet-spec : {M : Type 1} → statement M
@@ -172,14 +195,18 @@ meet-spec =
     judge-at-requires
     add-read
     loop-holds
-    mul-if3
-    array-read-if3
+    mul-before
+    array-read-before
+    mul-before-2
+    array-read-before-2
+    before-requires
+    mul-if4
+    array-read-if4
     mul-value
     array-read-value
     add-slot
     loop-less
     loop-again
-    place-requires
     add-a
     pages-less
     pages-again

@@ -17,7 +17,7 @@ use Rattle.commands.specs.Log.{Log, log, wholeLog}
 -- the numbers of a command are of the width that they have in its record: "n0, N, s, cap (2 bytes
 -- each)", and a key and a value of 64 bits
 abbrev pub Sized : Command → Type 0
-Sized (Format n0 N s cap) = (n0 < 2 ^ 16) × (N < 2 ^ 16) × (s < 2 ^ 16) × (cap < 2 ^ 16)
+Sized (Format q cap) = (q .n0 < 2 ^ 16) × (q .n < 2 ^ 16) × (q .s < 2 ^ 16) × (cap < 2 ^ 16)
 Sized (Put k v) = (k < 2 ^ 64) × (v < 2 ^ 64)
 Sized (Find k) = k < 2 ^ 64
 Sized (Remove k) = k < 2 ^ 64

@@ -1,3 +1,4 @@
 pub mod Histories
+pub mod ReadMoved
 pub mod Demands
 pub mod Answers

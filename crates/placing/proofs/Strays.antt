@@ -1,6 +1,6 @@
 -- Records that lie on another page than before: none where a page is left as it is, and one for each time that a put's walk hands one on.
 use mathlib.Core.Path.{_≡_, refl, sym, ap, _∙_}
-use mathlib.Core.Bool.{Bool, true, false, cond}
+use mathlib.Core.Bool.{Bool, true, false, cond, not}
 use mathlib.Core.Option.{Option, none, some}
 use mathlib.Core.List.{List, [], _∷_, _++_, append-assoc, Permᴰ·symm}
 use Prim.Native.Nat.{ℕ, zero, suc, _+_, _≤_, _<_}
@@ -10,15 +10,20 @@ use lib.ListN.{length, take, getD, length-append}
 use lib.Seq.{take-at, getD-at}
 use borrow.Author.Tests.{ltb-true, ltb-false, lt-ltb, eqb-true}
 use Rattle.placing.specs.Image.{All, cat, page, Distinct}
-use Rattle.placing.specs.Lay.{one, count, ins}
+use Rattle.placing.specs.Lay.{ins}
 use Rattle.placing.specs.Rows.{isThere, strays, strayed}
 use Rattle.placing.specs.Walks.{seek, lastAfter, carry}
 use Rattle.placing.proofs.Lists.{all-map, all-left, all-right, all-page}
 use Rattle.placing.proofs.Order.{Sorted, sorted-right, ins-length, ins-front}
 use Rattle.placing.proofs.Seek.{clash, seek-ne, ne-seek, seek-here}
-use Rattle.placing.proofs.Perms.{perm-seek, ins-perm}
+use Rattle.placing.proofs.Perms.{perm-count, perm-seek, ins-perm}
 
 module _ {R : Type 0} where
+  -- what holds of the page at each address holds of all
+  pub all-pages : (P : List R → Type 0) (ps : List (List R)) → ((a : ℕ) → P (page ps a)) → All P ps
+  all-pages P [] h = tt
+  all-pages P (p ∷ ps) h = (h 0, all-pages P ps (λ a. h (suc a)))
+
   -- the records of the pages in front stand first
   pub cat-append : (ps qs : List (List R)) → cat (ps ++ qs) [] ≡ cat ps [] ++ cat qs []
   cat-append [] qs = refl
@@ -86,7 +91,7 @@ module _ {R : Type 0} (key : R → ℕ) where
   strays-none p (x ∷ q) h = rw (h .0) (omega (arith, strays-none p q (h .1)))
 
   -- a page that does not hold z, and all else
-  pub strays-one : (p : List R) (z : R) (q : List R) → seek key (key z) p ≡ none → All (There p) q → strays key p (z ∷ q) ≡ 1
+  strays-one : (p : List R) (z : R) (q : List R) → seek key (key z) p ≡ none → All (There p) q → strays key p (z ∷ q) ≡ 1
   strays-one p z q e h = rw e (omega (arith, strays-none p q h))
 
   pub strayed-none : (ps : List (List R)) → strayed key ps ps ≡ 0
@@ -100,21 +105,25 @@ module _ {R : Type 0} (key : R → ℕ) where
 
   module _ (rank : R → ℕ) where
     -- a record that comes to a page is found there with the others
-    pub seek-ins : (k : ℕ) (x : R) (p : List R) → Distinct key (x ∷ p) → seek key k (ins rank x p) ≡ seek key k (x ∷ p)
+    seek-ins : (k : ℕ) (x : R) (p : List R) → Distinct key (x ∷ p) → seek key k (ins rank x p) ≡ seek key k (x ∷ p)
     seek-ins k x p d = sym (perm-seek key k (Permᴰ·symm (ins-perm rank x p)) d)
+
+    -- and is the only one that was not there
+    pub strays-ins : (p : List R) (z : R) (q : List R) → seek key (key z) p ≡ none → All (There p) q → strays key p (ins rank z q) ≡ 1
+    strays-ins p z q e h = perm-count (λ x. not (isThere (seek key (key x) p))) (ins-perm rank z q) ∙ strays-one p z q e h
 
     there-ins : (x : R) (p : List R) → Distinct key (x ∷ p) → All (There (ins rank x p)) p
     there-ins x p d =
         all-map (There (x ∷ p)) (There (ins rank x p)) (λ y t. ap (λ (o : Option R). isThere o) (seek-ins (key y) x p d) ∙ t) p (there-on x p p (there p))
 
     -- a list whose last stands after r
-    pub record EndsAfter (r : ℕ) (p : List R) : Type 0 where
-      pub front : List R
-      pub last : R
-      pub whole : p ≡ front ++ (last ∷ [])
-      pub after : r < rank last
+    record EndsAfter (r : ℕ) (p : List R) : Type 0 where
+      front : List R
+      last : R
+      whole : p ≡ front ++ (last ∷ [])
+      after : r < rank last
 
-    pub last-cut : (r : ℕ) (p : List R) → lastAfter rank r p ≡ true → EndsAfter r p
+    last-cut : (r : ℕ) (p : List R) → lastAfter rank r p ≡ true → EndsAfter r p
     last-cut r [] e = absurd (let z : _≡_ {A = ℕ} 0 1 = cc in omega arith)
     last-cut r (y ∷ []) e = record { front = []; last = y; whole = refl; after = ltb-true r (rank y) e }
     last-cut r (y ∷ (w ∷ p)) e =
@@ -134,10 +143,10 @@ module _ {R : Type 0} (key : R → ℕ) where
       fills : length (ins rank x (t .front)) ≡ b
       fills = omega (arith, ins-length rank x (t .front), length-append (t .front) (t .last ∷ []), ap length (t .whole))
 
-      pub stays-on : take b (ins rank x p) ≡ ins rank x (t .front)
+      stays-on : take b (ins rank x p) ≡ ins rank x (t .front)
       stays-on = rw opens (take-at (ins rank x (t .front)) (t .last ∷ []) b fills)
 
-      pub handed-on : getD (ins rank x p) b x ≡ t .last
+      handed-on : getD (ins rank x p) b x ≡ t .last
       handed-on = rw opens (getD-at (ins rank x (t .front)) (t .last) [] x b fills)
 
       -- it is the one record that the page no longer holds
@@ -154,25 +163,47 @@ module _ {R : Type 0} (key : R → ℕ) where
             strays-one (ins rank x (t .front)) (t .last) [] n tt,
           ))
 
-module _ {R : Type 0} (key rank : R → ℕ) (b : ℕ) (pos : 0 < b) where
+module _ {R : Type 0} (rank : R → ℕ) (b : ℕ) where
   -- how often a record that comes to the first of these pages makes one go on to the next
   abbrev pub hops : R → List (List R) → ℕ
   hops x [] = 0
   hops x (p ∷ ps) = cond (ltb (length p) b) 0 (suc (hops (getD (ins rank x p) b x) ps))
 
   -- what is of rank r does not go past the first page
-  abbrev pub Ends : ℕ → List (List R) → Type 0
-  Ends r [] = Unit {0}
-  Ends r (p ∷ ps) = ltb (length p) b ≡ false → lastAfter rank r p ≡ true
+  abbrev pub EndsFirst : ℕ → List (List R) → Type 0
+  EndsFirst r [] = Unit {0}
+  EndsFirst r (p ∷ ps) = ltb (length p) b ≡ false → lastAfter rank r p ≡ true
 
-  -- as what stands before all of them
-  all-ends : (r : ℕ) (ps : List (List R)) → All (λ y. r < rank y) (cat ps []) → Ends r ps
+module _ {R : Type 0} (key rank : R → ℕ) (b : ℕ) (pos : 0 < b) where
+  -- what stands before all of the records goes to the first page
+  all-ends : (r : ℕ) (ps : List (List R)) → All (λ y. r < rank y) (cat ps []) → EndsFirst rank b r ps
   all-ends r [] h = tt
   all-ends r (p ∷ ps) h = λ e. all-last key rank r p (omega (arith, ltb-false (length p) b e)) (all-left (λ y. r < rank y) p (cat ps []) h)
 
+  -- the first page then holds x
+  pub first-holds : (x : R) (p : List R) (ps : List (List R)) → length p ≤ b → EndsFirst rank b (rank x) (p ∷ ps) → Distinct key (x ∷ p) → seek key (key x) (page (carry rank b x (p ∷ ps) .0) 0) ≡ some x
+  first-holds x p ps l e d = go (ltb (length p) b) refl
+    where
+      q : List R
+      q = ins rank x p
+
+      on : List (List R) × List R
+      on = carry rank b (getD q b x) ps
+
+      came : Bool → List (List R) × List R
+      came u = cond u (q ∷ ps, []) (take b q ∷ on .0, on .1)
+
+      go : (u : Bool) → ltb (length p) b ≡ u → seek key (key x) (page (came u .0) 0) ≡ some x
+      go true f = seek-ins key rank (key x) x p d ∙ seek-here key x p
+      go false f =
+          let full : length p ≡ b = omega (arith, ltb-false (length p) b f) in
+          let t = last-cut key rank (rank x) p (e f) in
+          let g : Distinct key (x ∷ (t .front ++ (t .last ∷ []))) = rw (t .whole) at d in
+          rw (stays-on key rank b x p full t) (seek-ins key rank (key x) x (t .front) (distinct-left key (x ∷ t .front) (t .last ∷ []) g) ∙ seek-here key x (t .front))
+
   -- so many records of sorted pages are no longer on their page when x has come to the first
-  pub hops-strayed : (x : R) (ps : List (List R)) → All (λ p. length p ≤ b) ps → Ends (rank x) ps → Sorted rank (cat ps []) → Distinct key (x ∷ cat ps [])
-      → strayed key (carry rank b x ps .0) ps ≡ hops x ps
+  pub hops-strayed : (x : R) (ps : List (List R)) → All (λ p. length p ≤ b) ps → EndsFirst rank b (rank x) ps → Sorted rank (cat ps []) → Distinct key (x ∷ cat ps [])
+      → strayed key (carry rank b x ps .0) ps ≡ hops rank b x ps
   hops-strayed x [] w e s d = refl
   hops-strayed x (p ∷ ps) w e s d = go (ltb (length p) b) refl (hops-strayed (getD (ins rank x p) b x) ps (w .1))
     where
@@ -188,8 +219,8 @@ module _ {R : Type 0} (key rank : R → ℕ) (b : ℕ) (pos : 0 < b) where
       here : Distinct key (x ∷ p)
       here = distinct-left key (x ∷ p) t d
 
-      go : (u : Bool) → ltb (length p) b ≡ u → (Ends (rank y) ps → Sorted rank t → Distinct key (y ∷ t) → strayed key (carry rank b y ps .0) ps ≡ hops y ps)
-          → strayed key (came u .0) (p ∷ ps) ≡ cond u 0 (suc (hops y ps))
+      go : (u : Bool) → ltb (length p) b ≡ u → (EndsFirst rank b (rank y) ps → Sorted rank t → Distinct key (y ∷ t) → strayed key (carry rank b y ps .0) ps ≡ hops rank b y ps)
+          → strayed key (came u .0) (p ∷ ps) ≡ cond u 0 (suc (hops rank b y ps))
       go true f ih = omega (arith, strays-none key (ins rank x p) p (there-ins key rank x p here), strayed-none key ps)
       go false f ih =
           let full : length p ≡ b = omega (arith, ltb-false (length p) b f, w .0) in

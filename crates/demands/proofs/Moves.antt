@@ -141,7 +141,7 @@ module _ {h : ℕ → ℕ} {n : ℕ} {ps : List (List Record)} (c : Clean h n ps
     front = before c (key x) l g t
 
     -- a put leaves the pages before the one where its walk ends
-    pub put-halt : putIn key h 12 x ps .0 ≡ front ++ carried (rankIn key h) 12 x (t .last ∷ t .rest) .0
+    put-halt : putIn key h 12 x ps .0 ≡ front ++ carried (rankIn key h) 12 x (t .last ∷ t .rest) .0
     put-halt =
         rw (t .whole, put-passed h x (t .front) (t .last ∷ t .rest) (t .passed), put-page h x (t .last) (t .rest), e)
         (sym (append-assoc (take (h (key x)) ps) (t .front) (carried (rankIn key h) 12 x (t .last ∷ t .rest) .0)))

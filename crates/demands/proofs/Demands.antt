@@ -15,11 +15,13 @@ use Rattle.state.specs.State.{homes, grown}
 use Rattle.register.specs.Files.{Call, find, put, remove, grow, due, File, Left, left, numbersOf}
 use Rattle.demands.specs.Histories.{refusal, Kept, stateOf, commitOf}
 use Rattle.demands.specs.Demands.{Fresh, Tells, Row, Found, Retried, Removed, Sound, TheImage, RoomPut, RoomGrow, Counted, Agree, AfterFresh, Demands}
+use Rattle.demands.specs.ReadMoved.{ReadHeld, ReadAbsent, ReadWithin, Moved}
 use Rattle.demands.proofs.OnImage.{on-clean}
 use Rattle.demands.proofs.Sets.{set-put, same-records}
 use Rattle.demands.proofs.Standing.{Stands, fileOf, find-held, find-absent, remove-absent, remove-held, put-full, put-new}
 use Rattle.demands.proofs.Unchanged.{total}
 use Rattle.demands.proofs.Steps.{Step, refused, accepted, said, plain-number, Puts, was, turned-away, joined, Grows, other-row, at-cap, crowded, larger, room-told, grow-no-room, grow-with-room, put-comes, grow-comes, check-stands, due-stands, step, history}
+use Rattle.demands.proofs.ReadMoved.{read-held-stands, read-absent-stands, read-within-stands, moved-stands}
 
 -- after a fresh history the file is the image of what is kept
 stands : (m : Kept) (f : File) → Fresh m f → (ps : List (List Record)) × ((f ≡ fileOf m ps) × Stands m ps)
@@ -160,4 +162,8 @@ demands =
       room-put = after-fresh RoomPut room-put-stands;
       room-grow = after-fresh RoomGrow room-grow-stands;
       counted = after-fresh Counted counted-stands;
+      read-held = after-fresh (λ m. ReadHeld) read-held-stands;
+      read-absent = after-fresh (λ m. ReadAbsent) read-absent-stands;
+      read-within = after-fresh (λ m. ReadWithin) read-within-stands;
+      moved = after-fresh (λ m. Moved) moved-stands;
     }

@@ -5,6 +5,7 @@ pub mod Went
 pub mod FindWalk
 pub mod PutWalk
 pub mod RemoveWalk
+pub mod Moves
 pub mod GrownImage
 pub mod Sets
 pub mod Standing
@@ -12,6 +13,8 @@ pub mod Unchanged
 pub mod Answers
 pub mod Fresh
 pub mod Steps
+pub mod FindReads
+pub mod ReadMoved
 pub mod Demands
 pub mod Session
 pub mod InOrder

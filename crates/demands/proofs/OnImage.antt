@@ -1,12 +1,17 @@
 -- A file that is the image of its records.
 use mathlib.Core.Path.{_≡_, ap, _∙_}
 use mathlib.Core.Bool.{true}
-use mathlib.Core.List.{List}
+use mathlib.Core.List.{List, [], Permᴰ·symm}
 use Prim.Native.Nat.{ℕ, _*_, _^_, _≤_, _<_}
 use native.Mathlib.Omega.{arith}
 use lib.ListN.{length}
 use Rattle.homes.proofs.Homes.{home-below}
-use Rattle.placing.specs.Image.{All, RecordSet, Image}
+use Rattle.placing.specs.Image.{All, cat, Distinct, RecordSet, Image}
+use Rattle.placing.specs.Lay.{rankIn}
+use Rattle.placing.proofs.Order.{Sorted}
+use Rattle.placing.proofs.Perms.{perm-distinct}
+use Rattle.placing.proofs.Tidy.{image-tidy}
+use Rattle.placing.proofs.Strays.{all-pages}
 use Rattle.pages.specs.Page.{Record, key, value}
 use Rattle.pages.specs.Area.{areaFrom}
 use Rattle.pages.proofs.Areas.{area-length}
@@ -42,3 +47,13 @@ module _ {s : State} {rs : List Record} {ps : List (List Record)} (w : OnImage s
   -- and a home is one of its pages
   pub home-low : (k : ℕ) → homes s k ≤ s .cap
   home-low k = omega (arith, home-below (s .params) (s .p) k (in-shape s (w .range)), ranged s (w .range) .p-high)
+
+  -- its records stand in order, no request twice, and twelve to a page
+  pub on-sorted : Sorted (rankIn key (homes s)) (cat ps [])
+  on-sorted = image-tidy key (homes s) 12 (w .set) (w .image) .sorted
+
+  pub on-once : Distinct key (cat ps [])
+  on-once = perm-distinct key (Permᴰ·symm (w .image .arranged .holds)) (w .set .once)
+
+  pub on-slots : All (λ p. length p ≤ 12) ps
+  on-slots = all-pages (λ p. length p ≤ 12) ps (w .image .arranged .slots)

@@ -80,12 +80,12 @@ module _ (h : ℕ → ℕ) where
 
   module _ (x : Record) where
     -- put at a page, its two tests as one
-    put-page : (p : List Record) (qs : List (List Record))
+    pub put-page : (p : List Record) (qs : List (List Record))
         → put rank 12 x (p ∷ qs) ≡ cond (endsOn h (key x) p) (carried rank 12 x (p ∷ qs)) (p ∷ put rank 12 x qs .0, put rank 12 x qs .1)
     put-page p qs = cond-or (ltb (length p) 12) (lastAfter rank (rank x) p) (carried rank 12 x (p ∷ qs)) (p ∷ put rank 12 x qs .0, put rank 12 x qs .1)
 
     -- pages that the walk passes stay
-    put-passed : (way qs : List (List Record)) → All (Passed h (key x)) way → put rank 12 x (way ++ qs) ≡ (way ++ put rank 12 x qs .0, put rank 12 x qs .1)
+    pub put-passed : (way qs : List (List Record)) → All (Passed h (key x)) way → put rank 12 x (way ++ qs) ≡ (way ++ put rank 12 x qs .0, put rank 12 x qs .1)
     put-passed [] qs t = refl
     put-passed (p ∷ way) qs t = put-page p (way ++ qs) ∙ rw (t .0 .on, put-passed way qs (t .1))
 

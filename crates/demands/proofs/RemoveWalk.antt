@@ -53,7 +53,7 @@ held-closed k i j v (x ∷ p) e = go (eqb (key x) k) e (held-closed k (suc i) j 
         (suc (t .0), omega (arith, t .1), ap (λ (s : List Record). x ∷ s) (t .2))
 
 -- or with its rank taken out
-held-del : (h : ℕ → ℕ) (k i v : ℕ) (p : List Record) → k < 2 ^ 64 → All Small p → heldAt k 0 p ≡ some (i, v) → closed i p ≡ del (rankIn key h) (rankOf h k) p
+pub held-del : (h : ℕ → ℕ) (k i v : ℕ) (p : List Record) → k < 2 ^ 64 → All Small p → heldAt k 0 p ≡ some (i, v) → closed i p ≡ del (rankIn key h) (rankOf h k) p
 held-del h k i v p l s e =
     let t = held-closed k 0 i v p e in
     let n : i ≡ t .0 = omega (arith, t .1) in
@@ -121,38 +121,38 @@ RemoveGoes ps none qs w = (n : ℕ) × (w ≡ stopped (Absent n))
 module _ {h : ℕ → ℕ} {n : ℕ} {ps : List (List Record)} (c : Clean h n ps) (k : ℕ) (l : k < 2 ^ 64) (m : h k ≤ n) where
   -- where the walk halts at page b, with these pages before it
   module _ {b : ℕ} (t : Halt h k (h k) b (drop (h k) ps)) where
-    abbrev before : List (List Record)
+    abbrev pub before : List (List Record)
     before = take (h k) ps ++ t .front
 
     -- they stand before it in the whole file
-    whole-file : ps ≡ before ++ (t .last ∷ t .rest)
+    pub whole-file : ps ≡ before ++ (t .last ∷ t .rest)
     whole-file =
         sym (take-append-drop (h k) ps)
         ∙ ap (λ (s : List (List Record)). take (h k) ps ++ s) (t .whole)
         ∙ sym (append-assoc (take (h k) ps) (t .front) (t .last ∷ t .rest))
 
-    before-length : length before ≡ b
+    pub before-length : length before ≡ b
     before-length = omega (arith, length-append (take (h k) ps) (t .front), length-take-le (h k) ps (omega (arith, c .many)), t .at)
 
-    lies : b < n
+    pub lies : b < n
     lies = omega (arith, c .many, before-length, length-append before (t .last ∷ t .rest), ap length whole-file)
 
     halt-keys : All (All Small) (t .front ++ (t .last ∷ t .rest))
     halt-keys = rw (t .whole) at (small-from c (h k))
 
-    last-keys : All Small (t .last)
+    pub last-keys : All Small (t .last)
     last-keys = all-right (All Small) (t .front) (t .last ∷ t .rest) halt-keys .0
 
     -- remove goes as from this page on
-    remove-halt : removeIn key h 12 k ps ≡ before ++ remove (rankIn key h) (home key h) 12 b (rankOf h k) (t .last ∷ t .rest)
+    pub remove-halt : removeIn key h 12 k ps ≡ before ++ remove (rankIn key h) (home key h) 12 b (rankOf h k) (t .last ∷ t .rest)
     remove-halt =
         rw (t .whole, t .at, remove-passed h k (h k) l (t .front) (t .last ∷ t .rest) (all-left (All Small) (t .front) (t .last ∷ t .rest) halt-keys) (t .passed)) (sym (append-assoc (take (h k) ps) (t .front) _))
 
     -- this page and those after it are read again
-    last-read : recordsIn (partAt (areaFrom 0 ps) b) ≡ t .last
+    pub last-read : recordsIn (partAt (areaFrom 0 ps) b) ≡ t .last
     last-read = clean-part c b lies ∙ ap (λ (s : List (List Record)). page s b) whole-file ∙ getD-at before (t .last) (t .rest) [] b before-length
 
-    rest-read : pagesFrom h (areaFrom 0 ps) (n - suc b) (suc b) ≡ map some (t .rest)
+    pub rest-read : pagesFrom h (areaFrom 0 ps) (n - suc b) (suc b) ≡ map some (t .rest)
     rest-read =
         let e : suc b ≡ length before + 1 = omega (arith, before-length) in
         clean-from c (suc b) lies ∙ ap (λ (s : List (List Record)). map some (drop (suc b) s)) whole-file ∙ rw (e, drop-append-add before)

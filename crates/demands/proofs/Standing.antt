@@ -1,14 +1,16 @@
 -- What each call does to a file that is the image of what it keeps.
 use mathlib.Core.Path.{_≡_, refl, _∙_}
 use mathlib.Core.Option.{none, some}
-use mathlib.Core.List.{List, [], _∷_}
+use mathlib.Core.List.{List, [], _∷_, Permᴰ·symm}
 use Prim.Native.Nat.{ℕ, suc, _-_, _*_, _^_, _≤_, _<_}
 use native.Mathlib.Numerals.{add-one}
 use native.Mathlib.Omega.{arith}
 use lib.ListN.{length}
 use borrow.Author.Tests.{ne-eqb}
-use Rattle.placing.specs.Image.{RecordSet, Room}
+use Rattle.placing.specs.Image.{cat, Distinct, RecordSet, Room}
+use Rattle.placing.specs.Rows.{strayed}
 use Rattle.placing.specs.Walks.{findIn, putIn, removeIn}
+use Rattle.placing.proofs.Perms.{perm-all}
 use Rattle.placing.proofs.Images.{find-image}
 use Rattle.placing.proofs.Changes.{put-image, put-room, remove-image}
 use Rattle.pages.specs.Page.{Record, key, value}
@@ -21,11 +23,13 @@ use Rattle.walks.specs.Walks.{stopped, walk, findAnswer, putWalk, removeWalk}
 use Rattle.register.specs.Calls.{done}
 use Rattle.register.specs.Files.{Call, find, put, remove, File, leaves, left}
 use Rattle.demands.specs.Histories.{Kept, stateOf, without, commitOf, holding}
-use Rattle.demands.proofs.OnImage.{OnImage, on-clean, on-gate, home-low}
+use Rattle.demands.specs.ReadMoved.{differ}
+use Rattle.demands.proofs.OnImage.{OnImage, on-clean, on-gate, home-low, on-once, on-slots, on-sorted}
 use Rattle.demands.proofs.Went.{Went}
 use Rattle.demands.proofs.FindWalk.{FindGoes, find-clean}
 use Rattle.demands.proofs.PutWalk.{Poured, PutGoes, put-clean}
 use Rattle.demands.proofs.RemoveWalk.{RemoveGoes, remove-clean}
+use Rattle.demands.proofs.Moves.{Moves, put-moves, remove-moves}
 use Rattle.demands.proofs.Sets.{seek-some, seek-none, without-del, all-without, set-without, set-put, without-length, room-few}
 
 -- the pages are the image of what is kept
@@ -47,6 +51,7 @@ pub record Accepts (m new : Kept) (ps : List (List Record)) (c : Call) (v : ℕ)
   pub pages : List (List Record)
   pub left : left (fileOf m ps) c ≡ leaves (done (stateOf new) (Accepted v read moved)) (areaFrom 0 pages) row
   pub stands : Stands new pages
+  pub moves : moved ≡ differ c ps pages
 
 module _ {m : Kept} {ps : List (List Record)} (s : Stands m ps) where
   abbrev h : ℕ → ℕ
@@ -56,11 +61,11 @@ module _ {m : Kept} {ps : List (List Record)} (s : Stands m ps) where
   finds : (k : ℕ) → k < 2 ^ 64 → (v : ℕ) → commitOf k (m .held) ≡ some v → findIn key h 12 k ps ≡ some (k, v)
   finds k l v e = find-image key h 12 k l (s .set) (s .image) ∙ seek-some k (m .held) e
 
-  misses : (k : ℕ) → k < 2 ^ 64 → commitOf k (m .held) ≡ none → findIn key h 12 k ps ≡ none
+  pub misses : (k : ℕ) → k < 2 ^ 64 → commitOf k (m .held) ≡ none → findIn key h 12 k ps ≡ none
   misses k l e = find-image key h 12 k l (s .set) (s .image) ∙ seek-none k (m .held) e
 
   -- past its gate a find answers what its walk meets
-  find-leaves : (k : ℕ) (a : Answer) → findAnswer (walk h (areaFrom 0 ps) (m .cap) k) ≡ a → left (fileOf m ps) (find k) ≡ leaves (done (stateOf m) a) (areaFrom 0 ps) []
+  pub find-leaves : (k : ℕ) (a : Answer) → findAnswer (walk h (areaFrom 0 ps) (m .cap) k) ≡ a → left (fileOf m ps) (find k) ≡ leaves (done (stateOf m) a) (areaFrom 0 ps) []
   unfolding left
   find-leaves k a e = rw (← on-gate s, e)
 
@@ -74,22 +79,25 @@ module _ {m : Kept} {ps : List (List Record)} (s : Stands m ps) where
   remove-stopped k why e = rw (← on-gate s, e)
 
   -- and one that went well writes its pages, where the count is right
-  put-went : (k v : ℕ) (qs : List (List Record)) → Went ps qs (putWalk h (areaFrom 0 ps) (m .cap) (k, v)) → (length (m .held) ≡ 12 * m .cap → ⊥) → Stands (holding m ((k, v) ∷ m .held)) qs
+  put-went : (k v : ℕ) (qs : List (List Record)) → Went ps qs (putWalk h (areaFrom 0 ps) (m .cap) (k, v)) → Moves (strayed key qs ps) (putWalk h (areaFrom 0 ps) (m .cap) (k, v))
+      → (length (m .held) ≡ 12 * m .cap → ⊥) → Stands (holding m ((k, v) ∷ m .held)) qs
       → Accepts m (holding m ((k, v) ∷ m .held)) ps (put k v) 0 []
   unfolding left
-  put-went k v qs w f t =
+  put-went k v qs w n f t =
       record {
         read = w .read;
         moved = w .moved;
         pages = qs;
         left = rw (← on-gate s, w .goes, ne-eqb (length (m .held)) (12 * m .cap) f, add-one, w .leaves);
         stands = t;
+        moves = rw (w .goes) at n;
       }
 
-  remove-went : (k v : ℕ) (qs : List (List Record)) → Went ps qs (removeWalk h (areaFrom 0 ps) (m .cap) k) → commitOf k (m .held) ≡ some v → Stands (holding m (without k (m .held))) qs
+  remove-went : (k v : ℕ) (qs : List (List Record)) → Went ps qs (removeWalk h (areaFrom 0 ps) (m .cap) k) → Moves (strayed key ps qs) (removeWalk h (areaFrom 0 ps) (m .cap) k)
+      → commitOf k (m .held) ≡ some v → Stands (holding m (without k (m .held))) qs
       → Accepts m (holding m (without k (m .held))) ps (remove k) 0 []
   unfolding left
-  remove-went k v qs w e t =
+  remove-went k v qs w o e t =
       let n : suc (length (without k (m .held))) ≡ length (m .held) = without-length k (s .set) e in
       let less : length (m .held) - 1 ≡ length (without k (m .held)) = omega arith in
       record {
@@ -98,6 +106,7 @@ module _ {m : Kept} {ps : List (List Record)} (s : Stands m ps) where
         pages = qs;
         left = rw (← on-gate s, w .goes, ne-eqb (length (m .held)) 0 (λ z. omega arith), less, w .leaves);
         stands = t;
+        moves = rw (w .goes) at o;
       }
 
   module _ (k : ℕ) (l : k < 2 ^ 64) where
@@ -110,7 +119,7 @@ module _ {m : Kept} {ps : List (List Record)} (s : Stands m ps) where
     pub find-held : (v : ℕ) → commitOf k (m .held) ≡ some v → Accepts m m ps (find k) v []
     find-held v e =
         let w : FindGoes (some (k, v)) (findAnswer (walk h (areaFrom 0 ps) (m .cap) k)) = rw (finds k l v e) at goes in
-        record { read = w .0; moved = 0; pages = ps; left = find-leaves k (Accepted v (w .0) 0) (w .1); stands = s }
+        record { read = w .0; moved = 0; pages = ps; left = find-leaves k (Accepted v (w .0) 0) (w .1); stands = s; moves = refl }
 
     pub find-absent : commitOf k (m .held) ≡ none → (n : ℕ) × Refused m ps (find k) (Absent n) []
     find-absent e =
@@ -128,7 +137,7 @@ module _ {m : Kept} {ps : List (List Record)} (s : Stands m ps) where
         let w : RemoveGoes ps (some (k, v)) qs (removeWalk h (areaFrom 0 ps) (m .cap) k) = rw (finds k l v e) at takes in
         let n : suc (length (without k (m .held))) ≡ length (m .held) = without-length k (s .set) e in
         let less : length (m .held) - 1 ≡ length (without k (m .held)) = omega arith in
-        remove-went k v qs w e (record {
+        remove-went k v qs w (remove-moves (on-clean s) k l (home-low s k) (on-once s)) e (record {
           range = rw less at (less-range (stateOf m) (s .range));
           count = refl;
           set = set-without k (s .set);
@@ -146,8 +155,11 @@ module _ {m : Kept} {ps : List (List Record)} (s : Stands m ps) where
           (g .0, put-stopped k v (Held w (g .0)) (g .1))
 
       module _ (e : commitOf k (m .held) ≡ none) where
-        with-new : RecordSet key ((k, v) ∷ m .held)
+        pub with-new : RecordSet key ((k, v) ∷ m .held)
         with-new = set-put k v (s .set) l e
+
+        pub new-once : Distinct key ((k, v) ∷ cat ps [])
+        new-once = (perm-all (λ y. key y ≡ k → ⊥) (Permᴰ·symm (s .image .arranged .holds)) (with-new .once .0), on-once s)
 
         ends : Poured ps (putIn key h 12 (k, v) ps .0) (putIn key h 12 (k, v) ps .1) (putWalk h (areaFrom 0 ps) (m .cap) (k, v))
         ends = rw (misses k l e) at comes
@@ -165,7 +177,7 @@ module _ {m : Kept} {ps : List (List Record)} (s : Stands m ps) where
             let q : putIn key h 12 (k, v) ps .1 ≡ [] = put-room key h 12 (k, v) with-new (s .image) .1 r in
             let w : Went ps (putIn key h 12 (k, v) ps .0) (putWalk h (areaFrom 0 ps) (m .cap) (k, v)) = rw q at ends in
             let few : suc (length (m .held)) ≤ 12 * m .cap = room-few key h 12 r in
-            put-went k v (putIn key h 12 (k, v) ps .0) w (λ z. omega arith) (record {
+            put-went k v (putIn key h 12 (k, v) ps .0) w (put-moves (on-clean s) (k, v) l (home-low s k) (on-slots s) (on-sorted s) new-once) (λ z. omega arith) (record {
               range = rw add-one at (more-range (stateOf m) (s .range) (omega arith));
               set = with-new;
               count = refl;

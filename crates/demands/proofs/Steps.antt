@@ -104,11 +104,12 @@ module _ {m : Kept} {ps : List (List Record)} (s : Stands m ps) where
           pages = grownPages (stateOf m) ps;
           left = grow-leaves row (accepts (stateOf m) (m .held) ps) (grow-room s row l low r);
           stands = record { range = grown-range (stateOf m) (s .range) low; set = s .set; values = s .values; count = refl; image = grown-image s r };
+          moves = refl;
         }
 
   pub check-stands : Accepts m m ps check 0 []
   unfolding left
-  check-stands = record { read = m .cap; moved = 0; pages = ps; left = rw (check-yes s); stands = s }
+  check-stands = record { read = m .cap; moved = 0; pages = ps; left = rw (check-yes s); stands = s; moves = refl }
 
   -- due asks for the load alone
   pub due-stands : left (fileOf m ps) due ≡ record { said = says (ltb (48 * m .p) (5 * length (m .held))); file = fileOf m ps; row = [] }
@@ -166,7 +167,7 @@ module _ {m : Kept} {ps : List (List Record)} (s : Stands m ps) where
   format-step q cap = go (format-begins (fileOf m ps) q cap)
     where
       go : Begins (fileOf m ps) q cap (left (fileOf m ps) (format q cap)) → Step m ps (format q cap)
-      go (began e t) = accepted (begun q cap) 0 [] refl (record { read = 0; moved = 0; pages = replicate cap []; left = e; stands = t })
+      go (began e t) = accepted (begun q cap) 0 [] refl (record { read = 0; moved = 0; pages = replicate cap []; left = e; stands = t; moves = refl })
       go (outside e) = refused OutOfRange [] tt e
       go (elsewhere e) = refused WrongArea [] tt e
 

@@ -25,7 +25,7 @@ abbrev pub Small : Record → Type 0
 Small x = key x < 2 ^ 64
 
 -- a slot that holds the key shows its record
-held-record : (k i j v : ℕ) (p : List Record) → heldAt k i p ≡ some (j, v) → seek key k p ≡ some (k, v)
+pub held-record : (k i j v : ℕ) (p : List Record) → heldAt k i p ≡ some (j, v) → seek key k p ≡ some (k, v)
 held-record k i j v [] e = absurd (clash e)
 held-record k i j v (x ∷ p) e = go (eqb (key x) k) refl e (held-record k (suc i) j v p)
   where

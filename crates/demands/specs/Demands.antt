@@ -13,6 +13,7 @@ use Rattle.state.specs.State.{homes, grown}
 use Rattle.register.specs.OneImage.{AreaImage}
 use Rattle.register.specs.Files.{Call, format, find, put, remove, grow, check, due, File, says, left, numbersOf}
 use Rattle.demands.specs.Histories.{Fits, after, refusal, Kept, stateOf, commitOf, kept}
+use Rattle.demands.specs.ReadMoved.{ReadHeld, ReadAbsent, ReadWithin, Moved}
 
 -- A file that a history left "from a fresh file": calls from any bytes and any state, a format among them accepted, with what they keep
 pub record Fresh (m : Kept) (f : File) : Type 0 where
@@ -106,3 +107,7 @@ pub record Demands : Type 0 where
   pub room-put : AfterFresh RoomPut
   pub room-grow : AfterFresh RoomGrow
   pub counted : AfterFresh Counted
+  pub read-held : AfterFresh (λ m. ReadHeld)
+  pub read-absent : AfterFresh (λ m. ReadAbsent)
+  pub read-within : AfterFresh (λ m. ReadWithin)
+  pub moved : AfterFresh (λ m. Moved)

@@ -1,0 +1,72 @@
+-- 01's "Pages read" and "Moved" on a file that stands.
+use mathlib.Core.Path.{_≡_, refl, sym, ap, subst, _∙_}
+use mathlib.Core.List.{List}
+use Prim.Native.Nat.{_+_}
+use native.Mathlib.Omega.{arith}
+use Rattle.placing.proofs.Strays.{strayed-none}
+use Rattle.pages.specs.Page.{Record, key}
+use Rattle.state.specs.declared.Answer.{Answer}
+use Rattle.state.specs.declared.Answer.the-variants.{Accepted, OutOfRange, WrongArea, WrongRow, Broken, Absent, Held, NoRoom, AtCap, NotImage}
+use Rattle.state.specs.Answer.{numbers}
+use Rattle.register.specs.Files.{Call, format, find, put, remove, grow, check, due, Left, left, numbersOf}
+use Rattle.demands.specs.Histories.{Kept}
+use Rattle.demands.specs.ReadMoved.{moved, readTo, ReadHeld, ReadAbsent, ReadWithin, pagesOf, differ, Moved}
+use Rattle.demands.proofs.Clean.{clean-held}
+use Rattle.demands.proofs.OnImage.{on-clean}
+use Rattle.demands.proofs.Standing.{Stands, fileOf}
+use Rattle.demands.proofs.FindReads.{read-held, read-within, read-new}
+use Rattle.demands.proofs.Steps.{Plain, Step, refused, accepted, said, Puts, was, turned-away, joined, put-comes, step}
+
+-- no refusal moves a record
+plain-moved : (why : Answer) → Plain why → numbers why .moved ≡ 0
+plain-moved (Accepted value read moved) p = absurd p
+plain-moved OutOfRange p = refl
+plain-moved WrongArea p = refl
+plain-moved WrongRow p = refl
+plain-moved (Broken page read) p = refl
+plain-moved (Absent read) p = refl
+plain-moved (Held value read) p = refl
+plain-moved (NoRoom read) p = refl
+plain-moved AtCap p = refl
+plain-moved (NotImage read) p = refl
+
+-- where nothing was written nothing differs
+none-differ : (c : Call) (ps : List (List Record)) → differ c ps ps ≡ 0
+none-differ (format q cap) ps = refl
+none-differ (find k) ps = refl
+none-differ (put k v) ps = strayed-none key ps
+none-differ (remove k) ps = strayed-none key ps
+none-differ (grow row) ps = strayed-none key ps
+none-differ check ps = refl
+none-differ due ps = refl
+
+module _ (m : Kept) (ps : List (List Record)) (s : Stands m ps) where
+  pub read-held-stands : ReadHeld (fileOf m ps)
+  read-held-stands k b v l w = read-held s k l b v w
+
+  pub read-within-stands : ReadWithin (fileOf m ps)
+  read-within-stands k l = read-within s k l
+
+  pub read-absent-stands : ReadAbsent (fileOf m ps)
+  read-absent-stands k b v w l u n t = go (put-comes s k v l u)
+    where
+      -- the call is accepted
+      taken : {o : Left} → left (fileOf m ps) (put k v) ≡ o → numbersOf (o .said) .refusal ≡ 0
+      taken e = sym (ap (λ (o : Left). numbersOf (o .said) .refusal) e) ∙ n
+
+      go : Puts m ps k v → readTo (fileOf m ps) k ≡ b + 1
+      go (was c i e a) = absurd (omega (arith, taken a))
+      go (turned-away i e a) = absurd (omega (arith, taken a))
+      go (joined e a) = read-new s k l v e a b w (rw (a .left) at t)
+
+  pub moved-stands : Moved (fileOf m ps)
+  moved-stands c fits = go (step s c fits)
+    where
+      told : {o : Left} → left (fileOf m ps) c ≡ o → numbersOf (o .said) .moved ≡ differ c ps (pagesOf (o .file))
+          → moved (fileOf m ps) c ≡ differ c (pagesOf (fileOf m ps)) (pagesOf (left (fileOf m ps) c .file))
+      told e t = rw (clean-held (on-clean s)) (subst (λ (o : Left). numbersOf (o .said) .moved ≡ differ c ps (pagesOf (o .file))) (sym e) t)
+
+      go : Step m ps c → moved (fileOf m ps) c ≡ differ c (pagesOf (fileOf m ps)) (pagesOf (left (fileOf m ps) c .file))
+      go (refused why row p e) = told e (rw (clean-held (on-clean s)) (plain-moved why p ∙ sym (none-differ c ps)))
+      go (accepted new v row k a) = told (a .left) (rw (clean-held (on-clean (a .stands))) (a .moves))
+      go (said u k e) = told e (rw (clean-held (on-clean s)) (sym (none-differ c ps)))

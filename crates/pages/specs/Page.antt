@@ -8,10 +8,13 @@ use lib.Dec.{leb, ltb}
 use Rattle.numbers.specs.Little.{numberAt}
 use Rattle.numbers.specs.Fields.{Field, encode, matches}
 use Rattle.placing.specs.Lay.{ranked}
+use Rattle.pages.specs.declared.Record as declared
 use Rattle.pages.specs.declared.Page.{Page}
 use Rattle.pages.specs.declared.Judged.{Judged}
--- "A record is a key .. and a value"
-pub use Rattle.pages.specs.declared.Record.{Record}
+
+-- "A record is a key .. and a value": one value, as the code declares it
+abbrev pub Record : Type 0
+Record = declared.Record
 
 abbrev pub key : Record → ℕ
 key x = x .key

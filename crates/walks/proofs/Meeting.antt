@@ -22,7 +22,7 @@ use Rattle.placing.proofs.Rank.{seek-key}
 use Rattle.placing.proofs.Seek.{clash}
 use Rattle.pages.specs.declared.Page.{Page}
 use Rattle.pages.specs.declared.Judged.{Judged}
-use Rattle.pages.specs.Page.{Record, key, value, readPage, inMemory, judged}
+use Rattle.pages.specs.Page.{Record, key, value, recordWith, readPage, inMemory, judged}
 use Rattle.pages.specs.Slots.{ahead, aheadIn, paired, recordsOf}
 use Rattle.pages.specs.Area.{partAt, pagesFrom}
 use Rattle.pages.proofs.Memory.{memory}
@@ -103,7 +103,7 @@ drop-paired (suc i) (suc n) ks vs =
     rw (e, drop-paired i n (drop 1 ks) (drop 1 vs), drop-drop i 1 ks, drop-drop i 1 vs, f)
 
 -- the record of a slot stands first of those from it on
-slot-first : (p : Page) (i : ℕ) → i < p .count → drop i (recordsOf p) ≡ (getD (p .keys) i 0, getD (p .values) i 0) ∷ drop (suc i) (recordsOf p)
+slot-first : (p : Page) (i : ℕ) → i < p .count → drop i (recordsOf p) ≡ recordWith (getD (p .keys) i 0) (getD (p .values) i 0) ∷ drop (suc i) (recordsOf p)
 unfolding recordsOf
 slot-first p i l =
     let e : p .count - i ≡ suc (p .count - suc i) = omega arith in

@@ -16,7 +16,7 @@ use Rattle.placing.specs.Lay.{one}
 use Rattle.placing.specs.Rows.{atHome, counts, leftOver}
 use Rattle.placing.proofs.Rows.{counts-length, counts-at}
 use Rattle.placing.proofs.Lists.{count-le}
-use Rattle.pages.specs.Page.{Record, homeFor, recordsIn}
+use Rattle.pages.specs.Page.{Record, vacant, homeFor, recordsIn}
 use Rattle.pages.specs.Area.{partAt, heldFrom}
 use Rattle.pages.proofs.Rows.{row-at}
 use Rattle.pages.proofs.Read.{held-few}
@@ -114,7 +114,7 @@ module _ {R : Type 0} (home : R → ℕ) where
 pub record HomesOf (h : ℕ → ℕ) (rs : List Record) (n : ℕ) (homes : List ℕ) : Type 0 where
   pub count : n ≡ length rs
   pub long : n ≤ length homes
-  pub each : (i : ℕ) → i < n → getD homes i 0 ≡ homeFor h (getD rs i (0, 0))
+  pub each : (i : ℕ) → i < n → getD homes i 0 ≡ homeFor h (getD rs i vacant)
 
 -- so, taken, they are those homes
 first-homes : (h : ℕ → ℕ) (rs : List Record) (n : ℕ) (homes : List ℕ) → HomesOf h rs n homes → take n homes ≡ map (homeFor h) rs
@@ -125,7 +125,7 @@ first-homes h rs n homes f =
     m = length-take-le n homes (f .long)
 
     at : (i : ℕ) → i < n → getD (take n homes) i 0 ≡ getD (map (homeFor h) rs) i 0
-    at i l = getD-take n homes i 0 l ∙ f .each i l ∙ sym (rw append-nil at (row-at (homeFor h) rs [] i (0, 0) (omega (arith, f .count))))
+    at i l = getD-take n homes i 0 l ∙ f .each i l ∙ sym (rw append-nil at (row-at (homeFor h) rs [] i vacant (omega (arith, f .count))))
 
 -- the pages below a are counted, and those from a on are left to tally
 pub record Counted (h : ℕ → ℕ) (area : List ℕ) (cap : ℕ) (row : List ℕ) (a : ℕ) : Type 0 where

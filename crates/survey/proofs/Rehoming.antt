@@ -14,7 +14,7 @@ use Rattle.homes.specs.declared.Stage.{Stage}
 use Rattle.homes.specs.Homes.{homeIn}
 use Rattle.homes.specs.Last.{staysAt}
 use Rattle.pages.specs.declared.Judged.{Judged}
-use Rattle.pages.specs.Page.{Record, key, homeFor, inMemory, judged}
+use Rattle.pages.specs.Page.{Record, key, vacant, homeFor, inMemory, judged}
 use Rattle.pages.proofs.Rows.{row-at}
 use Rattle.survey.proofs.Counting.{HomesOf}
 
@@ -75,7 +75,7 @@ module _ (h h′ : ℕ → ℕ) (stays : ℕ → Bool) (keeps : (k a : ℕ) → 
       n : j .page .count ≡ length rs
       n = rw e
 
-      at : (i : ℕ) → i < j .page .count → getD out i 0 ≡ homeFor h′ (getD rs i (0, 0))
+      at : (i : ℕ) → i < j .page .count → getD out i 0 ≡ homeFor h′ (getD rs i vacant)
       at i m =
           let b : i < length rs = omega (arith, n) in
-          new i m ∙ rw (e, row-at (homeFor h) rs _ i (0, 0) b, row-at key rs _ i (0, 0) b) (kept (key (getD rs i (0, 0))))
+          new i m ∙ rw (e, row-at (homeFor h) rs _ i vacant b, row-at key rs _ i vacant b) (kept (key (getD rs i vacant)))

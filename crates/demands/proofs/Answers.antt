@@ -17,7 +17,7 @@ answers =
       find = record { asks-nothing = λ κs a. tt; one = λ κs a y z v w p q. (p ∙⁻¹ q, refl); does = λ κs a y v p i. leaves (p i) (now (a .1 .0)) [] };
       put = record {
         asks-nothing = λ κs a. tt;
-        one = λ κs a y z v w p q. (p .0 ∙⁻¹ q .0, λ i. (tt, ((p .1 ∙⁻¹ q .1) i, (tt, (tt, tt)))));
+        one = λ κs a y z v w p q. (p .0 ∙⁻¹ q .0, λ i. (tt, ((p .1 ∙⁻¹ q .1) i, (tt, tt))));
         does = λ κs a y v p i. leaves (p .0 i) (p .1 i) [];
       };
       remove = record {

@@ -63,15 +63,15 @@ module _ (m : Kept) (ps : List (List Record)) (s : Stands m ps) where
           ((λ v. (λ t. absurd (omega (arith, t .0)), λ q. absurd (clash (sym e ∙ q)))), (λ z. e, λ z. n))
 
   retried-stands : Retried m f
-  retried-stands k v w l u = go (put-comes s k v l u)
+  retried-stands x fits w = go (put-comes s x fits)
     where
       Same : Type 0
-      Same = Tells f (put k v) 6 w ↔ (commitOf k (m .held) ≡ some w)
+      Same = Tells f (put x) 6 w ↔ (commitOf (key x) (m .held) ≡ some w)
 
-      other : commitOf k (m .held) ≡ none → (refusal f (put k v) ≡ 6 → ⊥) → Same
+      other : commitOf (key x) (m .held) ≡ none → (refusal f (put x) ≡ 6 → ⊥) → Same
       other e n = (λ t. absurd (n (t .0)), λ q. absurd (clash (sym e ∙ q)))
 
-      go : Puts m ps k v → Same
+      go : Puts m ps x → Same
       go (was c n e a) = (λ t. told e .0 (sym (commit a) ∙ t .1), λ q. (number a, commit a ∙ told e .1 q))
       go (turned-away n e a) = other e (λ z. omega (arith, number a))
       go (joined e a) = other e (λ z. omega (arith, number (a .left)))
@@ -104,11 +104,11 @@ module _ (m : Kept) (ps : List (List Record)) (s : Stands m ps) where
   image-stands = record { set = s .set; image = record { pages = ps; bytes = refl; pass = on-clean s .pass; image = s .image } }
 
   room-put-stands : RoomPut m f
-  room-put-stands k v l u e =
-      either (refusal f (put k v)) 7 0 (λ z. omega arith)
-      (room-told (homes (stateOf m)) (m .cap) ((k, v) ∷ m .held) (set-put k v (s .set) l e))
-      (λ r. number (put-new s k l v e u r .left))
-      (λ n. number (put-full s k l v e n .1))
+  room-put-stands x fits e =
+      either (refusal f (put x)) 7 0 (λ z. omega arith)
+      (room-told (homes (stateOf m)) (m .cap) (x ∷ m .held) (set-put x (s .set) (fits .0) e))
+      (λ r. number (put-new s x (fits .0) e (fits .1) r .left))
+      (λ n. number (put-full s x (fits .0) e n .1))
 
   room-grow-stands : RoomGrow m f
   room-grow-stands row low l =

@@ -14,7 +14,7 @@ use Rattle.placing.proofs.Changes.{put-image, put-room}
 use Rattle.placing.proofs.Perms.{perm-seek}
 use Rattle.placing.proofs.Seek.{clash}
 use Rattle.placing.proofs.Strays.{page-none, one-page}
-use Rattle.pages.specs.Page.{Record, key, recordsIn}
+use Rattle.pages.specs.Page.{Record, key, recordWith, recordsIn}
 use Rattle.pages.specs.Slots.{ahead}
 use Rattle.pages.specs.Area.{partAt, pagesFrom, areaFrom}
 use Rattle.pages.proofs.Areas.{pages-length}
@@ -76,7 +76,7 @@ module _ {m : Kept} {ps : List (List Record)} (s : Stands m ps) where
   f = fileOf m ps
 
   -- what page b of the file holds, by the page and by its bytes
-  on-page : (k b v : ℕ) → HeldOn f b k v → seek key k (page ps b) ≡ some (k, v)
+  on-page : (k b v : ℕ) → HeldOn f b k v → seek key k (page ps b) ≡ some (recordWith k v)
   on-page k b v w = ap (λ (t : List Record). seek key k t) (sym (clean-part (on-clean s) b (w .0))) ∙ seek-some k (recordsIn (partAt (areaFrom 0 ps) b)) (w .1)
 
   module _ (k : ℕ) (l : k < 2 ^ 64) where
@@ -85,7 +85,7 @@ module _ {m : Kept} {ps : List (List Record)} (s : Stands m ps) where
 
     -- where the walk of a find ends: it reads to the page that holds the request, or to the one that would take it, or to the end
     pub data Reads : Type 0 where
-      held-on : (b v : ℕ) → b < m .cap → readTo f k ≡ b + 1 → seek key k (page ps b) ≡ some (k, v) → Reads
+      held-on : (b v : ℕ) → b < m .cap → readTo f k ≡ b + 1 → seek key k (page ps b) ≡ some (recordWith k v) → Reads
       ends-on : (b : ℕ) → EndsAt h k (h k) b (drop (h k) ps) → readTo f k ≡ b + 1 → findIn key h 12 k ps ≡ none → Reads
       past-all : All (Passed h k) (drop (h k) ps) → readTo f k ≡ m .cap → findIn key h 12 k ps ≡ none → Reads
 
@@ -124,31 +124,31 @@ module _ {m : Kept} {ps : List (List Record)} (s : Stands m ps) where
     read-held b v w = go find-reads
       where
         go : Reads → readTo f k ≡ b + 1
-        go (held-on a u low n q) = omega (arith, one-page key k (k, u) (k, v) ps a b (on-once s) q (on-page k b v w))
+        go (held-on a u low n q) = omega (arith, one-page key k (recordWith k u) (recordWith k v) ps a b (on-once s) q (on-page k b v w))
         go (ends-on a t n q) = absurd (clash (sym (misses-pages b q) ∙ on-page k b v w))
         go (past-all t n q) = absurd (clash (sym (misses-pages b q) ∙ on-page k b v w))
 
-module _ {m : Kept} {ps : List (List Record)} (s : Stands m ps) (k : ℕ) (l : k < 2 ^ 64) (v : ℕ) (e : commitOf k (m .held) ≡ none) (a : Accepts m (holding m ((k, v) ∷ m .held)) ps (put k v) 0 []) where
+module _ {m : Kept} {ps : List (List Record)} (s : Stands m ps) (x : Record) (l : key x < 2 ^ 64) (e : commitOf (key x) (m .held) ≡ none) (a : Accepts m (holding m (x ∷ m .held)) ps (put x) 0 []) where
   -- nothing comes past the end where a put is accepted
-  fits : putIn key (homes (stateOf m)) 12 (k, v) ps .1 ≡ []
-  fits = put-room key (homes (stateOf m)) 12 (k, v) (with-new s k l v e) (s .image) .1 (a .pages, a .stands .image .arranged)
+  fits : putIn key (homes (stateOf m)) 12 x ps .1 ≡ []
+  fits = put-room key (homes (stateOf m)) 12 x (with-new s x l e) (s .image) .1 (a .pages, a .stands .image .arranged)
 
   -- and the pages that it leaves are those of its walk
-  walked : a .pages ≡ putIn key (homes (stateOf m)) 12 (k, v) ps .0
+  walked : a .pages ≡ putIn key (homes (stateOf m)) 12 x ps .0
   walked =
-      one-image key (homes (stateOf m)) 12 (with-new s k l v e) (Permᴰ·refl ((k, v) ∷ m .held)) (a .stands .image)
-      (put-image key (homes (stateOf m)) 12 (k, v) (with-new s k l v e) (s .image) fits)
+      one-image key (homes (stateOf m)) 12 (with-new s x l e) (Permᴰ·refl (x ∷ m .held)) (a .stands .image)
+      (put-image key (homes (stateOf m)) 12 x (with-new s x l e) (s .image) fits)
 
   -- so the page that holds the request after it is the one where the walk of a find ended
-  pub read-new : (b w : ℕ) → HeldOn (fileOf (holding m ((k, v) ∷ m .held)) (a .pages)) b k w → readTo (fileOf m ps) k ≡ b + 1
-  read-new b w t = go (find-reads s k l)
+  pub read-new : (b w : ℕ) → HeldOn (fileOf (holding m (x ∷ m .held)) (a .pages)) b (key x) w → readTo (fileOf m ps) (key x) ≡ b + 1
+  read-new b w t = go (find-reads s (key x) l)
     where
-      go : Reads s k l → readTo (fileOf m ps) k ≡ b + 1
-      go (held-on c u low n q) = absurd (clash (sym (misses-pages s k l c (misses s k l e)) ∙ q))
+      go : Reads s (key x) l → readTo (fileOf m ps) (key x) ≡ b + 1
+      go (held-on c u low n q) = absurd (clash (sym (misses-pages s (key x) l c (misses s (key x) l e)) ∙ q))
       go (ends-on c u n q) =
-          let here : seek key k (page (a .pages) c) ≡ some (k, v) =
-          rw walked (put-holds (on-clean s) (k, v) l (home-low s k) (u .halt) (u .ends) (on-slots s) (on-sorted s) (new-once s k l v e)) in
-          omega (arith, one-page key k (k, v) (k, w) (a .pages) c b (on-once (a .stands)) here (on-page (a .stands) k b w t))
+          let here : seek key (key x) (page (a .pages) c) ≡ some x =
+          rw walked (put-holds (on-clean s) x l (home-low s (key x)) (u .halt) (u .ends) (on-slots s) (on-sorted s) (new-once s x l e)) in
+          omega (arith, one-page key (key x) x (recordWith (key x) w) (a .pages) c b (on-once (a .stands)) here (on-page (a .stands) (key x) b w t))
       go (past-all u n q) =
-          let full = rw append-nil at (put-passed (homes (stateOf m)) (k, v) (drop (homes (stateOf m) k) ps) [] u) in
+          let full = rw append-nil at (put-passed (homes (stateOf m)) x (drop (homes (stateOf m) (key x)) ps) [] u) in
           absurd (omega (arith, ap length fits, ap (λ (z : List (List Record) × List Record). length (z .1)) full))

@@ -10,7 +10,7 @@ use Rattle.placing.specs.Image.{All, cat}
 use Rattle.placing.specs.Lay.{rankOf, rankIn}
 use Rattle.placing.specs.Walks.{orElse, seek, lastAfter, find, findIn}
 use Rattle.placing.proofs.Lists.{all-left, all-right}
-use Rattle.pages.specs.Page.{Record, key, value}
+use Rattle.pages.specs.Page.{Record, key, value, recordWith}
 use Rattle.pages.specs.Area.{areaFrom}
 use Rattle.state.specs.declared.Answer.{Answer}
 use Rattle.state.specs.declared.Answer.the-variants.{Accepted, Absent}
@@ -36,7 +36,7 @@ small-from {ps = ps} c a = all-right (All Small) (take a ps) (drop a ps) (rw tak
 
 -- the record of a key that a walk meets
 abbrev pub recordOf : ℕ → Met → Option Record
-recordOf k (Found a i c v n) = some (k, v)
+recordOf k (Found a i c v n) = some (recordWith k v)
 recordOf k (Sick a n) = none
 recordOf k (Ends a i c n) = none
 recordOf k (Past n) = none

@@ -34,7 +34,7 @@ plain-moved (NotImage read) p = refl
 none-differ : (c : Call) (ps : List (List Record)) → differ c ps ps ≡ 0
 none-differ (format q cap) ps = refl
 none-differ (find k) ps = refl
-none-differ (put k v) ps = strayed-none key ps
+none-differ (put x) ps = strayed-none key ps
 none-differ (remove k) ps = strayed-none key ps
 none-differ (grow row) ps = strayed-none key ps
 none-differ check ps = refl
@@ -48,16 +48,16 @@ module _ (m : Kept) (ps : List (List Record)) (s : Stands m ps) where
   read-within-stands k l = read-within s k l
 
   pub read-absent-stands : ReadAbsent (fileOf m ps)
-  read-absent-stands k b v w l u n t = go (put-comes s k v l u)
+  read-absent-stands x b w fits n t = go (put-comes s x fits)
     where
       -- the call is accepted
-      taken : {o : Left} → left (fileOf m ps) (put k v) ≡ o → numbersOf (o .said) .refusal ≡ 0
+      taken : {o : Left} → left (fileOf m ps) (put x) ≡ o → numbersOf (o .said) .refusal ≡ 0
       taken e = sym (ap (λ (o : Left). numbersOf (o .said) .refusal) e) ∙ n
 
-      go : Puts m ps k v → readTo (fileOf m ps) k ≡ b + 1
+      go : Puts m ps x → readTo (fileOf m ps) (key x) ≡ b + 1
       go (was c i e a) = absurd (omega (arith, taken a))
       go (turned-away i e a) = absurd (omega (arith, taken a))
-      go (joined e a) = read-new s k l v e a b w (rw (a .left) at t)
+      go (joined e a) = read-new s x (fits .0) e a b w (rw (a .left) at t)
 
   pub moved-stands : Moved (fileOf m ps)
   moved-stands c fits = go (step s c fits)

@@ -55,7 +55,7 @@ plain-said (says u) = unread 0
 order-differs : (f : File) (c : Call) → differ (ranks (order f c)) ≡ true
 order-differs f (format q cap) = refl
 order-differs f (find k) = refl
-order-differs f (put k v) = refl
+order-differs f (put x) = refl
 order-differs f (remove k) = refl
 order-differs f (grow row) = refl
 order-differs f check = refl
@@ -68,7 +68,7 @@ due-known f = record { comes = λ w. w; gives = inl refl; accepted = λ e. refl;
 known : (f : File) → Bytes (f .area) → (c : Call) → Known f c (tells f c)
 known f b (format q cap) = format-decided f q cap .known
 known f b (find k) = find-known f k
-known f b (put k v) = put-settled f k v .known
+known f b (put x) = put-settled f x .known
 known f b (remove k) = remove-settled f k .known
 known f b (grow row) = grow-decided f row b .known
 known f b check = check-decided f b .known
@@ -98,7 +98,7 @@ refusals f b =
       check-judges = check-decided f b .judges;
       grow-judges = λ row. grow-decided f row b .judges;
       broken = λ c. known f b c .broken;
-      put-count = λ k v. put-settled f k v .count;
+      put-count = λ x. put-settled f x .count;
       remove-count = λ k. remove-settled f k .count;
       due-yes = due-says f .0;
       due-no = due-says f .1;

@@ -7,7 +7,7 @@ use Rattle.homes.specs.Homes.{params}
 use Rattle.numbers.specs.Little.{little, bytesOf, numberAt, written}
 use Rattle.numbers.specs.Fields.{encode}
 use Rattle.homes.specs.Homes.{draw, mover, swept, moved, nextGroups, steps, home}
-use Rattle.pages.specs.Page.{pageBytes, recordsIn, wellFormed, readPage}
+use Rattle.pages.specs.Page.{recordWith, pageBytes, recordsIn, wellFormed, readPage}
 use Rattle.pages.specs.Slots.{closed}
 use Rattle.pages.specs.Area.{partAt}
 use Rattle.state.specs.State.{all, inRange}
@@ -25,11 +25,11 @@ start = record { state = record { params = params 0 0 0; p = 0; cap = 0; r = 0 }
 
 -- 01's whole session first; then a record more, a removal and one page more
 abbrev calls : List Call
-calls = format (params 1 1 1) 2 ∷ put 5 9 ∷ find 5 ∷ put 7 1 ∷ remove 5 ∷ grow (0 ∷ 0 ∷ []) ∷ check ∷ due ∷ []
+calls = format (params 1 1 1) 2 ∷ put (recordWith 5 9) ∷ find 5 ∷ put (recordWith 7 1) ∷ remove 5 ∷ grow (0 ∷ 0 ∷ []) ∷ check ∷ due ∷ []
 
 -- it keeps one record, on two pages
 abbrev outcome : Kept
-outcome = record { params = params 1 1 1; cap = 2; p = 2; held = (7, 1) ∷ [] }
+outcome = record { params = params 1 1 1; cap = 2; p = 2; held = recordWith 7 1 ∷ [] }
 
 pub session : Fresh outcome (after start calls)
 unfolding draw mover swept moved nextGroups steps home little bytesOf numberAt written encode pageBytes recordsIn wellFormed readPage partAt closed all inRange walk putWalk removeWalk isImage surveyed gateOf imageGate growGate relaid grownFile left after without kept

@@ -13,13 +13,13 @@ use Rattle.placing.specs.Lay.{sort}
 use Rattle.placing.specs.Walks.{seek, del}
 use Rattle.placing.proofs.Seek.{seek-ne, ne-seek, same, del-absent, del-left, del-distinct}
 use Rattle.placing.proofs.Perms.{perm-length, perm-seek, sort-perm, sort-sorted}
-use Rattle.pages.specs.Page.{Record, key, value}
+use Rattle.pages.specs.Page.{Record, key, value, recordWith}
 use Rattle.demands.specs.Histories.{without, commitOf}
 
 module _ (k : ℕ) where
   -- the request with its commit
   abbrev recordOf : Option ℕ → Option Record
-  recordOf o = Option·map (λ (v : ℕ). (k, v)) o
+  recordOf o = Option·map (recordWith k) o
 
   -- it is the record that is found
   found-record : (s : List Record) → seek key k s ≡ recordOf (commitOf k s)
@@ -28,11 +28,11 @@ module _ (k : ℕ) where
   found-record (x ∷ s) = rw (found-record s) (go (eqb (key x) k) refl (commitOf k s))
     where
       go : (u : Bool) → eqb (key x) k ≡ u → (o : Option ℕ) → cond u (some x) (recordOf o) ≡ recordOf (cond u (some (value x)) o)
-      go true e o = ap (λ (j : ℕ). some (j, value x)) (eqb-true (key x) k e)
+      go true e o = ap (λ (j : ℕ). some (recordWith j (value x))) (eqb-true (key x) k e)
       go false e o = refl
 
   -- a commit, or none, tells what is found
-  pub seek-some : (s : List Record) {v : ℕ} → commitOf k s ≡ some v → seek key k s ≡ some (k, v)
+  pub seek-some : (s : List Record) {v : ℕ} → commitOf k s ≡ some v → seek key k s ≡ some (recordWith k v)
   seek-some s e = rw e at (found-record s)
 
   pub seek-none : (s : List Record) → commitOf k s ≡ none → seek key k s ≡ none
@@ -66,13 +66,13 @@ module _ (k : ℕ) where
         once = rw (without-del s (f .once)) (del-distinct key key k s (f .once));
       }
 
-  -- and with one that it does not hold
-  pub set-put : {s : List Record} (v : ℕ) → RecordSet key s → k < 2 ^ 64 → commitOf k s ≡ none → RecordSet key ((k, v) ∷ s)
-  set-put {s} v f l e = record { keys = (l, f .keys); once = (seek-ne key k s (seek-none s e), f .once) }
-
   -- one fewer is left without a request that is held
   pub without-length : {s : List Record} {v : ℕ} → RecordSet key s → commitOf k s ≡ some v → suc (length (without k s)) ≡ length s
-  without-length {s} {v} f e = rw (without-del s (f .once)) (del-left key k (k, v) s [] (seek-some s e) .1)
+  without-length {s} {v} f e = rw (without-del s (f .once)) (del-left key k (recordWith k v) s [] (seek-some s e) .1)
+
+-- a record set stays one with a request that it does not hold
+pub set-put : {s : List Record} (x : Record) → RecordSet key s → key x < 2 ^ 64 → commitOf (key x) s ≡ none → RecordSet key (x ∷ s)
+set-put {s} x f l e = record { keys = (l, f .keys); once = (seek-ne key (key x) s (seek-none (key x) s e), f .once) }
 
 -- in order of keys the same is found
 sorted-record : (k : ℕ) {s : List Record} → RecordSet key s → seek key k (sort key s) ≡ recordOf k (commitOf k s)

@@ -13,7 +13,7 @@ use Rattle.placing.specs.Walks.{findIn, putIn, removeIn}
 use Rattle.placing.proofs.Perms.{perm-all}
 use Rattle.placing.proofs.Images.{find-image}
 use Rattle.placing.proofs.Changes.{put-image, put-room, remove-image}
-use Rattle.pages.specs.Page.{Record, key, value}
+use Rattle.pages.specs.Page.{Record, key, value, recordWith}
 use Rattle.pages.specs.Area.{areaFrom}
 use Rattle.state.specs.declared.Answer.{Answer}
 use Rattle.state.specs.declared.Answer.the-variants.{Accepted, Absent, Held, NoRoom}
@@ -58,7 +58,7 @@ module _ {m : Kept} {ps : List (List Record)} (s : Stands m ps) where
   h = homes (stateOf m)
 
   -- what the walk finds is what is kept
-  finds : (k : ℕ) → k < 2 ^ 64 → (v : ℕ) → commitOf k (m .held) ≡ some v → findIn key h 12 k ps ≡ some (k, v)
+  finds : (k : ℕ) → k < 2 ^ 64 → (v : ℕ) → commitOf k (m .held) ≡ some v → findIn key h 12 k ps ≡ some (recordWith k v)
   finds k l v e = find-image key h 12 k l (s .set) (s .image) ∙ seek-some k (m .held) e
 
   pub misses : (k : ℕ) → k < 2 ^ 64 → commitOf k (m .held) ≡ none → findIn key h 12 k ps ≡ none
@@ -70,20 +70,20 @@ module _ {m : Kept} {ps : List (List Record)} (s : Stands m ps) where
   find-leaves k a e = rw (← on-gate s, e)
 
   -- a walk that stopped is a refusal
-  put-stopped : (k v : ℕ) (why : Answer) → putWalk h (areaFrom 0 ps) (m .cap) (k, v) ≡ stopped why → Refused m ps (put k v) why []
+  put-stopped : (x : Record) (why : Answer) → putWalk h (areaFrom 0 ps) (m .cap) x ≡ stopped why → Refused m ps (put x) why []
   unfolding left
-  put-stopped k v why e = rw (← on-gate s, e)
+  put-stopped x why e = rw (← on-gate s, e)
 
   remove-stopped : (k : ℕ) (why : Answer) → removeWalk h (areaFrom 0 ps) (m .cap) k ≡ stopped why → Refused m ps (remove k) why []
   unfolding left
   remove-stopped k why e = rw (← on-gate s, e)
 
   -- and one that went well writes its pages, where the count is right
-  put-went : (k v : ℕ) (qs : List (List Record)) → Went ps qs (putWalk h (areaFrom 0 ps) (m .cap) (k, v)) → Moves (strayed key qs ps) (putWalk h (areaFrom 0 ps) (m .cap) (k, v))
-      → (length (m .held) ≡ 12 * m .cap → ⊥) → Stands (holding m ((k, v) ∷ m .held)) qs
-      → Accepts m (holding m ((k, v) ∷ m .held)) ps (put k v) 0 []
+  put-went : (x : Record) (qs : List (List Record)) → Went ps qs (putWalk h (areaFrom 0 ps) (m .cap) x) → Moves (strayed key qs ps) (putWalk h (areaFrom 0 ps) (m .cap) x)
+      → (length (m .held) ≡ 12 * m .cap → ⊥) → Stands (holding m (x ∷ m .held)) qs
+      → Accepts m (holding m (x ∷ m .held)) ps (put x) 0 []
   unfolding left
-  put-went k v qs w n f t =
+  put-went x qs w n f t =
       record {
         read = w .read;
         moved = w .moved;
@@ -118,7 +118,7 @@ module _ {m : Kept} {ps : List (List Record)} (s : Stands m ps) where
 
     pub find-held : (v : ℕ) → commitOf k (m .held) ≡ some v → Accepts m m ps (find k) v []
     find-held v e =
-        let w : FindGoes (some (k, v)) (findAnswer (walk h (areaFrom 0 ps) (m .cap) k)) = rw (finds k l v e) at goes in
+        let w : FindGoes (some (recordWith k v)) (findAnswer (walk h (areaFrom 0 ps) (m .cap) k)) = rw (finds k l v e) at goes in
         record { read = w .0; moved = 0; pages = ps; left = find-leaves k (Accepted v (w .0) 0) (w .1); stands = s; moves = refl }
 
     pub find-absent : commitOf k (m .held) ≡ none → (n : ℕ) × Refused m ps (find k) (Absent n) []
@@ -134,7 +134,7 @@ module _ {m : Kept} {ps : List (List Record)} (s : Stands m ps) where
     pub remove-held : (v : ℕ) → commitOf k (m .held) ≡ some v → Accepts m (holding m (without k (m .held))) ps (remove k) 0 []
     remove-held v e =
         let qs : List (List Record) = removeIn key h 12 k ps in
-        let w : RemoveGoes ps (some (k, v)) qs (removeWalk h (areaFrom 0 ps) (m .cap) k) = rw (finds k l v e) at takes in
+        let w : RemoveGoes ps (some (recordWith k v)) qs (removeWalk h (areaFrom 0 ps) (m .cap) k) = rw (finds k l v e) at takes in
         let n : suc (length (without k (m .held))) ≡ length (m .held) = without-length k (s .set) e in
         let less : length (m .held) - 1 ≡ length (without k (m .held)) = omega arith in
         remove-went k v qs w (remove-moves (on-clean s) k l (home-low s k) (on-once s)) e (record {
@@ -145,42 +145,42 @@ module _ {m : Kept} {ps : List (List Record)} (s : Stands m ps) where
           image = rw (without-del k (m .held) (s .set .once)) (remove-image key h 12 k l (s .set) (s .image));
         })
 
-    module _ (v : ℕ) where
-      comes : PutGoes ps (findIn key h 12 k ps) (putIn key h 12 (k, v) ps) (putWalk h (areaFrom 0 ps) (m .cap) (k, v))
-      comes = put-clean (on-clean s) (k, v) l (home-low s k)
+  module _ (x : Record) (l : key x < 2 ^ 64) where
+    comes : PutGoes ps (findIn key h 12 (key x) ps) (putIn key h 12 x ps) (putWalk h (areaFrom 0 ps) (m .cap) x)
+    comes = put-clean (on-clean s) x l (home-low s (key x))
 
-      pub put-held : (w : ℕ) → commitOf k (m .held) ≡ some w → (n : ℕ) × Refused m ps (put k v) (Held w n) []
-      put-held w e =
-          let g : PutGoes ps (some (k, w)) (putIn key h 12 (k, v) ps) (putWalk h (areaFrom 0 ps) (m .cap) (k, v)) = rw (finds k l w e) at comes in
-          (g .0, put-stopped k v (Held w (g .0)) (g .1))
+    pub put-held : (w : ℕ) → commitOf (key x) (m .held) ≡ some w → (n : ℕ) × Refused m ps (put x) (Held w n) []
+    put-held w e =
+        let g : PutGoes ps (some (recordWith (key x) w)) (putIn key h 12 x ps) (putWalk h (areaFrom 0 ps) (m .cap) x) = rw (finds (key x) l w e) at comes in
+        (g .0, put-stopped x (Held w (g .0)) (g .1))
 
-      module _ (e : commitOf k (m .held) ≡ none) where
-        pub with-new : RecordSet key ((k, v) ∷ m .held)
-        with-new = set-put k v (s .set) l e
+    module _ (e : commitOf (key x) (m .held) ≡ none) where
+      pub with-new : RecordSet key (x ∷ m .held)
+      with-new = set-put x (s .set) l e
 
-        pub new-once : Distinct key ((k, v) ∷ cat ps [])
-        new-once = (perm-all (λ y. key y ≡ k → ⊥) (Permᴰ·symm (s .image .arranged .holds)) (with-new .once .0), on-once s)
+      pub new-once : Distinct key (x ∷ cat ps [])
+      new-once = (perm-all (λ y. key y ≡ key x → ⊥) (Permᴰ·symm (s .image .arranged .holds)) (with-new .once .0), on-once s)
 
-        ends : Poured ps (putIn key h 12 (k, v) ps .0) (putIn key h 12 (k, v) ps .1) (putWalk h (areaFrom 0 ps) (m .cap) (k, v))
-        ends = rw (misses k l e) at comes
+      ends : Poured ps (putIn key h 12 x ps .0) (putIn key h 12 x ps .1) (putWalk h (areaFrom 0 ps) (m .cap) x)
+      ends = rw (misses (key x) l e) at comes
 
-        pub put-full : (Room key h 12 (m .cap) ((k, v) ∷ m .held) → ⊥) → (n : ℕ) × Refused m ps (put k v) (NoRoom n) []
-        put-full f = go (putIn key h 12 (k, v) ps .1) refl ends
-          where
-            go : (o : List Record) → putIn key h 12 (k, v) ps .1 ≡ o → Poured ps (putIn key h 12 (k, v) ps .0) o (putWalk h (areaFrom 0 ps) (m .cap) (k, v))
-                → (n : ℕ) × Refused m ps (put k v) (NoRoom n) []
-            go [] q w = absurd (f (put-room key h 12 (k, v) with-new (s .image) .0 q))
-            go (y ∷ o) q w = (w .0, put-stopped k v (NoRoom (w .0)) (w .1))
+      pub put-full : (Room key h 12 (m .cap) (x ∷ m .held) → ⊥) → (n : ℕ) × Refused m ps (put x) (NoRoom n) []
+      put-full f = go (putIn key h 12 x ps .1) refl ends
+        where
+          go : (o : List Record) → putIn key h 12 x ps .1 ≡ o → Poured ps (putIn key h 12 x ps .0) o (putWalk h (areaFrom 0 ps) (m .cap) x)
+              → (n : ℕ) × Refused m ps (put x) (NoRoom n) []
+          go [] q w = absurd (f (put-room key h 12 x with-new (s .image) .0 q))
+          go (y ∷ o) q w = (w .0, put-stopped x (NoRoom (w .0)) (w .1))
 
-        pub put-new : v < 2 ^ 64 → Room key h 12 (m .cap) ((k, v) ∷ m .held) → Accepts m (holding m ((k, v) ∷ m .held)) ps (put k v) 0 []
-        put-new u r =
-            let q : putIn key h 12 (k, v) ps .1 ≡ [] = put-room key h 12 (k, v) with-new (s .image) .1 r in
-            let w : Went ps (putIn key h 12 (k, v) ps .0) (putWalk h (areaFrom 0 ps) (m .cap) (k, v)) = rw q at ends in
-            let few : suc (length (m .held)) ≤ 12 * m .cap = room-few key h 12 r in
-            put-went k v (putIn key h 12 (k, v) ps .0) w (put-moves (on-clean s) (k, v) l (home-low s k) (on-slots s) (on-sorted s) new-once) (λ z. omega arith) (record {
-              range = rw add-one at (more-range (stateOf m) (s .range) (omega arith));
-              set = with-new;
-              count = refl;
-              values = (u, s .values);
-              image = put-image key h 12 (k, v) with-new (s .image) q;
-            })
+      pub put-new : value x < 2 ^ 64 → Room key h 12 (m .cap) (x ∷ m .held) → Accepts m (holding m (x ∷ m .held)) ps (put x) 0 []
+      put-new u r =
+          let q : putIn key h 12 x ps .1 ≡ [] = put-room key h 12 x with-new (s .image) .1 r in
+          let w : Went ps (putIn key h 12 x ps .0) (putWalk h (areaFrom 0 ps) (m .cap) x) = rw q at ends in
+          let few : suc (length (m .held)) ≤ 12 * m .cap = room-few key h 12 r in
+          put-went x (putIn key h 12 x ps .0) w (put-moves (on-clean s) x l (home-low s (key x)) (on-slots s) (on-sorted s) new-once) (λ z. omega arith) (record {
+            range = rw add-one at (more-range (stateOf m) (s .range) (omega arith));
+            set = with-new;
+            count = refl;
+            values = (u, s .values);
+            image = put-image key h 12 x with-new (s .image) q;
+          })

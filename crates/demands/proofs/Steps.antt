@@ -60,10 +60,10 @@ pub data Step (m : Kept) (ps : List (List Record)) (c : Call) : Type 0 where
   said : (u : Bool) → keeps (some m) c ≡ some m → left (fileOf m ps) c ≡ record { said = says u; file = fileOf m ps; row = [] } → Step m ps c
 
 -- what a put comes to: its number was held, or there is no room, or it is new
-pub data Puts (m : Kept) (ps : List (List Record)) (k v : ℕ) : Type 0 where
-  was : (w n : ℕ) → commitOf k (m .held) ≡ some w → Refused m ps (put k v) (Held w n) [] → Puts m ps k v
-  turned-away : (n : ℕ) → commitOf k (m .held) ≡ none → Refused m ps (put k v) (NoRoom n) [] → Puts m ps k v
-  joined : commitOf k (m .held) ≡ none → Accepts m (holding m ((k, v) ∷ m .held)) ps (put k v) 0 [] → Puts m ps k v
+pub data Puts (m : Kept) (ps : List (List Record)) (x : Record) : Type 0 where
+  was : (w n : ℕ) → commitOf (key x) (m .held) ≡ some w → Refused m ps (put x) (Held w n) [] → Puts m ps x
+  turned-away : (n : ℕ) → commitOf (key x) (m .held) ≡ none → Refused m ps (put x) (NoRoom n) [] → Puts m ps x
+  joined : commitOf (key x) (m .held) ≡ none → Accepts m (holding m (x ∷ m .held)) ps (put x) 0 [] → Puts m ps x
 
 -- what a growth comes to
 pub data Grows (m : Kept) (ps : List (List Record)) (row : List ℕ) : Type 0 where
@@ -147,21 +147,21 @@ module _ {m : Kept} {ps : List (List Record)} (s : Stands m ps) where
       go none e = let w = remove-absent s k l e in refused (Absent (w .0)) [] tt (w .1)
 
   -- a put, by what is held and by what there is room for
-  pub put-comes : (k v : ℕ) → k < 2 ^ 64 → v < 2 ^ 64 → Puts m ps k v
-  put-comes k v l u = go (commitOf k (m .held)) refl
+  pub put-comes : (x : Record) → Fits (put x) → Puts m ps x
+  put-comes x f = go (commitOf (key x) (m .held)) refl
     where
-      room : commitOf k (m .held) ≡ none → Dec (Room key (homes (stateOf m)) 12 (m .cap) ((k, v) ∷ m .held)) → Puts m ps k v
-      room e (yes r) = joined e (put-new s k l v e u r)
-      room e (no f) = let w = put-full s k l v e f in turned-away (w .0) e (w .1)
+      room : commitOf (key x) (m .held) ≡ none → Dec (Room key (homes (stateOf m)) 12 (m .cap) (x ∷ m .held)) → Puts m ps x
+      room e (yes r) = joined e (put-new s x (f .0) e (f .1) r)
+      room e (no n) = let w = put-full s x (f .0) e n in turned-away (w .0) e (w .1)
 
-      go : (o : Option ℕ) → commitOf k (m .held) ≡ o → Puts m ps k v
-      go (some w) e = let t = put-held s k l v w e in was w (t .0) e (t .1)
-      go none e = room e (room-told (homes (stateOf m)) (m .cap) ((k, v) ∷ m .held) (set-put k v (s .set) l e))
+      go : (o : Option ℕ) → commitOf (key x) (m .held) ≡ o → Puts m ps x
+      go (some w) e = let t = put-held s x (f .0) w e in was w (t .0) e (t .1)
+      go none e = room e (room-told (homes (stateOf m)) (m .cap) (x ∷ m .held) (set-put x (s .set) (f .0) e))
 
-  put-step : (k v : ℕ) → Puts m ps k v → Step m ps (put k v)
-  put-step k v (was w n e a) = refused (Held w n) [] tt a
-  put-step k v (turned-away n e a) = refused (NoRoom n) [] tt a
-  put-step k v (joined e a) = accepted (holding m ((k, v) ∷ m .held)) 0 [] refl a
+  put-step : (x : Record) → Puts m ps x → Step m ps (put x)
+  put-step x (was w n e a) = refused (Held w n) [] tt a
+  put-step x (turned-away n e a) = refused (NoRoom n) [] tt a
+  put-step x (joined e a) = accepted (holding m (x ∷ m .held)) 0 [] refl a
 
   format-step : (q : Params) (cap : ℕ) → Step m ps (format q cap)
   format-step q cap = go (format-begins (fileOf m ps) q cap)
@@ -175,7 +175,7 @@ module _ {m : Kept} {ps : List (List Record)} (s : Stands m ps) where
   pub step : (c : Call) → Fits c → Step m ps c
   step (format q cap) f = format-step q cap
   step (find k) f = find-step k f
-  step (put k v) f = put-step k v (put-comes k v (f .0) (f .1))
+  step (put x) f = put-step x (put-comes x f)
   step (remove k) f = remove-step k f
   step (grow row) f = grow-step row (grow-comes row)
   step check f = accepted m 0 [] refl check-stands
@@ -218,7 +218,7 @@ none-next f (format q cap) = go (left f (format q cap)) (format-begins f q cap)
     go l (outside e) = rw e tt
     go l (elsewhere e) = rw e tt
 none-next f (find k) = still (left f (find k))
-none-next f (put k v) = still (left f (put k v))
+none-next f (put x) = still (left f (put x))
 none-next f (remove k) = still (left f (remove k))
 none-next f (grow row) = still (left f (grow row))
 none-next f check = still (left f check)

@@ -13,7 +13,7 @@ use Rattle.placing.specs.Lay.{rankOf, rankIn}
 use Rattle.placing.specs.Walks.{seek}
 use Rattle.placing.proofs.Seek.{clash}
 use Rattle.placing.proofs.Rank.{seek-key}
-use Rattle.pages.specs.Page.{Record, key, value}
+use Rattle.pages.specs.Page.{Record, key, value, recordWith}
 use Rattle.pages.specs.Slots.{ahead}
 use Rattle.walks.specs.declared.Met.{Met}
 use Rattle.walks.specs.declared.Met.the-variants.{Found, Sick, Ends, Past}
@@ -25,13 +25,13 @@ abbrev pub Small : Record → Type 0
 Small x = key x < 2 ^ 64
 
 -- a slot that holds the key shows its record
-pub held-record : (k i j v : ℕ) (p : List Record) → heldAt k i p ≡ some (j, v) → seek key k p ≡ some (k, v)
+pub held-record : (k i j v : ℕ) (p : List Record) → heldAt k i p ≡ some (j, v) → seek key k p ≡ some (recordWith k v)
 held-record k i j v [] e = absurd (clash e)
 held-record k i j v (x ∷ p) e = go (eqb (key x) k) refl e (held-record k (suc i) j v p)
   where
     go : (u : Bool) → eqb (key x) k ≡ u → cond u (some (i, value x)) (heldAt k (suc i) p) ≡ some (j, v)
-        → (heldAt k (suc i) p ≡ some (j, v) → seek key k p ≡ some (k, v))
-        → cond u (some x) (seek key k p) ≡ some (k, v)
+        → (heldAt k (suc i) p ≡ some (j, v) → seek key k p ≡ some (recordWith k v))
+        → cond u (some x) (seek key k p) ≡ some (recordWith k v)
     go true q g ih =
         let t : _≡_ {A = ℕ × ℕ} (i, value x) (j, v) = cc in
         let w : value x ≡ v = ap (λ (y : ℕ × ℕ). y .1) t in
@@ -108,5 +108,5 @@ module _ (h : ℕ → ℕ) (k : ℕ) where
   pub away-seek : (p : List Record) → k < 2 ^ 64 → All Small p → heldAt k 0 p ≡ none → seek (rankIn key h) (rankOf h k) p ≡ none
   away-seek p l s e = seek-key key h k p l s ∙ held-seek k 0 p e
 
-  pub here-seek : (p : List Record) (i v : ℕ) → k < 2 ^ 64 → All Small p → heldAt k 0 p ≡ some (i, v) → seek (rankIn key h) (rankOf h k) p ≡ some (k, v)
+  pub here-seek : (p : List Record) (i v : ℕ) → k < 2 ^ 64 → All Small p → heldAt k 0 p ≡ some (i, v) → seek (rankIn key h) (rankOf h k) p ≡ some (recordWith k v)
   here-seek p i v l s e = seek-key key h k p l s ∙ held-record k 0 i v p e

@@ -84,10 +84,10 @@ total f (format q cap) = formats (gateOf (fresh q cap) (length (f .area)))
     formats : (g : Gate) → Leaves f (wrote (onGate g (refused (f .state) (f .area)) new)) []
     formats g = gated f g new (λ n. absurd (n refl))
 total f (find k) = looks f (gateOf (f .state) (length (f .area))) (findAnswer (walk (homes (f .state)) (f .area) (f .state .cap) k))
-total f (put k v) =
+total f (put x) =
     let s = f .state in
-    gated f (gateOf s (length (f .area))) (putOpen s (f .area) (k, v))
-    (walked f (oneMore s) (eqb (s .r) (12 * s .cap)) (putWalk (homes s) (f .area) (s .cap) (k, v)))
+    gated f (gateOf s (length (f .area))) (putOpen s (f .area) x)
+    (walked f (oneMore s) (eqb (s .r) (12 * s .cap)) (putWalk (homes s) (f .area) (s .cap) x))
 total f (remove k) =
     let s = f .state in
     gated f (gateOf s (length (f .area))) (removeOpen s (f .area) k) (walked f (oneLess s) (eqb (s .r) 0) (removeWalk (homes s) (f .area) (s .cap) k))

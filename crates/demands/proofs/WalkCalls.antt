@@ -8,6 +8,7 @@ use native.Mathlib.Omega.{arith}
 use lib.Dec.{eqb}
 use lib.ListN.{length}
 use borrow.Author.Tests.{eqb-true, eq-eqb}
+use Rattle.pages.specs.Page.{Record}
 use Rattle.state.specs.Promises.{Ranged}
 use Rattle.state.specs.declared.State.{State}
 use Rattle.state.specs.declared.Numbers.{Numbers}
@@ -100,23 +101,23 @@ module _ (f : File) where
   equal : (a b : ℕ) → (eqb a b ≡ true) ↔ (a ≡ b)
   equal a b = (eqb-true a b, eq-eqb a b)
 
-  module _ (k v : ℕ) where
+  module _ (x : Record) where
     abbrev puts : Numbers
-    puts = numbers (putOpen s area (k, v) .done .answer)
+    puts = numbers (putOpen s area x .done .answer)
 
-    put-tells : tells f (put k v) ≡ onGate (gateOf s (length area)) numbers puts
+    put-tells : tells f (put x) ≡ onGate (gateOf s (length area)) numbers puts
     unfolding left
-    put-tells = gated s area (putOpen s area (k, v)) (gateOf s (length area))
+    put-tells = gated s area (putOpen s area x) (gateOf s (length area))
 
-    pub put-settled : Settled f (put k v) (s .r ≡ 12 * s .cap) (tells f (put k v))
+    pub put-settled : Settled f (put x) (s .r ≡ 12 * s .cap) (tells f (put x))
     put-settled = rw put-tells (go (enter s area))
       where
-        go : Enters s area → Settled f (put k v) (s .r ≡ 12 * s .cap) (onGate (gateOf s (length area)) numbers puts)
-        go (out r g) = rw g (shut (put k v) 1 refl refl refl (inl (r, refl)))
-        go (other r l g) = rw g (shut (put k v) 2 refl refl refl (inr (r, inl (l, refl))))
+        go : Enters s area → Settled f (put x) (s .r ≡ 12 * s .cap) (onGate (gateOf s (length area)) numbers puts)
+        go (out r g) = rw g (shut (put x) 1 refl refl refl (inl (r, refl)))
+        go (other r l g) = rw g (shut (put x) 2 refl refl refl (inr (r, inl (l, refl))))
         go (entered r l g) =
-            rw g (settles (put k v) (λ n d. inr (r, inr (l, d))) refl refl (λ n m. refl) (oneMore s) (eqb (s .r) (12 * s .cap)) (equal (s .r) (12 * s .cap))
-            (putWalk (homes s) area (s .cap) (k, v)) (put-stops f (k, v)))
+            rw g (settles (put x) (λ n d. inr (r, inr (l, d))) refl refl (λ n m. refl) (oneMore s) (eqb (s .r) (12 * s .cap)) (equal (s .r) (12 * s .cap))
+            (putWalk (homes s) area (s .cap) x) (put-stops f x))
 
   module _ (k : ℕ) where
     abbrev removes : Numbers

@@ -44,7 +44,7 @@ pub record Answers : Type 0 where
       (λ κs a. left (record { state = a .0; area = now (a .1 .0) }) (find (a .1 .1 .0)))
       (λ κs a y v. leaves y (now (a .1 .0)) [])
   pub put : Settled Put.ended Put.Reads.Asked Put.Reads.Learnt
-      (λ κs a. left (record { state = a .0; area = now (a .1 .0) }) (put (a .1 .1 .0) (a .1 .1 .1 .0)))
+      (λ κs a. left (record { state = a .0; area = now (a .1 .0) }) (put (a .1 .1 .0)))
       (λ κs a y v. leaves y (v .1 .0) [])
   pub remove : Settled Remove.ended Remove.Reads.Asked Remove.Reads.Learnt
       (λ κs a. left (record { state = a .0; area = now (a .1 .0) }) (remove (a .1 .1 .0)))

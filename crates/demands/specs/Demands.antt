@@ -8,7 +8,7 @@ use lib.ListN.{length}
 use lib.Dec.{ltb}
 use Rattle.placing.specs.Image.{All, RecordSet, Room}
 use Rattle.placing.specs.Rows.{counts}
-use Rattle.pages.specs.Page.{key, homeFor}
+use Rattle.pages.specs.Page.{Record, key, homeFor}
 use Rattle.state.specs.State.{homes, grown}
 use Rattle.register.specs.OneImage.{AreaImage}
 use Rattle.register.specs.Files.{Call, format, find, put, remove, grow, check, due, File, says, left, numbersOf}
@@ -31,7 +31,7 @@ Tells f c number commit = (refusal f c ≡ number) × (numbersOf (left f c .said
 abbrev pub lent : Call → List ℕ
 lent (format q cap) = []
 lent (find k) = []
-lent (put k v) = []
+lent (put x) = []
 lent (remove k) = []
 lent (grow row) = row
 lent check = []
@@ -53,7 +53,7 @@ module _ (m : Kept) (f : File) where
 
   -- and a retry of what is held is told its commit (6), whatever commit it offers; no other put is
   abbrev pub Retried : Type 0
-  Retried = (k v w : ℕ) → k < 2 ^ 64 → v < 2 ^ 64 → Tells f (put k v) 6 w ↔ (commitOf k (m .held) ≡ some w)
+  Retried = (x : Record) → Fits (put x) → (w : ℕ) → Tells f (put x) 6 w ↔ (commitOf (key x) (m .held) ≡ some w)
 
   -- a removal is accepted where the request is held, and otherwise refused with 5
   abbrev pub Removed : Type 0
@@ -70,8 +70,8 @@ module _ (m : Kept) (f : File) where
 
   -- "A put of a number not held .. is refused for room exactly when no arrangement on the lent pages, twelve to a page, puts every record (the new one included) at its home page .. or a higher one"; otherwise it is accepted
   abbrev pub RoomPut : Type 0
-  RoomPut = (k v : ℕ) → k < 2 ^ 64 → v < 2 ^ 64 → commitOf k (m .held) ≡ none
-      → let room = Room key (homes (stateOf m)) 12 (m .cap) ((k, v) ∷ m .held) in ((refusal f (put k v) ≡ 7) ↔ (room → ⊥)) × ((refusal f (put k v) ≡ 0) ↔ room)
+  RoomPut = (x : Record) → Fits (put x) → commitOf (key x) (m .held) ≡ none
+      → let room = Room key (homes (stateOf m)) 12 (m .cap) (x ∷ m .held) in ((refusal f (put x) ≡ 7) ↔ (room → ⊥)) × ((refusal f (put x) ≡ 0) ↔ room)
 
   -- and "a growth below the lent size with a row of the right length" likewise, each record at "its home after it"
   abbrev pub RoomGrow : Type 0

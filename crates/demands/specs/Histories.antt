@@ -15,7 +15,7 @@ use Rattle.register.specs.Files.{Call, format, find, put, remove, grow, check, 
 abbrev pub Fits : Call → Type 0
 Fits (format q cap) = Unit {0}
 Fits (find k) = k < 2 ^ 64
-Fits (put k v) = (k < 2 ^ 64) × (v < 2 ^ 64)
+Fits (put x) = (key x < 2 ^ 64) × (value x < 2 ^ 64)
 Fits (remove k) = k < 2 ^ 64
 Fits (grow row) = Unit {0}
 Fits check = Unit {0}
@@ -67,7 +67,7 @@ paged m = record { params = m .params; cap = m .cap; p = m .p + 1; held = m .hel
 abbrev pub keeps : Option Kept → Call → Option Kept
 keeps o (format q cap) = some (begun q cap)
 keeps o (find k) = o
-keeps o (put k v) = Option·map (λ m. holding m ((k, v) ∷ m .held)) o
+keeps o (put x) = Option·map (λ m. holding m (x ∷ m .held)) o
 keeps o (remove k) = Option·map (λ m. holding m (without k (m .held))) o
 keeps o (grow row) = Option·map paged o
 keeps o check = o

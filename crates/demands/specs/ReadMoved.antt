@@ -31,7 +31,7 @@ ReadHeld f = (k b v : ℕ) → k < 2 ^ 64 → HeldOn f b k v → readTo f k ≡ 
 
 -- a find of one that is not held, to the page that an accepted put of it, now, would put it on
 abbrev pub ReadAbsent : File → Type 0
-ReadAbsent f = (k b v w : ℕ) → k < 2 ^ 64 → v < 2 ^ 64 → refusal f (put k v) ≡ 0 → HeldOn (left f (put k v) .file) b k w → readTo f k ≡ b + 1
+ReadAbsent f = (x : Record) (b w : ℕ) → Fits (put x) → refusal f (put x) ≡ 0 → HeldOn (left f (put x) .file) b (key x) w → readTo f (key x) ≡ b + 1
 
 -- and no find judges more than there are
 abbrev pub ReadWithin : File → Type 0
@@ -45,7 +45,7 @@ pagesOf f = heldFrom (f .area) (f .state .cap) 0
 abbrev pub differ : Call → (before after : List (List Record)) → ℕ
 differ (format q cap) before after = 0
 differ (find k) before after = 0
-differ (put k v) before after = strayed key after before
+differ (put x) before after = strayed key after before
 differ (remove k) before after = strayed key before after
 differ (grow row) before after = strayed key before after
 differ check before after = 0

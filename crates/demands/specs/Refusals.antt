@@ -9,7 +9,7 @@ use lib.ListN.{length}
 use Rattle.numbers.specs.Little.{Bytes}
 use Rattle.homes.specs.declared.Params.{Params}
 use Rattle.placing.specs.Image.{Room}
-use Rattle.pages.specs.Page.{key, readPage}
+use Rattle.pages.specs.Page.{Record, key, readPage}
 use Rattle.pages.specs.Area.{partAt}
 use Rattle.state.specs.declared.State.{State}
 use Rattle.state.specs.declared.Numbers.{Numbers}
@@ -73,7 +73,7 @@ entry s area = unless 1 (Ranged s) ∷ unless 2 (RightArea s area) ∷ []
 abbrev pub order : File → Call → List Cause
 order f (format q cap) = entry (fresh q cap) (f .area)
 order f (find k) = entry (f .state) (f .area)
-order f (put k v) = entry (f .state) (f .area)
+order f (put x) = entry (f .state) (f .area)
 order f (remove k) = entry (f .state) (f .area)
 order f (grow row) =
     unless 1 (Ranged (f .state)) ∷ unless 2 (RightArea (f .state) (f .area))
@@ -91,7 +91,7 @@ OneOf n (k ∷ ks) = (n ≡ k) ⊎ OneOf n ks
 abbrev pub gives : Call → List ℕ
 gives (format q cap) = 0 ∷ 1 ∷ 2 ∷ []
 gives (find k) = 0 ∷ 1 ∷ 2 ∷ 4 ∷ 5 ∷ []
-gives (put k v) = 0 ∷ 1 ∷ 2 ∷ 4 ∷ 6 ∷ 7 ∷ 9 ∷ []
+gives (put x) = 0 ∷ 1 ∷ 2 ∷ 4 ∷ 6 ∷ 7 ∷ 9 ∷ []
 gives (remove k) = 0 ∷ 1 ∷ 2 ∷ 4 ∷ 5 ∷ 9 ∷ []
 gives (grow row) = 0 ∷ 1 ∷ 2 ∷ 3 ∷ 4 ∷ 7 ∷ 8 ∷ 9 ∷ []
 gives check = 0 ∷ 1 ∷ 2 ∷ 4 ∷ 9 ∷ []
@@ -116,7 +116,7 @@ pub record Plain (n : Numbers) : Type 0 where
 abbrev pub AcceptedTells : File → Call → Numbers → Type 0
 AcceptedTells f (format q cap) n = n ≡ told 0 0 0 0 0
 AcceptedTells f (find k) n = n .moved ≡ 0
-AcceptedTells f (put k v) n = n .value ≡ 0
+AcceptedTells f (put x) n = n .value ≡ 0
 AcceptedTells f (remove k) n = n .value ≡ 0
 AcceptedTells f (grow row) n = (n .value ≡ 0) × (n .read ≡ f .state .cap)
 AcceptedTells f check n = n ≡ told 0 0 0 (f .state .cap) 0
@@ -150,7 +150,7 @@ pub record RefusalsOf (f : File) : Type 0 where
   -- of every call: "4 a page looked at is broken; its address"
   pub broken : (c : Call) → refusal f c ≡ 4 → BrokenAt f (tells f c .page)
   -- "the walk (4, 5, 6 or 7 as met), then 9": where the walk meets no cause, 9 is given exactly "where r = 12 x cap" by put, "where r = 0" by remove
-  pub put-count : (k v : ℕ) → OneOf (refusal f (put k v)) (0 ∷ 9 ∷ []) → (refusal f (put k v) ≡ 9) ↔ (f .state .r ≡ 12 * f .state .cap)
+  pub put-count : (x : Record) → OneOf (refusal f (put x)) (0 ∷ 9 ∷ []) → (refusal f (put x) ≡ 9) ↔ (f .state .r ≡ 12 * f .state .cap)
   pub remove-count : (k : ℕ) → OneOf (refusal f (remove k)) (0 ∷ 9 ∷ []) → (refusal f (remove k) ≡ 9) ↔ (f .state .r ≡ 0)
   -- "Growth is due exactly when 5r > 48P"; out of range "due answers no"
   pub due-yes : (left f due .said ≡ says true) ↔ (Ranged (f .state) × (48 * f .state .p < 5 * f .state .r))

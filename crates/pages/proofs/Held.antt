@@ -5,7 +5,7 @@ use Prim.Native.Nat.{ℕ, _+_, _-_, _≤_, _<_, min}
 use native.Mathlib.Omega.{arith}
 use lib.ListN.{length, take, drop, getD, replicate, length-map, List·getD-eq-default}
 use lib.Seq.{take-all, take-at, getD-at}
-use Rattle.pages.specs.Page.{Record, key, value, padded, inMemory}
+use Rattle.pages.specs.Page.{Record, key, value, recordWith, padded, inMemory}
 use Rattle.pages.specs.Slots.{opened, closed, recordsOf, pushed}
 use Rattle.pages.specs.declared.Page.{Page}
 use Rattle.pages.specs.declared.Pushed.{Pushed}
@@ -43,51 +43,51 @@ row-closed f at rs n h =
 given-back : (at : ℕ) (x : Record) (rs : List Record) (q : Page) (y : Record)
     → q ≡ inMemory (take 12 (opened at x rs))
     → getD (opened at x rs) 12 x ≡ y
-    → _≡_ {A = Pushed} (record { page = q; key = key y; value = value y }) (pushed at x rs)
+    → _≡_ {A = Pushed} (record { page = q; over = y }) (pushed at x rs)
 given-back at x rs q y e g = rw (e, g)
 
 -- none of twelve records goes on where the new one belongs behind them
-pub push-last : (p : Page) (at k v : ℕ) (rs : List Record) → p ≡ inMemory rs → length rs ≡ 12 → at ≡ 12
-    → _≡_ {A = Pushed} (record { page = p; key = k; value = v }) (pushed at (k, v) rs)
+pub push-last : (p : Page) (at : ℕ) (x : Record) (rs : List Record) → p ≡ inMemory rs → length rs ≡ 12 → at ≡ 12
+    → _≡_ {A = Pushed} (record { page = p; over = x }) (pushed at x rs)
 unfolding opened
-push-last p at k v rs e n z =
+push-last p at x rs e n z =
     let a : take 12 rs ≡ rs = take-all 12 rs (omega arith) in
     rw z
-    (given-back 12 (k, v) rs p (k, v) (e ∙ rw (a, take-at rs ((k, v) ∷ drop 12 rs) 12 n))
-    (rw a (getD-at rs (k, v) (drop 12 rs) (k, v) 12 n)))
+    (given-back 12 x rs p x (e ∙ rw (a, take-at rs (x ∷ drop 12 rs) 12 n))
+    (rw a (getD-at rs x (drop 12 rs) x 12 n)))
 
 module _ (n at : ℕ) (ks vs : List ℕ) (rs : List Record) (h : Held n ks vs rs) (b : n ≤ 12) where
-  module _ (k v : ℕ) (l : at ≤ n) (ks′ vs′ : List ℕ) (hk : ks′ ≡ take 12 (opened at k ks)) (hv : vs′ ≡ take 12 (opened at v vs)) where
+  module _ (x : Record) (l : at ≤ n) (ks′ vs′ : List ℕ) (hk : ks′ ≡ take 12 (opened at (key x) ks)) (hv : vs′ ≡ take 12 (opened at (value x) vs)) where
     -- the rows opened are those of twelve of the records
-    held-opened : Held (min 12 (n + 1)) ks′ vs′ (take 12 (opened at (k, v) rs))
+    held-opened : Held (min 12 (n + 1)) ks′ vs′ (take 12 (opened at x rs))
     held-opened = (
-      omega (arith, opened-count 12 at (k, v) rs),
-      hk ∙ rw (h .1) (row-opened key at (k, v) rs (omega arith) (omega arith)),
-      hv ∙ rw (h .2) (row-opened value at (k, v) rs (omega arith) (omega arith)),
+      omega (arith, opened-count 12 at x rs),
+      hk ∙ rw (h .1) (row-opened key at x rs (omega arith) (omega arith)),
+      hv ∙ rw (h .2) (row-opened value at x rs (omega arith) (omega arith)),
     )
 
     -- with room the page has one record more
     pub push-more : n < 12
-        → _≡_ {A = Pushed} (record { page = record { count = n + 1; keys = ks′; values = vs′ }; key = k; value = v }) (pushed at (k, v) rs)
+        → _≡_ {A = Pushed} (record { page = record { count = n + 1; keys = ks′; values = vs′ }; over = x }) (pushed at x rs)
     push-more t =
         let e : min 12 (n + 1) ≡ n + 1 = omega arith in
-        given-back at (k, v) rs (record { count = n + 1; keys = ks′; values = vs′ }) (k, v)
-        (made (n + 1) ks′ vs′ (take 12 (opened at (k, v) rs)) (rw e at held-opened))
-        (List·getD-eq-default (opened at (k, v) rs) (k, v) {n = 12} (omega (arith, opened-length at (k, v) rs)))
+        given-back at x rs (record { count = n + 1; keys = ks′; values = vs′ }) x
+        (made (n + 1) ks′ vs′ (take 12 (opened at x rs)) (rw e at held-opened))
+        (List·getD-eq-default (opened at x rs) x {n = 12} (omega (arith, opened-length at x rs)))
 
     -- without, its last record goes on
     pub push-full : at < 12 → 12 ≤ n
-        → _≡_ {A = Pushed} (record { page = record { count = n; keys = ks′; values = vs′ }; key = getD ks 11 0; value = getD vs 11 0 })
-        (pushed at (k, v) rs)
+        → _≡_ {A = Pushed} (record { page = record { count = n; keys = ks′; values = vs′ }; over = recordWith (getD ks 11 0) (getD vs 11 0) })
+        (pushed at x rs)
     push-full t f =
         let e : min 12 (n + 1) ≡ n = omega arith in
-        let y : Record = getD rs 11 (k, v) in
-        let yk : getD ks 11 0 ≡ key y = rw (h .1) (row-at key rs (replicate (12 - length (map key rs)) 0) 11 (k, v) (omega arith)) in
-        let yv : getD vs 11 0 ≡ value y = rw (h .2) (row-at value rs (replicate (12 - length (map value rs)) 0) 11 (k, v) (omega arith)) in
+        let y : Record = getD rs 11 x in
+        let yk : getD ks 11 0 ≡ key y = rw (h .1) (row-at key rs (replicate (12 - length (map key rs)) 0) 11 x (omega arith)) in
+        let yv : getD vs 11 0 ≡ value y = rw (h .2) (row-at value rs (replicate (12 - length (map value rs)) 0) 11 x (omega arith)) in
         rw (yk, yv)
-        (given-back at (k, v) rs (record { count = n; keys = ks′; values = vs′ }) y
-        (made n ks′ vs′ (take 12 (opened at (k, v) rs)) (rw e at held-opened))
-        (opened-after at 11 (k, v) (k, v) rs (omega arith) (omega arith)))
+        (given-back at x rs (record { count = n; keys = ks′; values = vs′ }) y
+        (made n ks′ vs′ (take 12 (opened at x rs)) (rw e at held-opened))
+        (opened-after at 11 x x rs (omega arith) (omega arith)))
 
   -- the page with a record taken out
   pub taken-out : at < n → (ks′ vs′ : List ℕ) → ks′ ≡ closed at ks ++ (0 ∷ []) → vs′ ≡ closed at vs ++ (0 ∷ [])

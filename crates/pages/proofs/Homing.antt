@@ -10,7 +10,7 @@ use lib.Dec.{leb, eqb}
 use lib.ListN.{drop, getD, set, replicate, length-map, drop-of-length-le}
 use lib.Seq.{sets, drop-cons}
 use Rattle.pages.specs.declared.Page.{Page}
-use Rattle.pages.specs.Page.{Record, homeFor, countIn, recordsIn, padded, inMemory}
+use Rattle.pages.specs.Page.{Record, vacant, homeFor, countIn, recordsIn, padded, inMemory}
 use Rattle.pages.specs.Slots.{paired, recordsOf}
 use Rattle.pages.specs.Area.{partAt}
 use Rattle.pages.specs.Known.{AllHere, OnceHere, Known, fullBefore, KnownAt}
@@ -71,8 +71,8 @@ module _ (h : ℕ → ℕ) (a : ℕ) where
 
     module _ (once : Bool) (homes : List ℕ) (here : Bool) (i : ℕ) (l : i < n) (g : Homing once homes here i) where
       -- record i is the first of those from i on
-      next : drop i rs ≡ getD rs i (0, 0) ∷ drop (suc i) rs
-      next = drop-cons rs i (0, 0) (omega (arith, paired-length n ks []))
+      next : drop i rs ≡ getD rs i vacant ∷ drop (suc i) rs
+      next = drop-cons rs i vacant (omega (arith, paired-length n ks []))
 
       -- where all are at home, so is record i
       pub home-here : here ≡ true → a ≡ h (getD ks i 0)

@@ -12,7 +12,7 @@ use lib.ListN.{length, drop, getD, set, replicate, length-append, length-replica
 use lib.Seq.{sets, drop-cons}
 use Rattle.pages.specs.declared.Page.{Page}
 use Rattle.pages.specs.declared.Judged.{Judged}
-use Rattle.pages.specs.Page.{Record, key, rank, homesTo, rises, wellFormed, recordsIn, readPage, padded, inMemory, judged}
+use Rattle.pages.specs.Page.{Record, key, vacant, rank, homesTo, rises, wellFormed, recordsIn, readPage, padded, inMemory, judged}
 use Rattle.placing.specs.Lay.{ranked}
 use Rattle.pages.specs.Slots.{recordsOf}
 use Rattle.pages.proofs.Memory.{memory}
@@ -79,13 +79,13 @@ module _ (h : ℕ → ℕ) (address : ℕ) (p : Page) where
   records-length = paired-length (p .count) (p .keys) (p .values)
 
   -- record i has key i of the row
-  next-key : (i : ℕ) → i < p .count → key (getD rs i (0, 0)) ≡ getD (p .keys) i 0
+  next-key : (i : ℕ) → i < p .count → key (getD rs i vacant) ≡ getD (p .keys) i 0
   unfolding recordsOf
   next-key i l = paired-key (p .count) (p .keys) (p .values) i l
 
   -- and is the first of those from i on
-  next-record : (i : ℕ) → i < p .count → drop i rs ≡ getD rs i (0, 0) ∷ drop (suc i) rs
-  next-record i l = drop-cons rs i (0, 0) (omega (arith, records-length))
+  next-record : (i : ℕ) → i < p .count → drop i rs ≡ getD rs i vacant ∷ drop (suc i) rs
+  next-record i l = drop-cons rs i vacant (omega (arith, records-length))
 
   -- at the start all is left
   pub judging-starts : (r : ℕ) → p .count ≤ 12 → Left (replicate 12 0) r 0

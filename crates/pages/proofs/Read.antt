@@ -14,7 +14,7 @@ use Rattle.numbers.specs.Little.{numberAt}
 use Rattle.numbers.specs.Fields.{matches}
 use Rattle.numbers.proofs.Records.{matches-append}
 use Rattle.pages.specs.declared.Page.{Page}
-use Rattle.pages.specs.Page.{Record, key, value, head, full, empty, slots, recordAt, recordsFrom, countIn, recordsIn, wellFormed, padded, inMemory}
+use Rattle.pages.specs.Page.{Record, key, value, recordWith, head, full, empty, slots, recordAt, recordsFrom, countIn, recordsIn, wellFormed, padded, inMemory}
 use Rattle.pages.specs.Slots.{recordsOf}
 use Rattle.pages.proofs.Memory.{memory}
 
@@ -91,7 +91,7 @@ head-tests l address used = rw and-true
 
 -- the tests of a record's slot are those of its fields; its key and value are any numbers
 pub full-tests : (l : List ℕ) (at : ℕ)
-    → (eqb (numberAt 2 l at) 20 && eqb (numberAt 2 l (at + 2)) 1) ≡ matches l at (full (numberAt 8 l (at + 4), numberAt 8 l (at + 12)))
+    → (eqb (numberAt 2 l at) 20 && eqb (numberAt 2 l (at + 2)) 1) ≡ matches l at (full (recordWith (numberAt 8 l (at + 4)) (numberAt 8 l (at + 12))))
 full-tests l at =
     let k = numberAt 8 l (at + 4) in
     let v = numberAt 8 l (at + 12) in
@@ -105,7 +105,7 @@ empty-tests l at = simp (add-assoc, and-true)
 module _ (l : List ℕ) (count i : ℕ) where
   -- whether slot i is well formed
   abbrev pub slotMatches : Bool
-  slotMatches = matches l (16 + 20 * i) (cond (ltb i count) (full (numberAt 8 l (16 + 20 * i + 4), numberAt 8 l (16 + 20 * i + 12))) empty)
+  slotMatches = matches l (16 + 20 * i) (cond (ltb i count) (full (recordWith (numberAt 8 l (16 + 20 * i + 4)) (numberAt 8 l (16 + 20 * i + 12)))) empty)
 
   -- whether the slots from slot i on are
   abbrev pub slotsLeft : Bool
@@ -130,7 +130,7 @@ slots-step l count i h = go (ltb i count) refl
         let e : count - i ≡ suc (count - (i + 1)) = omega (arith, ltb-true i count t) in
         let k : 20 + 20 * i ≡ 16 + 20 * i + 4 = omega arith in
         let v : 28 + 20 * i ≡ 16 + 20 * i + 12 = omega arith in
-        rw (t, n, e, k, v) (matches-append (full (numberAt 8 l (16 + 20 * i + 4), numberAt 8 l (16 + 20 * i + 12))) (slots (12 - (i + 1)) (recordsFrom (count - (i + 1)) (suc i) l)) l (16 + 20 * i) ∙ rw (on, add-one))
+        rw (t, n, e, k, v) (matches-append (full (recordWith (numberAt 8 l (16 + 20 * i + 4)) (numberAt 8 l (16 + 20 * i + 12)))) (slots (12 - (i + 1)) (recordsFrom (count - (i + 1)) (suc i) l)) l (16 + 20 * i) ∙ rw (on, add-one))
     go false t =
         let e : count - i ≡ 0 = omega (arith, ltb-false i count t) in
         let z : count - (i + 1) ≡ 0 = omega arith in

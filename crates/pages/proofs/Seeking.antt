@@ -10,7 +10,7 @@ use borrow.Author.Tests.{ltb-true, ltb-false, eqb-true, eqb-false, lt-ltb, le-lt
 use lib.Dec.{eqb, ltb, leb}
 use lib.ListN.{length, drop, getD}
 use Rattle.pages.specs.declared.Page.{Page}
-use Rattle.pages.specs.Page.{Record, key, homeFor, rank, padded}
+use Rattle.pages.specs.Page.{Record, key, vacant, homeFor, rank, padded}
 use Rattle.placing.specs.Lay.{ranked}
 use Rattle.pages.specs.Slots.{ahead, upToBack, paired, recordsOf}
 use Rattle.pages.proofs.Rows.{row-at}
@@ -85,7 +85,7 @@ getD-tail [] j = refl
 getD-tail (x ∷ l) j = refl
 
 -- and each has its key from the row
-pub paired-key : (n : ℕ) (ks vs : List ℕ) (j : ℕ) → j < n → key (getD (paired n ks vs) j (0, 0)) ≡ getD ks j 0
+pub paired-key : (n : ℕ) (ks vs : List ℕ) (j : ℕ) → j < n → key (getD (paired n ks vs) j vacant) ≡ getD ks j 0
 paired-key zero ks vs j h = absurd (omega arith)
 paired-key (suc n) ks vs zero h = refl
 paired-key (suc n) ks vs (suc j) h = paired-key n (drop 1 ks) (drop 1 vs) j (omega arith) ∙ getD-tail ks j
@@ -94,7 +94,7 @@ paired-key (suc n) ks vs (suc j) h = paired-key n (drop 1 ks) (drop 1 vs) j (ome
 pub homes-key : (h : ℕ → ℕ) (n : ℕ) (ks vs hs : List ℕ) → hs ≡ padded (map (homeFor h) (paired n ks vs)) → (j : ℕ) → j < n
     → getD hs j 0 ≡ h (getD ks j 0)
 homes-key h n ks vs hs e j l =
-    rw (e, row-at (homeFor h) (paired n ks vs) _ j (0, 0) (omega (arith, paired-length n ks vs)), paired-key n ks vs j l)
+    rw (e, row-at (homeFor h) (paired n ks vs) _ j vacant (omega (arith, paired-length n ks vs)), paired-key n ks vs j l)
 
 module _ (h : ℕ → ℕ) (r : ℕ) where
   -- the test of a key whose home was worked out
@@ -107,7 +107,7 @@ module _ (h : ℕ → ℕ) (r : ℕ) where
   unfolding recordsOf
   records-ahead p =
       let e : length (recordsOf p) ≡ p .count = paired-length (p .count) (p .keys) (p .values) in
-      let all = passed-ahead (rank h) (keyRank h (p .keys)) r (0, 0) 0 (recordsOf p)
+      let all = passed-ahead (rank h) (keyRank h (p .keys)) r vacant 0 (recordsOf p)
       (λ j l. rw (zero-add, paired-key (p .count) (p .keys) (p .values) j (omega arith))) in
       rw e at all ∙ zero-add (ahead (rank h) r (recordsOf p))
 
@@ -132,12 +132,12 @@ module _ (h : ℕ → ℕ) (r : ℕ) where
       rw (g, e)
 
   -- records with the same keys leave as many
-  back-same : (ks : List ℕ) (s : List Record) (n : ℕ) → ((j : ℕ) → j < n → key (getD s j (0, 0)) ≡ getD ks j 0)
-      → back ks n ≡ upToBack (rank h) r (0, 0) s n
+  back-same : (ks : List ℕ) (s : List Record) (n : ℕ) → ((j : ℕ) → j < n → key (getD s j vacant) ≡ getD ks j 0)
+      → back ks n ≡ upToBack (rank h) r vacant s n
   back-same ks s zero e = refl
   back-same ks s (suc n) e = rw (e n (omega arith), back-same ks s n (λ j l. e j (omega arith)))
 
   -- so do the records of a page
-  pub records-back : (p : Page) → back (p .keys) (p .count) ≡ upToBack (rank h) r (0, 0) (recordsOf p) (p .count)
+  pub records-back : (p : Page) → back (p .keys) (p .count) ≡ upToBack (rank h) r vacant (recordsOf p) (p .count)
   unfolding recordsOf
   records-back p = back-same (p .keys) (recordsOf p) (p .count) (paired-key (p .count) (p .keys) (p .values))

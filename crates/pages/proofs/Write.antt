@@ -11,7 +11,7 @@ use Rattle.numbers.specs.Little.{Bytes, written}
 use Rattle.numbers.specs.Fields.{Field, width, encode}
 use Rattle.numbers.proofs.Laws.{written-nil, written-all, written-written}
 use Rattle.numbers.proofs.Records.{length-encode, encode-append, bytes-encode}
-use Rattle.pages.specs.Page.{Record, key, value, head, slot, slots, fields, pageBytes}
+use Rattle.pages.specs.Page.{Record, key, value, recordWith, head, slot, slots, fields, pageBytes}
 use Rattle.pages.proofs.Held.{Held}
 
 -- n slots have 20 bytes each
@@ -39,7 +39,7 @@ fields-on fs gs l at to e h =
 
 -- a record's slot, and then the others
 slot-used : (rs : List Record) (ks vs : List ℕ) (i n : ℕ) → i < length rs
-    → slots (suc n) (drop i rs) ≡ slot 1 (getD (map key rs ++ ks) i 0) (getD (map value rs ++ vs) i 0) ++ slots n (drop (suc i) rs)
+    → slots (suc n) (drop i rs) ≡ slot 1 (recordWith (getD (map key rs ++ ks) i 0) (getD (map value rs ++ vs) i 0)) ++ slots n (drop (suc i) rs)
 slot-used [] ks vs i n h = absurd (omega arith)
 slot-used (x ∷ rs) ks vs zero n h = refl
 slot-used (x ∷ rs) ks vs (suc i) n h = slot-used rs ks vs i n (omega arith)
@@ -52,7 +52,7 @@ zeros (suc m) (suc i) = zeros m i
 
 -- past the records an empty slot, and then the others
 slot-empty : (rs : List Record) (a b i n : ℕ) → length rs ≤ i
-    → slots (suc n) (drop i rs) ≡ slot 0 (getD (map key rs ++ replicate a 0) i 0) (getD (map value rs ++ replicate b 0) i 0) ++ slots n (drop (suc i) rs)
+    → slots (suc n) (drop i rs) ≡ slot 0 (recordWith (getD (map key rs ++ replicate a 0) i 0) (getD (map value rs ++ replicate b 0) i 0)) ++ slots n (drop (suc i) rs)
 slot-empty [] a b zero n h = rw (zeros a, zeros b)
 slot-empty [] a b (suc i) n h = rw (zeros a, zeros b)
 slot-empty (x ∷ rs) a b zero n h = absurd (omega arith)
@@ -60,7 +60,7 @@ slot-empty (x ∷ rs) a b (suc i) n h = slot-empty rs a b i n (omega arith)
 
 -- what is left to write at place i is a slot of this kind with what stands in both rows, and then what is left at the next place
 abbrev pub Next : ℕ → ℕ → List ℕ → List ℕ → List Record → Type 0
-Next i kind ks vs rs = slots (12 - i) (drop i rs) ≡ slot kind (getD ks i 0) (getD vs i 0) ++ slots (12 - (i + 1)) (drop (i + 1) rs)
+Next i kind ks vs rs = slots (12 - i) (drop i rs) ≡ slot kind (recordWith (getD ks i 0) (getD vs i 0)) ++ slots (12 - (i + 1)) (drop (i + 1) rs)
 
 module _ (i kind n : ℕ) (ks vs : List ℕ) (rs : List Record) (h : Held n ks vs rs) (t : i < 12) where
   -- so it is with a record's kind below the count
@@ -79,12 +79,12 @@ module _ (i kind n : ℕ) (ks vs : List ℕ) (rs : List Record) (h : Held n ks v
 
 -- a turn of the code writes a slot of what is left to write
 pub slot-turn : (l m : List ℕ) (i kind : ℕ) (ks vs : List ℕ) (rs : List Record) → i < 12 → length l ≡ 256
-    → m ≡ written l (16 + 20 * i) (encode (slot kind (getD ks i 0) (getD vs i 0)))
+    → m ≡ written l (16 + 20 * i) (encode (slot kind (recordWith (getD ks i 0) (getD vs i 0))))
     → Next i kind ks vs rs
     → written m (16 + 20 * (i + 1)) (encode (slots (12 - (i + 1)) (drop (i + 1) rs))) ≡ written l (16 + 20 * i) (encode (slots (12 - i) (drop i rs)))
 slot-turn l m i kind ks vs rs t n e next =
     rw (e, next)
-    (fields-on (slot kind (getD ks i 0) (getD vs i 0)) (slots (12 - (i + 1)) (drop (i + 1) rs)) l (16 + 20 * i) (16 + 20 * (i + 1))
+    (fields-on (slot kind (recordWith (getD ks i 0) (getD vs i 0))) (slots (12 - (i + 1)) (drop (i + 1) rs)) l (16 + 20 * i) (16 + 20 * (i + 1))
     (omega arith) (omega arith))
 
 -- with the head written, all slots are left to write

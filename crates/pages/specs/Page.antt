@@ -8,18 +8,26 @@ use lib.Dec.{leb, ltb}
 use Rattle.numbers.specs.Little.{numberAt}
 use Rattle.numbers.specs.Fields.{Field, encode, matches}
 use Rattle.placing.specs.Lay.{ranked}
+use Rattle.pages.specs.declared.Record as declared
 use Rattle.pages.specs.declared.Page.{Page}
 use Rattle.pages.specs.declared.Judged.{Judged}
 
--- "A record is a key .. and a value"
+-- "A record is a key .. and a value": one value, as the code declares it
 abbrev pub Record : Type 0
-Record = ℕ × ℕ
+Record = declared.Record
 
 abbrev pub key : Record → ℕ
-key x = x .0
+key x = x .key
 
 abbrev pub value : Record → ℕ
-value x = x .1
+value x = x .value
+
+abbrev pub recordWith : (k v : ℕ) → Record
+recordWith k v = record { key = k; value = v }
+
+-- "key and value zero"
+abbrev pub vacant : Record
+vacant = recordWith 0 0
 
 -- the home of a record is that of its key
 abbrev pub homeFor : (ℕ → ℕ) → Record → ℕ
@@ -34,16 +42,16 @@ abbrev pub head : (address used : ℕ) → List Field
 head address used = (2, 256) ∷ (2, 17) ∷ (4, address) ∷ (2, used) ∷ (2, 0) ∷ (4, 0) ∷ []
 
 -- A slot: "length 20 (2), kind (2), key (8), value (8)"
-abbrev pub slot : (kind k v : ℕ) → List Field
-slot kind k v = (2, 20) ∷ (2, kind) ∷ (8, k) ∷ (8, v) ∷ []
+abbrev pub slot : (kind : ℕ) → Record → List Field
+slot kind x = (2, 20) ∷ (2, kind) ∷ (8, key x) ∷ (8, value x) ∷ []
 
 -- "Kind 1 is a record."
 abbrev pub full : Record → List Field
-full x = slot 1 (key x) (value x)
+full x = slot 1 x
 
 -- "Kind 0 is empty, with key and value zero."
 abbrev pub empty : List Field
-empty = slot 0 0 0
+empty = slot 0 vacant
 
 -- n slots: "Records stand first, empty slots after."
 abbrev pub slots : ℕ → List Record → List Field
@@ -61,7 +69,7 @@ pageBytes address rs = encode (fields address rs)
 
 -- what stands at the places of key and value in slot i
 abbrev pub recordAt : List ℕ → ℕ → Record
-recordAt l i = (numberAt 8 l (20 + 20 * i), numberAt 8 l (28 + 20 * i))
+recordAt l i = recordWith (numberAt 8 l (20 + 20 * i)) (numberAt 8 l (28 + 20 * i))
 
 -- the records of n slots from slot i on
 abbrev pub recordsFrom : (n i : ℕ) → List ℕ → List Record

@@ -4,7 +4,7 @@ use mathlib.Core.Bool.{cond}
 use mathlib.Core.List.{List, [], _∷_, _++_}
 use lib.ListN.{take, drop, getD}
 use lib.Dec.{leb, ltb}
-use Rattle.pages.specs.Page.{Record, key, value, inMemory}
+use Rattle.pages.specs.Page.{Record, recordWith, inMemory}
 use Rattle.pages.specs.declared.Page.{Page}
 use Rattle.pages.specs.declared.Pushed.{Pushed}
 
@@ -31,7 +31,7 @@ module _ {R : Type 0} (rank : R → ℕ) where
 -- the first n records of a page's two rows
 abbrev pub paired : ℕ → List ℕ → List ℕ → List Record
 paired zero ks vs = []
-paired (suc n) ks vs = (getD ks 0 0, getD vs 0 0) ∷ paired n (drop 1 ks) (drop 1 vs)
+paired (suc n) ks vs = recordWith (getD ks 0 0) (getD vs 0 0) ∷ paired n (drop 1 ks) (drop 1 vs)
 
 -- the records of a page in memory
 unfoldable pub recordsOf : Page → List Record
@@ -39,4 +39,4 @@ recordsOf p = paired (p .count) (p .keys) (p .values)
 
 -- twelve of the records with x among them, and the last where that makes thirteen: else x
 abbrev pub pushed : ℕ → Record → List Record → Pushed
-pushed at x rs = record { page = inMemory (take 12 (opened at x rs)); key = key (getD (opened at x rs) 12 x); value = value (getD (opened at x rs) 12 x) }
+pushed at x rs = record { page = inMemory (take 12 (opened at x rs)); over = getD (opened at x rs) 12 x }

@@ -13,10 +13,16 @@ ghost use lib.Dec.{ltb};
 ghost use Rattle.numbers.specs.Fields.{encode, matches};
 ghost use Rattle.numbers.specs.Little.{numberAt, written};
 ghost use Rattle.homes.specs.Homes.{Ready, homeIn};
-ghost use Rattle.pages.specs.Page.{head, slot, full, empty, slots, pageBytes, countIn, recordsIn, recordsFrom, wellFormed, homesTo, rises, readPage, inMemory, judged};
+ghost use Rattle.pages.specs.Page.{recordWith, head, slot, full, empty, slots, pageBytes, countIn, recordsIn, recordsFrom, wellFormed, homesTo, rises, readPage, inMemory, judged};
 ghost use Rattle.placing.specs.Lay.{ranked};
 ghost use Rattle.pages.specs.Slots.{recordsOf};
 ghost use Rattle.pages.specs.Area.{partAt, withPage};
+
+// The key is a request number, the value the commit that it became.
+pub struct Record {
+    pub key: u64,
+    pub value: u64,
+}
 
 pub struct Page {
     pub count: usize,
@@ -34,8 +40,7 @@ pub struct Judged {
 // A page that took a record, and the record that it no longer holds.
 pub struct Pushed {
     pub page: Page,
-    pub key: u64,
-    pub value: u64,
+    pub over: Record,
 }
 
 // A page with no record.
@@ -114,7 +119,7 @@ fn head_exact(part: &[u8], address: u32, count: usize) -> bool
 // Whether a slot is a record's, or an empty one. Key and value of a record may be any numbers.
 fn slot_formed(part: &[u8], at: usize, used: bool) -> bool
     requires { ⌜ at + 20 ≤ length (now part) ⌝ }
-    ensures { λ r. ⌜ r ≡ matches (now (part .entry)) at (cond used (full (numberAt 8 (now (part .entry)) (at + 4), numberAt 8 (now (part .entry)) (at + 12))) empty) ⌝ }
+    ensures { λ r. ⌜ r ≡ matches (now (part .entry)) at (cond used (full (recordWith (numberAt 8 (now (part .entry)) (at + 4)) (numberAt 8 (now (part .entry)) (at + 12)))) empty) ⌝ }
 {
     let length = numbers::get_u16(part, at) == 20;
     let kind = numbers::get_u16(part, at + 2);
@@ -219,14 +224,14 @@ fn put_head(part: &mut [u8], address: u32, count: usize)
     numbers::put_u32(part, 12, 0);
 }
 
-fn put_slot(part: &mut [u8], at: usize, kind: u16, key: u64, value: u64)
+fn put_slot(part: &mut [u8], at: usize, kind: u16, x: Record)
     requires { ⌜ at + 20 ≤ length (now part) ⌝ }
-    ensures { λ _. ⌜ now (part .exit) ≡ written (now (part .entry)) at (encode (slot kind key value)) ⌝ }
+    ensures { λ _. ⌜ now (part .exit) ≡ written (now (part .entry)) at (encode (slot kind x)) ⌝ }
 {
     numbers::put_u16(part, at, 20);
     numbers::put_u16(part, at + 2, kind);
-    numbers::put_u64(part, at + 4, key);
-    numbers::put_u64(part, at + 12, value);
+    numbers::put_u64(part, at + 4, x.key);
+    numbers::put_u64(part, at + 12, x.value);
 }
 
 // A page to its part of the area.
@@ -241,7 +246,9 @@ pub fn store(part: &mut [u8], address: u32, page: Page)
     let mut i = 0;
     while i < 12 {
         let kind = if i < count { 1 } else { 0 };
-        put_slot(part, 16 + 20 * i, kind, keys[i], values[i]);
+        let key = keys[i];
+        let value = values[i];
+        put_slot(part, 16 + 20 * i, kind, Record { key, value });
         i += 1;
     }
 }

@@ -1,13 +1,14 @@
 // Places among the records of a page in memory, and a record put in or taken out.
 use crate::Page;
 use crate::Pushed;
+use crate::Record;
 use homes::Shape;
 ghost use mathlib.Core.Path.{_≡_};
 ghost use mathlib.Core.List.{[], _∷_, _++_};
 ghost use Prim.Native.Nat.{_≤_, _<_};
 ghost use lib.ListN.{take};
 ghost use Rattle.homes.specs.Homes.{Ready, homeIn};
-ghost use Rattle.pages.specs.Page.{rank, inMemory};
+ghost use Rattle.pages.specs.Page.{vacant, rank, inMemory};
 ghost use Rattle.placing.specs.Lay.{ranked};
 ghost use Rattle.pages.specs.Slots.{opened, closed, ahead, upToBack, recordsOf, pushed};
 
@@ -32,7 +33,7 @@ pub fn place_ahead(page: Page, shape: Shape, home: u64, key: u64) -> usize
 // The same from the back, for a record that belongs at the end more often than not.
 pub fn place_back(page: Page, shape: Shape, home: u64, key: u64) -> usize
     requires { ⌜ (page .count ≤ 12) × Ready shape ⌝ }
-    ensures { λ r. ⌜ r ≡ upToBack (rank (homeIn shape)) (ranked home key) (0, 0) (recordsOf page) (page .count) ⌝ }
+    ensures { λ r. ⌜ r ≡ upToBack (rank (homeIn shape)) (ranked home key) vacant (recordsOf page) (page .count) ⌝ }
 {
     let keys = page.keys;
     let mut i = page.count;
@@ -77,18 +78,18 @@ fn close_row(row: [u64; 12], at: usize) -> [u64; 12]
 }
 
 // A page with one record more at a place. Of thirteen the last comes back; where there are no thirteen, the record itself does.
-pub fn push(page: Page, at: usize, key: u64, value: u64) -> Pushed
+pub fn push(page: Page, at: usize, new: Record) -> Pushed
     requires { ⌜ (page .count ≤ 12) × (at ≤ page .count) × (page ≡ inMemory (recordsOf page)) ⌝ }
-    ensures { λ r. ⌜ r ≡ pushed at (key, value) (recordsOf page) ⌝ }
+    ensures { λ r. ⌜ r ≡ pushed at new (recordsOf page) ⌝ }
 {
     if at == 12 {
-        return Pushed { page, key, value };
+        return Pushed { page, over: new };
     }
     let count = page.count;
     let old_keys = page.keys;
     let old_values = page.values;
-    let keys = open_row(old_keys, at, key);
-    let values = open_row(old_values, at, value);
+    let keys = open_row(old_keys, at, new.key);
+    let values = open_row(old_values, at, new.value);
     if count < 12 {
         let more = Page {
             count: count + 1,
@@ -97,8 +98,7 @@ pub fn push(page: Page, at: usize, key: u64, value: u64) -> Pushed
         };
         return Pushed {
             page: more,
-            key,
-            value,
+            over: new,
         };
     }
     let same = Page {
@@ -106,11 +106,11 @@ pub fn push(page: Page, at: usize, key: u64, value: u64) -> Pushed
         keys,
         values,
     };
-    Pushed {
-        page: same,
+    let over = Record {
         key: old_keys[11],
         value: old_values[11],
-    }
+    };
+    Pushed { page: same, over }
 }
 
 // A page with the record at a place taken out.

@@ -41,7 +41,7 @@ all-records P (e ∷ es) h = (h .0, all-records P es (h .1))
 
 -- an entry whose home is that of its key
 abbrev pub Right : (ℕ → ℕ) → Entry → Type 0
-Right h e = e .home ≡ h (e .key)
+Right h e = e .home ≡ h (e .held .key)
 
 module _ (h : ℕ → ℕ) where
   tagged-right : (a : ℕ) (p : List Record) → All (Right h) (tagged h a p)

@@ -6,7 +6,7 @@ use lib.ListN.{length}
 use Rattle.numbers.specs.Little.{Bytes}
 use Rattle.placing.specs.Image.{All}
 use Rattle.placing.proofs.Lists.{all-append}
-use Rattle.pages.specs.Page.{Record, key, value, recordsIn}
+use Rattle.pages.specs.Page.{Record, key, recordsIn}
 use Rattle.pages.specs.Area.{partAt, heldFrom}
 use Rattle.pages.proofs.Bounds.{Small, part-small}
 use Rattle.entries.proofs.Entries.{Fits}
@@ -14,7 +14,7 @@ use Rattle.rebuild.specs.Rebuild.{tagged, taggedFrom}
 
 tagged-fit : (h : ℕ → ℕ) (a : ℕ) (p : List Record) → ((k : ℕ) → h k < 2 ^ 16) → a < 2 ^ 16 → All Small p → All Fits (tagged h a p)
 tagged-fit h a [] low l k = tt
-tagged-fit h a (x ∷ p) low l k = (record { home = low (key x); from = l; key = k .0 .0; value = k .0 .1 }, tagged-fit h a p low l (k .1))
+tagged-fit h a (x ∷ p) low l k = (record { home = low (key x); from = l; held = k .0 }, tagged-fit h a p low l (k .1))
 
 pub held-fit : (h : ℕ → ℕ) (area : List ℕ) (n a : ℕ) → ((k : ℕ) → h k < 2 ^ 16) → Bytes area → 256 * (a + n) ≤ length area → a + n ≤ 4096
     → All Fits (taggedFrom h a (heldFrom area n a))

@@ -14,7 +14,7 @@ use Rattle.placing.specs.Rows.{isThere, strays, strayed}
 use Rattle.placing.specs.Walks.{seek}
 use Rattle.placing.proofs.Lists.{all-map, all-map₂, all-append, all-right, all-take, all-page}
 use Rattle.placing.proofs.Seek.{ne-seek}
-use Rattle.pages.specs.Page.{Record, key, value}
+use Rattle.pages.specs.Page.{Record, key}
 use Rattle.entries.specs.declared.Entry.{Entry}
 use Rattle.entries.specs.Entries.{rank, home}
 use Rattle.rebuild.specs.Rebuild.{tagged, taggedFrom, recordIn, hops, hopsFrom, relaid}
@@ -58,26 +58,26 @@ module _ {R : Type 0} (key : R → ℕ) where
 
 -- an entry's page, of pages from address a on, is the one that holds its key
 abbrev pub Came : ℕ → List (List Record) → Entry → Type 0
-Came a ps e = (i : ℕ) → isThere (seek key (e .key) (page ps i)) ≡ eqb (e .from) (a + i)
+Came a ps e = (i : ℕ) → isThere (seek key (e .held .key) (page ps i)) ≡ eqb (e .from) (a + i)
 
 -- an entry of the first page
-came-first : (a : ℕ) (p : List Record) (ps : List (List Record)) (e : Entry) → e .from ≡ a → isThere (seek key (e .key) p) ≡ true
-    → All (λ y. key y ≡ e .key → ⊥) (cat ps []) → Came a (p ∷ ps) e
+came-first : (a : ℕ) (p : List Record) (ps : List (List Record)) (e : Entry) → e .from ≡ a → isThere (seek key (e .held .key) p) ≡ true
+    → All (λ y. key y ≡ e .held .key → ⊥) (cat ps []) → Came a (p ∷ ps) e
 came-first a p ps e f h n zero = h ∙ sym (eq-eqb (e .from) (a + 0) (omega arith))
 came-first a p ps e f h n (suc i) =
-    ap (λ (o : Option Record). isThere o) (ne-seek key (e .key) (page ps i) (all-page (λ y. key y ≡ e .key → ⊥) ps i n))
+    ap (λ (o : Option Record). isThere o) (ne-seek key (e .held .key) (page ps i) (all-page (λ y. key y ≡ e .held .key → ⊥) ps i n))
     ∙ sym (ne-eqb (e .from) (a + suc i) (λ q. omega arith))
 
 -- an entry of a later page
-came-later : (a : ℕ) (p : List Record) (ps : List (List Record)) (e : Entry) → suc a ≤ e .from → All (λ x. key x ≡ e .key → ⊥) p
+came-later : (a : ℕ) (p : List Record) (ps : List (List Record)) (e : Entry) → suc a ≤ e .from → All (λ x. key x ≡ e .held .key → ⊥) p
     → Came (suc a) ps e → Came a (p ∷ ps) e
 came-later a p ps e f n k zero =
-    ap (λ (o : Option Record). isThere o) (ne-seek key (e .key) p n) ∙ sym (ne-eqb (e .from) (a + 0) (λ q. omega arith))
+    ap (λ (o : Option Record). isThere o) (ne-seek key (e .held .key) p n) ∙ sym (ne-eqb (e .from) (a + 0) (λ q. omega arith))
 came-later a p ps e f n k (suc i) = let q : suc a + i ≡ a + suc i = omega arith in rw (← q) (k i)
 
 module _ (h : ℕ → ℕ) where
   tagged-each : (P : Record → Type 0) (Q : Entry → Type 0) (a : ℕ)
-      → ((x : Record) → P x → Q (record { home = h (key x); from = a; key = key x; value = value x })) → (p : List Record) → All P p → All Q (tagged h a p)
+      → ((x : Record) → P x → Q (record { home = h (key x); from = a; held = x })) → (p : List Record) → All P p → All Q (tagged h a p)
   tagged-each P Q a f [] k = tt
   tagged-each P Q a f (x ∷ p) k = (f x (k .0), tagged-each P Q a f p (k .1))
 
@@ -92,7 +92,7 @@ module _ (h : ℕ → ℕ) where
   came a [] d = tt
   came a (p ∷ ps) d =
       all-append (Came a (p ∷ ps)) (tagged h a p) rest
-      (tagged-each First (Came a (p ∷ ps)) a (λ x f. came-first a p ps (record { home = h (key x); from = a; key = key x; value = value x }) refl (f .0) (f .1)) p firsts)
+      (tagged-each First (Came a (p ∷ ps)) a (λ x f. came-first a p ps (record { home = h (key x); from = a; held = x }) refl (f .0) (f .1)) p firsts)
       (all-map₂ Later (Came (suc a) ps) (Came a (p ∷ ps)) (λ e l k. came-later a p ps e (l .0) (l .1) k) rest laters (came (suc a) ps (distinct-right key p (cat ps []) d)))
     where
       rest : List Entry
@@ -102,7 +102,7 @@ module _ (h : ℕ → ℕ) where
       First x = (isThere (seek key (key x) p) ≡ true) × All (λ y. key y ≡ key x → ⊥) (cat ps [])
 
       Later : Entry → Type 0
-      Later e = (suc a ≤ e .from) × All (λ x. key x ≡ e .key → ⊥) p
+      Later e = (suc a ≤ e .from) × All (λ x. key x ≡ e .held .key → ⊥) p
 
       firsts : All First p
       firsts =
@@ -111,10 +111,10 @@ module _ (h : ℕ → ℕ) where
 
       laters : All Later rest
       laters =
-          all-map₂ (λ e. suc a ≤ e .from) (λ e. All (λ x. key x ≡ e .key → ⊥) p) Later (λ e l n. (l, n)) rest (from-low (suc a) ps)
+          all-map₂ (λ e. suc a ≤ e .from) (λ e. All (λ x. key x ≡ e .held .key → ⊥) p) Later (λ e l n. (l, n)) rest (from-low (suc a) ps)
           (all-records (λ y. All (λ x. key x ≡ key y → ⊥) p) rest (rw (pages-records h (suc a) ps) (apart-flip key p (cat ps []) (apart-parts key p (cat ps []) d))))
 
-hops-strays : (a : ℕ) (p : List Record) (q : List Entry) → All (λ e. isThere (seek key (e .key) p) ≡ eqb (e .from) a) q
+hops-strays : (a : ℕ) (p : List Record) (q : List Entry) → All (λ e. isThere (seek key (e .held .key) p) ≡ eqb (e .from) a) q
     → hops a q ≡ strays key p (map recordIn q)
 hops-strays a p [] k = refl
 hops-strays a p (e ∷ q) k = rw (k .0, hops-strays a p q (k .1))
@@ -128,8 +128,8 @@ hops-strayed a (p ∷ ps) [] n k = refl
 hops-strayed a (p ∷ ps) (q ∷ qs) n k =
     rw (hops-strays a p q here, hops-strayed (suc a) ps qs (omega arith) after)
   where
-    here : All (λ e. isThere (seek key (e .key) p) ≡ eqb (e .from) a) q
-    here = all-map (Came a (p ∷ ps)) (λ e. isThere (seek key (e .key) p) ≡ eqb (e .from) a)
+    here : All (λ e. isThere (seek key (e .held .key) p) ≡ eqb (e .from) a) q
+    here = all-map (Came a (p ∷ ps)) (λ e. isThere (seek key (e .held .key) p) ≡ eqb (e .from) a)
         (λ e c. let z : a + 0 ≡ a = omega arith in rw z at (c 0)) q (k .0)
 
     after : All (All (Came (suc a) ps)) qs

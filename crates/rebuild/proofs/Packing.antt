@@ -10,7 +10,7 @@ use lib.Seq.{take-all, take-take, drop-at, take-append-le, drop-append-le, lengt
 use Rattle.numbers.specs.Little.{written}
 use Rattle.numbers.proofs.Laws.{written-nil}
 use Rattle.pages.specs.declared.Page.{Page}
-use Rattle.pages.specs.Page.{Record, recordsIn, inMemory}
+use Rattle.pages.specs.Page.{Record, recordWith, recordsIn, inMemory}
 use Rattle.pages.specs.Slots.{paired, recordsOf}
 use Rattle.pages.specs.Area.{partAt, heldFrom}
 use Rattle.pages.specs.Known.{KnownAt}
@@ -39,7 +39,7 @@ written-before l at v w h =
     )
 
 -- one record more of a page's rows
-paired-last : (n : ℕ) (ks vs : List ℕ) → paired (suc n) ks vs ≡ paired n ks vs ++ ((getD ks n 0, getD vs n 0) ∷ [])
+paired-last : (n : ℕ) (ks vs : List ℕ) → paired (suc n) ks vs ≡ paired n ks vs ++ (recordWith (getD ks n 0) (getD vs n 0) ∷ [])
 paired-last zero ks vs = refl
 paired-last (suc n) ks vs =
     let q : 1 + n ≡ suc n = omega arith in
@@ -54,22 +54,22 @@ rows-length h a n ks vs =
     omega (arith, row-length (tagged h a (paired n ks vs)), tagged-length h a (paired n ks vs), paired-length n ks vs)
 
 rows-last : (h : ℕ → ℕ) (a n : ℕ) (ks vs : List ℕ)
-    → rows h a (suc n) ks vs ≡ rows h a n ks vs ++ entryBytes (record { home = h (getD ks n 0); from = a; key = getD ks n 0; value = getD vs n 0 })
+    → rows h a (suc n) ks vs ≡ rows h a n ks vs ++ entryBytes (record { home = h (getD ks n 0); from = a; held = recordWith (getD ks n 0) (getD vs n 0) })
 rows-last h a n ks vs =
-    let x : Record = (getD ks n 0, getD vs n 0) in
+    let x : Record = recordWith (getD ks n 0) (getD vs n 0) in
     ap (λ (s : List Record). rowBytes (tagged h a s)) (paired-last n ks vs)
     ∙ rw (tagged-append h a (paired n ks vs) (x ∷ []), row-append (tagged h a (paired n ks vs)) (tagged h a (x ∷ [])), append-nil)
 
 -- a turn puts the last entry of what is left to write
 pub page-turn : (l m : List ℕ) (h : ℕ → ℕ) (a b i at home : ℕ) (ks vs : List ℕ) → 0 < i → b + 20 * i ≤ length l
     → at ≡ b + 20 * (i - 1) → home ≡ h (getD ks (i - 1) 0)
-    → m ≡ written l at (entryBytes (record { home = home; from = a; key = getD ks (i - 1) 0; value = getD vs (i - 1) 0 }))
+    → m ≡ written l at (entryBytes (record { home = home; from = a; held = recordWith (getD ks (i - 1) 0) (getD vs (i - 1) 0) }))
     → written m b (rows h a (i - 1) ks vs) ≡ written l b (rows h a i ks vs)
 page-turn l m h a b i at home ks vs z n p q e =
     let s : suc (i - 1) ≡ i = omega arith in
     let len : length (rows h a (i - 1) ks vs) ≡ 20 * (i - 1) = rows-length h a (i - 1) ks vs in
     rw (e, p, q, ← len)
-    (written-before l b (rows h a (i - 1) ks vs) (entryBytes (record { home = h (getD ks (i - 1) 0); from = a; key = getD ks (i - 1) 0; value = getD vs (i - 1) 0 })) (omega arith)
+    (written-before l b (rows h a (i - 1) ks vs) (entryBytes (record { home = h (getD ks (i - 1) 0); from = a; held = recordWith (getD ks (i - 1) 0) (getD vs (i - 1) 0) })) (omega arith)
     ∙ ap (λ (v : List ℕ). written l b v) (sym (rows-last h a (i - 1) ks vs) ∙ ap (λ (n : ℕ). rows h a n ks vs) s))
 
 -- after the last turn nothing is left to write

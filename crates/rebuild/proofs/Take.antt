@@ -42,7 +42,7 @@ fitting-length (suc b) a (e ∷ es) = go (leb (home e) a) (fitting-length b a es
 -- a page that holds n records in its rows, with the entries of a list stored behind them
 abbrev filled : (a : ℕ) (ks vs : List ℕ) (n at m : ℕ) → List Entry → Took
 filled a ks vs n at m es = record {
-  page = record { count = n + length es; keys = sets ks n (map (λ e. e .key) es); values = sets vs n (map (λ e. e .value) es) };
+  page = record { count = n + length es; keys = sets ks n (map (λ e. e .held .key) es); values = sets vs n (map (λ e. e .held .value) es) };
   next = at + 20 * length es;
   moved = m + hops a es;
 }
@@ -70,8 +70,8 @@ filling-start a at es =
     let z : 12 - 0 ≡ 12 = omega arith in
     rw (
       z,
-      row-first (λ e. e .key) a es,
-      row-first (λ e. e .value) a es,
+      row-first (λ e. e .held .key) a es,
+      row-first (λ e. e .held .value) a es,
       map-map key recordIn p,
       map-map value recordIn p,
       length-map p recordIn,
@@ -82,7 +82,7 @@ filling-start a at es =
 
 -- an entry that fits is stored
 filled-cons : (a : ℕ) (ks vs : List ℕ) (n at m : ℕ) (e : Entry) (es : List Entry)
-    → filled a (set ks n (e .key)) (set vs n (e .value)) (n + 1) (at + 20) (m + one (not (eqb (e .from) a))) es ≡ filled a ks vs n at m (e ∷ es)
+    → filled a (set ks n (e .held .key)) (set vs n (e .held .value)) (n + 1) (at + 20) (m + one (not (eqb (e .from) a))) es ≡ filled a ks vs n at m (e ∷ es)
 filled-cons a ks vs n at m e es =
     let i : n + 1 ≡ suc n = omega arith in
     let p : suc n + length es ≡ n + suc (length es) = omega arith in
@@ -92,7 +92,7 @@ filled-cons a ks vs n at m e es =
 
 filling-turn : (a : ℕ) (l ks vs : List ℕ) (n at m f : ℕ) (e : Entry) → e ≡ entryAt l at → n < 12 → at + 20 ≤ length l → home e ≤ a
     → f ≡ one (not (eqb (e .from) a))
-    → filling a (entriesIn (drop (at + 20) l)) (set ks n (e .key)) (set vs n (e .value)) (n + 1) (at + 20) (m + f)
+    → filling a (entriesIn (drop (at + 20) l)) (set ks n (e .held .key)) (set vs n (e .held .value)) (n + 1) (at + 20) (m + f)
     ≡ filling a (entriesIn (drop at l)) ks vs n at m
 unfolding filling
 filling-turn a l ks vs n at m f e d s w h g =
@@ -165,7 +165,7 @@ module _ {a at : ℕ} {l ks vs : List ℕ} {n next m : ℕ} (k : Taking a at l k
     moves-fit from f e = omega (arith, k .moves, k .few, one-few (not (eqb from a)))
 
     pub taking-turn : (f : ℕ) (e : Entry) → e ≡ entryAt l next → home e ≤ a → f ≡ one (not (eqb (e .from) a))
-        → Taking a at l (set ks n (e .key)) (set vs n (e .value)) (n + 1) (next + 20) (m + f)
+        → Taking a at l (set ks n (e .held .key)) (set vs n (e .held .value)) (n + 1) (next + 20) (m + f)
     taking-turn f e d o g = record {
       rest = filling-turn a l ks vs n next m f e d slot-left entry-left o g ∙ k .rest;
       whole = omega (arith, k .whole, entry-left);

@@ -6,7 +6,7 @@ use lib.ListN.{take}
 use lib.Dec.{leb, eqb}
 use Rattle.placing.specs.Image.{cat}
 use Rattle.placing.specs.Lay.{count, rankIn, sort, lay}
-use Rattle.pages.specs.Page.{Record, key, value, homeFor, inMemory}
+use Rattle.pages.specs.Page.{Record, key, homeFor, inMemory}
 use Rattle.pages.specs.Area.{heldFrom}
 use Rattle.entries.specs.declared.Entry.{Entry}
 use Rattle.entries.specs.Entries.{home}
@@ -15,7 +15,7 @@ use Rattle.rebuild.specs.declared.Took.{Took}
 -- the entries of a page's records, each with its home and the page's address
 abbrev pub tagged : (ℕ → ℕ) → ℕ → List Record → List Entry
 tagged h a [] = []
-tagged h a (x ∷ rs) = record { home = h (key x); from = a; key = key x; value = value x } ∷ tagged h a rs
+tagged h a (x ∷ rs) = record { home = h (key x); from = a; held = x } ∷ tagged h a rs
 
 -- the entries of pages, the first at address a
 abbrev pub taggedFrom : (ℕ → ℕ) → ℕ → List (List Record) → List Entry
@@ -24,7 +24,7 @@ taggedFrom h a (p ∷ ps) = tagged h a p ++ taggedFrom h (suc a) ps
 
 -- the record of an entry
 abbrev pub recordIn : Entry → Record
-recordIn e = (e .key, e .value)
+recordIn e = e .held
 
 -- what an area of n pages holds, as entries
 unfoldable pub packed : (ℕ → ℕ) → (n : ℕ) → List ℕ → List Entry

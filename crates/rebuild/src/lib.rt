@@ -3,6 +3,7 @@ use entries::Entry;
 use homes::Shape;
 use homes::Stage;
 use pages::Page;
+use pages::Record;
 ghost use mathlib.Core.Path.{_≡_};
 ghost use mathlib.Core.Bool.{not};
 ghost use mathlib.Core.List.{[], _++_, map};
@@ -53,8 +54,10 @@ fn pack_page(
         let e = Entry {
             home: homes[i] as u16,
             from: a as u16,
-            key: keys[i],
-            value: values[i],
+            held: Record {
+                key: keys[i],
+                value: values[i],
+            },
         };
         entries::put_entry(area, at, e);
     }
@@ -94,8 +97,8 @@ fn take_page(area: &[u8], at: usize, a: usize) -> Took
         if (a as u16) < e.home {
             break;
         }
-        keys[count] = e.key;
-        values[count] = e.value;
+        keys[count] = e.held.key;
+        values[count] = e.held.value;
         moved += strange(e.from, a);
         count += 1;
         next += 20;

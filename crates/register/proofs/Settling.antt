@@ -9,9 +9,8 @@ use lib.ListN.{length}
 use borrow.Author.Tests.{eq-eqb, ne-eqb}
 use Rattle.homes.specs.declared.Shape.{Shape}
 use Rattle.homes.specs.Homes.{shapeOf, homeIn}
-use Rattle.pages.specs.Page.{Record, rank}
+use Rattle.pages.specs.Page.{Record, key, rank}
 use Rattle.pages.specs.Slots.{ahead}
-use Rattle.placing.specs.Lay.{ranked}
 use Rattle.state.specs.declared.State.{State}
 use Rattle.state.specs.declared.Done.{Done}
 use Rattle.state.specs.declared.Answer.{Answer}
@@ -44,15 +43,15 @@ module _ (s : State) (area : List ℕ) (g : Gate) (gate : g ≡ gateOf s (length
     pub find-shut : (k : ℕ) → done s why ≡ found s area k
     find-shut k = rw (← gate, e)
 
-    pub put-shut : (k v : ℕ) → Comes (done s why) area (stored s area (k, v))
-    put-shut k v = rw (← gate, e) (refl, refl)
+    pub put-shut : (x : Record) → Comes (done s why) area (stored s area x)
+    put-shut x = rw (← gate, e) (refl, refl)
 
     pub remove-shut : (k : ℕ) → Comes (done s why) area (removed s area k)
     remove-shut k = rw (← gate, e) (refl, refl)
 
   module _ (e : g ≡ Open) where
-    pub put-past : (k v : ℕ) (d : Done) (new : List ℕ) → Comes d new (putOpen s area (k, v)) → Comes d new (stored s area (k, v))
-    put-past k v d new w = rw (← gate, e) w
+    pub put-past : (x : Record) (d : Done) (new : List ℕ) → Comes d new (putOpen s area x) → Comes d new (stored s area x)
+    put-past x d new w = rw (← gate, e) w
 
     pub remove-past : (k : ℕ) (d : Done) (new : List ℕ) → Comes d new (removeOpen s area k) → Comes d new (removed s area k)
     remove-past k d new w = rw (← gate, e) w
@@ -86,23 +85,23 @@ module _ (s : State) (shape : Shape) (is : shape ≡ shapeOf (s .params) (s .p))
       → a ≡ findAnswer m → done s a ≡ found s area k
   find-open area k g gate e m w a t = rw (← gate, e, t, w, is)
 
-  module _ (area : List ℕ) (k v : ℕ) (p : Plan) (plan : planned (pouredBy (homeIn shape) area (k, v)) p ≡ putWalk (homeIn shape) area (s .cap) (k, v)) where
-    same-put : planned (pouredBy (homeIn shape) area (k, v)) p ≡ putWalk (homes s) area (s .cap) (k, v)
+  module _ (area : List ℕ) (x : Record) (p : Plan) (plan : planned (pouredBy (homeIn shape) area x) p ≡ putWalk (homeIn shape) area (s .cap) x) where
+    same-put : planned (pouredBy (homeIn shape) area x) p ≡ putWalk (homes s) area (s .cap) x
     same-put = plan ∙ rw is
 
-    pub put-stops : (why : Answer) → p ≡ Stop why → Comes (done s why) area (putOpen s area (k, v))
-    put-stops = stops s area (oneMore s) (eqb (s .r) (12 * s .cap)) (pouredBy (homeIn shape) area (k, v)) p (putWalk (homes s) area (s .cap) (k, v)) same-put
+    pub put-stops : (why : Answer) → p ≡ Stop why → Comes (done s why) area (putOpen s area x)
+    put-stops = stops s area (oneMore s) (eqb (s .r) (12 * s .cap)) (pouredBy (homeIn shape) area x) p (putWalk (homes s) area (s .cap) x) same-put
 
     module _ (f i last read : ℕ) (e : p ≡ Go f i last read) where
-      pub put-full : s .r ≡ 12 * s .cap → Comes (done s (NotImage read)) area (putOpen s area (k, v))
+      pub put-full : s .r ≡ 12 * s .cap → Comes (done s (NotImage read)) area (putOpen s area x)
       put-full u =
-          miscounted s area (oneMore s) (eqb (s .r) (12 * s .cap)) (pouredBy (homeIn shape) area (k, v)) p (putWalk (homes s) area (s .cap) (k, v)) same-put
+          miscounted s area (oneMore s) (eqb (s .r) (12 * s .cap)) (pouredBy (homeIn shape) area x) p (putWalk (homes s) area (s .cap) x) same-put
           f i last read e (eq-eqb _ _ u)
 
-      pub put-goes : (s .r ≡ 12 * s .cap → ⊥) → (new : List ℕ) → new ≡ writes area (poured (homeIn shape) area (suc (last - f)) f (k, v)) → (d : State) → d ≡ oneMore s
-          → Comes (done d (Accepted 0 read (last - f))) new (putOpen s area (k, v))
+      pub put-goes : (s .r ≡ 12 * s .cap → ⊥) → (new : List ℕ) → new ≡ writes area (poured (homeIn shape) area (suc (last - f)) f x) → (d : State) → d ≡ oneMore s
+          → Comes (done d (Accepted 0 read (last - f))) new (putOpen s area x)
       put-goes u =
-          goes s area (oneMore s) (eqb (s .r) (12 * s .cap)) (pouredBy (homeIn shape) area (k, v)) p (putWalk (homes s) area (s .cap) (k, v)) same-put
+          goes s area (oneMore s) (eqb (s .r) (12 * s .cap)) (pouredBy (homeIn shape) area x) p (putWalk (homes s) area (s .cap) x) same-put
           f i last read e (ne-eqb _ _ u)
 
   module _ (area : List ℕ) (k : ℕ) (p : Plan) (plan : planned (drawn (homeIn shape) area) p ≡ removeWalk (homeIn shape) area (s .cap) k) where
@@ -130,8 +129,8 @@ module _ (s : State) (h : inRange s ≡ true) (p : Plan) (f i last read : ℕ) (
       let q : planIn (s .cap) (Go f i last read) = rw e at w in
       (q .0, omega arith, omega arith)
 
-  pub place-known : (home : ℕ → ℕ) (area : List ℕ) (k : ℕ) → placedIn home area k p → i ≡ ahead (rank home) (ranked (home k) k) (held area f)
-  place-known home area k w = rw e at w
+  pub place-known : (home : ℕ → ℕ) (area : List ℕ) (x : Record) → placedIn home area (key x) p → i ≡ ahead (rank home) (rank home x) (held area f)
+  place-known home area x w = rw e at w
 
 -- a put where there is room
 pub more-low : (s : State) → inRange s ≡ true → (s .r ≡ 12 * s .cap → ⊥) → s .r < 49152

@@ -3,6 +3,7 @@ use Prim.Native.Nat.{ℕ}
 use mathlib.Core.Bool.{Bool}
 use mathlib.Core.List.{List, []}
 use Rattle.homes.specs.declared.Params.{Params}
+use Rattle.pages.specs.Page.{Record}
 use Rattle.state.specs.declared.State.{State}
 use Rattle.state.specs.declared.Done.{Done}
 use Rattle.state.specs.declared.Answer.{Answer}
@@ -15,7 +16,7 @@ use Rattle.register.specs.Calls.{Outcome, Growth, formatted, found, stor
 pub data Call : Type 0 where
   format : Params → (cap : ℕ) → Call
   find : (k : ℕ) → Call
-  put : (k v : ℕ) → Call
+  put : (x : Record) → Call
   remove : (k : ℕ) → Call
   grow : (row : List ℕ) → Call
   check : Call
@@ -51,7 +52,7 @@ grewTo g = leaves (g .done) (g .area) (g .row)
 unfoldable pub left : File → Call → Left
 left f (format q cap) = wrote (formatted (f .state) q cap (f .area))
 left f (find k) = leaves (found (f .state) (f .area) k) (f .area) []
-left f (put k v) = wrote (stored (f .state) (f .area) (k, v))
+left f (put x) = wrote (stored (f .state) (f .area) x)
 left f (remove k) = wrote (removed (f .state) (f .area) k)
 left f (grow row) = grewTo (grew (f .state) (f .area) row)
 left f check = leaves (checked (f .state) (f .area)) (f .area) []

@@ -3,6 +3,7 @@ mod gates;
 mod growth;
 
 use homes::Params;
+use pages::Record;
 use state::Answer;
 use state::Done;
 use state::State;
@@ -133,13 +134,13 @@ fn wrote(next: State, first: usize, last: usize, read: u32) -> Done
 }
 
 // A put past the gate.
-fn put_open(state: State, area: &mut [u8], key: u64, value: u64) -> Done
+fn put_open(state: State, area: &mut [u8], new: Record) -> Done
     requires { ⌜ (inRange state ≡ true) × (length (now area) ≡ 256 * state .cap) ⌝ }
-    ensures { λ r. ⌜ r ≡ putOpen state (now (area .entry)) (key, value) .done ⌝ }
-    ensures { λ _. ⌜ now (area .exit) ≡ putOpen state (now (area .entry)) (key, value) .area ⌝ }
+    ensures { λ r. ⌜ r ≡ putOpen state (now (area .entry)) new .done ⌝ }
+    ensures { λ _. ⌜ now (area .exit) ≡ putOpen state (now (area .entry)) new .area ⌝ }
 {
     let shape = state.shape();
-    let plan = walks::put::plan_put(&area[..], state.cap as usize, shape, key);
+    let plan = walks::put::plan_put(&area[..], state.cap as usize, shape, new);
     match plan {
         Plan::Stop { why } => Done { state, answer: why },
         Plan::Go {
@@ -154,7 +155,7 @@ fn put_open(state: State, area: &mut [u8], key: u64, value: u64) -> Done
                     answer: Answer::NotImage { read },
                 };
             }
-            walks::put::pour(area, shape, first, at, last, key, value);
+            walks::put::pour(area, shape, first, at, last, new);
             let next = state.one_more();
             wrote(next, first, last, read)
         }
@@ -162,14 +163,14 @@ fn put_open(state: State, area: &mut [u8], key: u64, value: u64) -> Done
 }
 
 // A record more, unless its key is held.
-pub fn put(state: State, area: &mut [u8], key: u64, value: u64) -> Done
-    ensures { λ r. ⌜ r ≡ stored state (now (area .entry)) (key, value) .done ⌝ }
-    ensures { λ _. ⌜ now (area .exit) ≡ stored state (now (area .entry)) (key, value) .area ⌝ }
+pub fn put(state: State, area: &mut [u8], new: Record) -> Done
+    ensures { λ r. ⌜ r ≡ stored state (now (area .entry)) new .done ⌝ }
+    ensures { λ _. ⌜ now (area .exit) ≡ stored state (now (area .entry)) new .area ⌝ }
 {
     let gate = gates::enter(state, area.len());
     match gate {
         Gate::Shut { why } => Done { state, answer: why },
-        Gate::Open => put_open(state, area, key, value),
+        Gate::Open => put_open(state, area, new),
     }
 }
 

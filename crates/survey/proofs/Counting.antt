@@ -23,7 +23,7 @@ use Rattle.placing.proofs.Rows.{counts-length, counts-at}
 use Rattle.placing.proofs.Lists.{count-le}
 use Rattle.pages.specs.declared.Page.{Page}
 use Rattle.pages.specs.declared.Judged.{Judged}
-use Rattle.pages.specs.Page.{Record, key, homeFor, recordsIn, inMemory, judged}
+use Rattle.pages.specs.Page.{Record, key, vacant, homeFor, recordsIn, inMemory, judged}
 use Rattle.pages.specs.Slots.{recordsOf}
 use Rattle.pages.specs.Area.{partAt, heldFrom}
 use Rattle.pages.proofs.Rows.{row-at}
@@ -223,8 +223,8 @@ module _ (h : ℕ → ℕ) (j : Judged) (rs : List Record) (e : j ≡ judged h (
   stands-home k a s =
       let n : j .page .count ≡ length rs = rw e in
       let b : s .slot < length rs = omega (arith, n, s .low) in
-      let f : getD (j .page .keys) (s .slot) 0 ≡ key (getD rs (s .slot) (0, 0)) = rw e (row-at key rs _ (s .slot) (0, 0) b) in
-      let g : getD (j .homes) (s .slot) 0 ≡ h (key (getD rs (s .slot) (0, 0))) = rw e (row-at (homeFor h) rs _ (s .slot) (0, 0) b) in
+      let f : getD (j .page .keys) (s .slot) 0 ≡ key (getD rs (s .slot) vacant) = rw e (row-at key rs _ (s .slot) vacant b) in
+      let g : getD (j .homes) (s .slot) 0 ≡ h (key (getD rs (s .slot) vacant)) = rw e (row-at (homeFor h) rs _ (s .slot) vacant b) in
       ap h (sym (s .key) ∙ f) ∙ sym g ∙ s .home
 
   -- so they may be counted, if all records may

@@ -10,7 +10,7 @@ use lib.Seq.{take-all}
 use Rattle.placing.specs.Lay.{ranked, rankIn}
 use Rattle.pages.specs.declared.Page.{Page}
 use Rattle.pages.specs.declared.Pushed.{Pushed}
-use Rattle.pages.specs.Page.{Record, key, rank, recordsIn, inMemory}
+use Rattle.pages.specs.Page.{Record, key, recordWith, vacant, rank, recordsIn, inMemory}
 use Rattle.pages.specs.Slots.{opened, closed, upToBack, recordsOf, pushed}
 use Rattle.pages.specs.Area.{partAt, withPage}
 use Rattle.pages.proofs.Memory.{page-count, page-records}
@@ -47,7 +47,7 @@ pub full-kept : (h : ℕ → ℕ) (next shut full : Page) → full ≡ inMemory 
 full-kept h next shut full e =
     let y : Record = firstOf (recordsOf next) in
     let s : List Record = recordsOf shut in
-    ready full (backed h y s) e (omega (arith, length-take 12 (opened (upToBack (rankIn key h) (rankIn key h y) (0, 0) s (length s)) y s)))
+    ready full (backed h y s) e (omega (arith, length-take 12 (opened (upToBack (rankIn key h) (rankIn key h y) vacant s (length s)) y s)))
 
 -- a place from the back is one among the records
 back-le : {R : Type 0} (rank : R → ℕ) (r : ℕ) (d : R) (s : List R) (n : ℕ) → upToBack rank r d s n ≤ n
@@ -59,7 +59,7 @@ back-le rank r d s (suc n) = go (ltb (rank (getD s n d)) r) (back-le rank r d s 
     go false ih = omega arith
 
 -- the first of a page's two rows is its first record
-first-rows : (rs : List Record) → (getD (inMemory rs .keys) 0 0, getD (inMemory rs .values) 0 0) ≡ firstOf rs
+first-rows : (rs : List Record) → recordWith (getD (inMemory rs .keys) 0 0) (getD (inMemory rs .values) 0 0) ≡ firstOf rs
 unfolding inMemory
 first-rows [] = refl
 first-rows (x ∷ rs) = refl
@@ -68,16 +68,16 @@ first-rows (x ∷ rs) = refl
 module _ (h : ℕ → ℕ) (p next : Page) (home place : ℕ) where
   -- where it is sought
   abbrev sought : ℕ
-  sought = upToBack (rank h) (ranked home (getD (next .keys) 0 0)) (0, 0) (recordsOf p) (p .count)
+  sought = upToBack (rank h) (ranked home (getD (next .keys) 0 0)) vacant (recordsOf p) (p .count)
 
   pub place-le : place ≡ sought → place ≤ p .count
-  place-le e = rw e (back-le (rank h) (ranked home (getD (next .keys) 0 0)) (0, 0) (recordsOf p) (p .count))
+  place-le e = rw e (back-le (rank h) (ranked home (getD (next .keys) 0 0)) vacant (recordsOf p) (p .count))
 
   pub pushed-back : (q : Pushed) → home ≡ h (getD (next .keys) 0 0) → place ≡ sought → p ≡ inMemory (recordsOf p) → next ≡ inMemory (recordsOf next)
-      → q ≡ pushed place (getD (next .keys) 0 0, getD (next .values) 0 0) (recordsOf p)
+      → q ≡ pushed place (recordWith (getD (next .keys) 0 0) (getD (next .values) 0 0)) (recordsOf p)
       → q .page ≡ inMemory (backed h (firstOf (recordsOf next)) (recordsOf p))
   pushed-back q d g e f k =
-      let z : firstOf (recordsOf next) ≡ (getD (next .keys) 0 0, getD (next .values) 0 0) = sym (first-rows (recordsOf next)) ∙ rw (← f) in
+      let z : firstOf (recordsOf next) ≡ recordWith (getD (next .keys) 0 0) (getD (next .values) 0 0) = sym (first-rows (recordsOf next)) ∙ rw (← f) in
       let n : p .count ≡ length (recordsOf p) = page-count p (recordsOf p) e in
       rw (z, ← n, k, g, d)
 

@@ -39,41 +39,41 @@ module _ (area : List ℕ) (a : ℕ) (page : Page) (is : page ≡ inMemory (held
   pub page-fits : (page .count ≤ 12) × (page ≡ inMemory (recordsOf page))
   page-fits = ready page (held area a) is (held-few (partAt area a))
 
--- a turn puts (k, v) at its place on page a
-pub record Turn (h : ℕ → ℕ) (start area : List ℕ) (a k v : ℕ) (page : Page) (place : ℕ) : Type 0 where
+-- a turn puts record x at its place on page a
+pub record Turn (h : ℕ → ℕ) (start area : List ℕ) (a : ℕ) (x : Record) (page : Page) (place : ℕ) : Type 0 where
   pub rest : Untouched start area a
   pub is : page ≡ inMemory (held area a)
-  pub at : place ≡ ahead (rank h) (ranked (h k) k) (held start a)
+  pub at : place ≡ ahead (rank h) (rank h x) (held start a)
 
 -- which is known on the first page and sought on the others
-pub place-right : (h : ℕ → ℕ) (start area : List ℕ) (a k : ℕ) (page : Page) (first at first-key place : ℕ)
-    → Untouched start area a → page ≡ inMemory (held area a) → (a ≡ first → k ≡ first-key)
-    → at ≡ ahead (rank h) (ranked (h first-key) first-key) (held start first)
-    → place ≡ cond (eqb a first) at (ahead (rank h) (ranked (h k) k) (recordsOf page))
-    → place ≡ ahead (rank h) (ranked (h k) k) (held start a)
-place-right h start area a k page first at first-key place rest is same known e = go (eqb a first) refl e
+pub place-right : (h : ℕ → ℕ) (start area : List ℕ) (a : ℕ) (x : Record) (page : Page) (first at : ℕ) (new : Record) (place : ℕ)
+    → Untouched start area a → page ≡ inMemory (held area a) → (a ≡ first → x ≡ new)
+    → at ≡ ahead (rank h) (rank h new) (held start first)
+    → place ≡ cond (eqb a first) at (ahead (rank h) (rank h x) (recordsOf page))
+    → place ≡ ahead (rank h) (rank h x) (held start a)
+place-right h start area a x page first at new place rest is same known e = go (eqb a first) refl e
   where
-    go : (u : Bool) → eqb a first ≡ u → place ≡ cond u at (ahead (rank h) (ranked (h k) k) (recordsOf page)) → place ≡ ahead (rank h) (ranked (h k) k) (held start a)
+    go : (u : Bool) → eqb a first ≡ u → place ≡ cond u at (ahead (rank h) (rank h x) (recordsOf page)) → place ≡ ahead (rank h) (rank h x) (held start a)
     go true t e =
         let f : a ≡ first = eqb-true a first t in
-        let s : k ≡ first-key = same f in
+        let s : x ≡ new = same f in
         e ∙ rw (f, s) known
     go false t e = rw (page-holds area a page is, rest a (omega arith)) at e
 
-module _ {h : ℕ → ℕ} {start area : List ℕ} {a k v : ℕ} {page : Page} {place : ℕ} (t : Turn h start area a k v page place) where
-  -- the records of the page with (k, v) among them
+module _ {h : ℕ → ℕ} {start area : List ℕ} {a : ℕ} {x : Record} {page : Page} {place : ℕ} (t : Turn h start area a x page place) where
+  -- the records of the page with x among them
   abbrev q : List Record
-  q = ins (rankIn key h) (k, v) (held start a)
+  q = ins (rankIn key h) x (held start a)
 
   holds : recordsOf page ≡ held start a
   holds = page-holds area a page (t .is) ∙ ap recordsIn (t .rest a (omega arith))
 
   pub place-within : place ≤ page .count
-  place-within = omega (arith, t .at, ahead-le (rank h) (ranked (h k) k) (held start a), ap length holds, records-count page)
+  place-within = omega (arith, t .at, ahead-le (rank h) (rank h x) (held start a), ap length holds, records-count page)
 
-  module _ (out : Pushed) (gives : out ≡ pushed place (k, v) (recordsOf page)) where
-    opens : opened place (k, v) (recordsOf page) ≡ q
-    opens = rw (holds, t .at) (sym (ins-opened (rankIn key h) (k, v) (held start a)))
+  module _ (out : Pushed) (gives : out ≡ pushed place x (recordsOf page)) where
+    opens : opened place x (recordsOf page) ≡ q
+    opens = rw (holds, t .at) (sym (ins-opened (rankIn key h) x (held start a)))
 
     next-is : out .page ≡ inMemory (take 12 q)
     next-is = rw opens at (ap (λ (o : Pushed). o .page) gives)
@@ -82,8 +82,8 @@ module _ {h : ℕ → ℕ} {start area : List ℕ} {a k v : ℕ} {page : Page} {
     pub next-fits : (out .page .count ≤ 12) × (out .page ≡ inMemory (recordsOf (out .page)))
     next-fits = ready (out .page) (take 12 q) next-is (omega (arith, length-take 12 q))
 
-    goes-on : _≡_ {A = Record} (out .key, out .value) (getD q 12 (k, v))
-    goes-on = rw opens at (ap {B = Record} (λ (o : Pushed). (o .key, o .value)) gives)
+    goes-on : out .over ≡ getD q 12 x
+    goes-on = rw opens at (ap (λ (o : Pushed). o .over) gives)
 
     module _ (to : List ℕ) (stored : to ≡ withPage area a (recordsOf (out .page))) (fits : 256 * (a + 1) ≤ length area) where
       -- the area stays as long
@@ -96,7 +96,7 @@ module _ {h : ℕ → ℕ} {start area : List ℕ} {a k v : ℕ} {page : Page} {
 
       -- and what is left to write is the same
       pub pour-turn : (last : ℕ) → a ≤ last
-          → writes to (poured h start (suc last - (a + 1)) (a + 1) (out .key, out .value)) ≡ writes area (poured h start (suc last - a) a (k, v))
+          → writes to (poured h start (suc last - (a + 1)) (a + 1) (out .over)) ≡ writes area (poured h start (suc last - a) a x)
       pour-turn last l =
           let e : suc last - a ≡ suc (suc last - (a + 1)) = omega arith in
           let p : recordsOf (out .page) ≡ take 12 q = rw next-is (memory (take 12 q)) in

@@ -130,7 +130,11 @@ module _ (h : ℕ → ℕ) (area : List ℕ) (f at : ℕ) where
       let from : LastFrom f plan = rw first at (reached-from f (n - 1) (pagesFrom h area (cap - f) f)) in
       sym (carried (cap - f) f (n - 1) 0 x (omega arith) ∙ rw first (from-first x plan from))
 
-module _ (h : ℕ → ℕ) (area : List ℕ) (k : ℕ) where
+module _ (h : ℕ → ℕ) (area : List ℕ) (x : Record) where
+  -- the key that is sought
+  abbrev k : ℕ
+  k = key x
+
   -- page a is good and has c records, and the key's place there is i
   pub record EndsAt (a i c : ℕ) : Type 0 where
     pub read : readPage h a (partAt area a) ≡ some (held area a)
@@ -169,38 +173,38 @@ module _ (h : ℕ → ℕ) (area : List ℕ) (k : ℕ) where
 
   -- each page that a put meets, and what it then does
   module _ (cap : ℕ) (m : Met) (is : m ≡ walk h area cap k) where
-    put-met : (met : Met) → m ≡ met → (v : ℕ) → putMet h area cap (k, v) met ≡ putWalk h area cap (k, v)
+    put-met : (met : Met) → m ≡ met → putMet h area cap x met ≡ putWalk h area cap x
     unfolding putWalk
-    put-met met e v = rw (← e, is)
+    put-met met e = rw (← e, is)
 
-    pub put-found : (a i c old n : ℕ) → m ≡ Found a i c old n → (v : ℕ) → stopped (Held old n) ≡ putWalk h area cap (k, v)
-    put-found a i c old n e v = put-met (Found a i c old n) e v
+    pub put-found : (a i c old n : ℕ) → m ≡ Found a i c old n → stopped (Held old n) ≡ putWalk h area cap x
+    put-found a i c old n e = put-met (Found a i c old n) e
 
-    pub put-sick : (a n : ℕ) → m ≡ Sick a n → (v : ℕ) → stopped (Broken a n) ≡ putWalk h area cap (k, v)
-    put-sick a n e v = put-met (Sick a n) e v
+    pub put-sick : (a n : ℕ) → m ≡ Sick a n → stopped (Broken a n) ≡ putWalk h area cap x
+    put-sick a n e = put-met (Sick a n) e
 
-    pub put-past : (n : ℕ) → m ≡ Past n → (v : ℕ) → stopped (NoRoom n) ≡ putWalk h area cap (k, v)
-    put-past n e v = put-met (Past n) e v
+    pub put-past : (n : ℕ) → m ≡ Past n → stopped (NoRoom n) ≡ putWalk h area cap x
+    put-past n e = put-met (Past n) e
 
     module _ (a i c n : ℕ) (e : m ≡ Ends a i c n) where
       pub put-at : EndsAt a i c
       unfolding walk
       put-at = meets-ends (cap - h k) (h k) 0 a i c n (sym is ∙ e)
 
-      put-ends : a < cap → 1 ≤ n → (v : ℕ)
-          → planned (λ n a i. poured h area (suc n) a (k, v)) (cond (ltb c 12) (Go a i a n) (reachLeft h area cap a i (suc a) n)) ≡ putWalk h area cap (k, v)
-      put-ends l s v =
+      put-ends : a < cap → 1 ≤ n
+          → planned (λ n a i. poured h area (suc n) a x) (cond (ltb c 12) (Go a i a n) (reachLeft h area cap a i (suc a) n)) ≡ putWalk h area cap x
+      put-ends l s =
           let w : c ≡ length (held area a) = put-at .count in
-          rw w (put-planned h area a i cap n (k, v) (held area a) l s (put-at .read)) ∙ put-met (Ends a i c n) e v
+          rw w (put-planned h area a i cap n x (held area a) l s (put-at .read)) ∙ put-met (Ends a i c n) e
 
       -- with room the ending page is the last
-      pub put-here : a < cap → 1 ≤ n → c < 12 → (v : ℕ) → planned (λ n a i. poured h area (suc n) a (k, v)) (Go a i a n) ≡ putWalk h area cap (k, v)
-      put-here l s t v = rw (lt-ltb c 12 t) at (put-ends l s v)
+      pub put-here : a < cap → 1 ≤ n → c < 12 → planned (λ n a i. poured h area (suc n) a x) (Go a i a n) ≡ putWalk h area cap x
+      put-here l s t = rw (lt-ltb c 12 t) at (put-ends l s)
 
       -- else one after it
-      pub put-on : a < cap → 1 ≤ n → 12 ≤ c → (p : Plan) → p ≡ reachLeft h area cap a i (suc a) n → (v : ℕ)
-          → planned (λ n a i. poured h area (suc n) a (k, v)) p ≡ putWalk h area cap (k, v)
-      put-on l s t p q v = rw q (rw (le-ltb c 12 t) at (put-ends l s v))
+      pub put-on : a < cap → 1 ≤ n → 12 ≤ c → (p : Plan) → p ≡ reachLeft h area cap a i (suc a) n
+          → planned (λ n a i. poured h area (suc n) a x) p ≡ putWalk h area cap x
+      put-on l s t p q = rw q (rw (le-ltb c 12 t) at (put-ends l s))
 
       placed : (b : ℕ) (p : Plan) → LastFrom h area a i b p → placedIn h area k p
       placed b (Go f at last read) l = l .1 ∙ put-at .place ∙ rw (l .0)

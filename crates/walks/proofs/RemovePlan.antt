@@ -12,7 +12,7 @@ use lib.Seq.{take-all}
 use Rattle.placing.specs.Image.{All}
 use Rattle.placing.specs.Lay.{rankIn, ins}
 use Rattle.placing.proofs.Order.{Sorted, ins-length}
-use Rattle.pages.specs.Page.{Record, key, rises, readPage}
+use Rattle.pages.specs.Page.{Record, key, vacant, rises, readPage}
 use Rattle.pages.specs.Slots.{closed}
 use Rattle.pages.proofs.Rows.{closed-length}
 use Rattle.pages.specs.Area.{partAt, pagesFrom}
@@ -27,7 +27,7 @@ use Rattle.walks.specs.Plans.{held, firstOf, backed, drawn, reachedBack,
 -- a record at its place from the back, where there is room for it
 back-ins : (h : ℕ → ℕ) (y : Record) (s : List Record) → Sorted (rankIn key h) s → length s < 12 → backed h y s ≡ ins (rankIn key h) y s
 back-ins h y s k n =
-    rw (back-ahead (rankIn key h) (rankIn key h y) (0, 0) s k, ← ins-opened (rankIn key h) y s)
+    rw (back-ahead (rankIn key h) (rankIn key h y) vacant s k, ← ins-opened (rankIn key h) y s)
     (take-all 12 (ins (rankIn key h) y s) (omega (arith, ins-length (rankIn key h) y s)))
 
 -- closing up a slot keeps records sorted

@@ -17,7 +17,7 @@ use Rattle.placing.specs.Lay.{rankOf, rankIn, ranked}
 use Rattle.placing.proofs.Lists.{all-getD}
 use Rattle.placing.proofs.Order.{Sorted, sorted-drop, lower}
 use Rattle.pages.specs.declared.Page.{Page}
-use Rattle.pages.specs.Page.{Record, key}
+use Rattle.pages.specs.Page.{Record, key, recordWith, vacant}
 use Rattle.pages.specs.Slots.{ahead, paired, recordsOf}
 use Rattle.pages.proofs.Seeking.{paired-length, paired-key}
 use Rattle.walks.specs.Walks.{heldAt}
@@ -44,7 +44,7 @@ drop-paired (suc i) (suc n) ks vs =
     rw (e, drop-paired i n (drop 1 ks) (drop 1 vs), drop-drop i 1 ks, drop-drop i 1 vs, f)
 
 -- the record of a slot stands first of those from it on
-slot-first : (p : Page) (i : ℕ) → i < p .count → drop i (recordsOf p) ≡ (getD (p .keys) i 0, getD (p .values) i 0) ∷ drop (suc i) (recordsOf p)
+slot-first : (p : Page) (i : ℕ) → i < p .count → drop i (recordsOf p) ≡ recordWith (getD (p .keys) i 0) (getD (p .values) i 0) ∷ drop (suc i) (recordsOf p)
 unfolding recordsOf
 slot-first p i l =
     let e : p .count - i ≡ suc (p .count - suc i) = omega arith in
@@ -53,7 +53,7 @@ slot-first p i l =
     (rw (drop-drop 1 i (p .keys), drop-drop 1 i (p .values), f, getD-drop i (p .keys) 0 0, getD-drop i (p .values) 0 0, add-zero))
 
 -- and has its key from the row
-slot-key : (p : Page) (i : ℕ) → i < p .count → key (getD (recordsOf p) i (0, 0)) ≡ getD (p .keys) i 0
+slot-key : (p : Page) (i : ℕ) → i < p .count → key (getD (recordsOf p) i vacant) ≡ getD (p .keys) i 0
 unfolding recordsOf
 slot-key p i l = paired-key (p .count) (p .keys) (p .values) i l
 
@@ -116,7 +116,7 @@ pub record Rows (h : ℕ → ℕ) (p : Page) (hs : List ℕ) : Type 0 where
 
 slot-small : {h : ℕ → ℕ} {p : Page} {hs : List ℕ} → Rows h p hs → (i : ℕ) → i < p .count → getD (p .keys) i 0 < 2 ^ 64
 slot-small {p} m i l =
-    let f : key (getD (recordsOf p) i (0, 0)) < 2 ^ 64 = all-getD (λ x. key x < 2 ^ 64) i (recordsOf p) (0, 0) (m .small) (omega arith) in
+    let f : key (getD (recordsOf p) i vacant) < 2 ^ 64 = all-getD (λ x. key x < 2 ^ 64) i (recordsOf p) vacant (m .small) (omega arith) in
     rw (slot-key p i l) at f
 
 -- no slot is left after the last record
@@ -149,7 +149,7 @@ module _ {h : ℕ → ℕ} {p : Page} {hs : List ℕ} {k home i : ℕ} {t : Bool
           let rest = slot-first p i l in
           let up = rw rest at (sorted-drop (rankIn key h) i (recordsOf p) (w .rows .rising)) in
           rw rest
-          (lower (rankIn key h) (rankOf h k) (getD (p .keys) i 0, getD (p .values) i 0) (drop (suc i) (recordsOf p)) up
+          (lower (rankIn key h) (rankOf h k) (recordWith (getD (p .keys) i 0) (getD (p .values) i 0)) (drop (suc i) (recordsOf p)) up
           (ltb-true (rankOf h k) (rankOf h (getD (p .keys) i 0)) (sym (told-rank l) ∙ b)))
       go false false a b c = absurd (no c)
 

@@ -7,7 +7,7 @@ use mathlib.Core.List.{List, [], _∷_}
 use lib.ListN.{length, take, getD}
 use lib.Dec.{leb, ltb}
 use Rattle.placing.specs.Lay.{rankOf, rankIn, ins}
-use Rattle.pages.specs.Page.{Record, key, recordsIn}
+use Rattle.pages.specs.Page.{Record, key, vacant, recordsIn}
 use Rattle.pages.specs.Slots.{opened, closed, ahead, upToBack}
 use Rattle.pages.specs.Area.{partAt}
 use Rattle.state.specs.declared.Answer.the-variants.{Broken, NoRoom}
@@ -23,11 +23,11 @@ held area a = recordsIn (partAt area a)
 
 -- the first record of a page
 abbrev pub firstOf : List Record → Record
-firstOf rs = getD rs 0 (0, 0)
+firstOf rs = getD rs 0 vacant
 
 -- a record at its place, sought from the back, and twelve records at most
 abbrev pub backed : (ℕ → ℕ) → Record → List Record → List Record
-backed h y s = take 12 (opened (upToBack (rankIn key h) (rankIn key h y) (0, 0) s (length s)) y s)
+backed h y s = take 12 (opened (upToBack (rankIn key h) (rankIn key h y) vacant s (length s)) y s)
 
 module _ (h : ℕ → ℕ) (area : List ℕ) where
   -- n pages from a on, each with one record more; its last goes on

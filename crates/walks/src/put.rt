@@ -3,10 +3,11 @@ use crate::Met;
 use crate::Plan;
 use homes::Shape;
 use pages::Page;
+use pages::Record;
 use state::Answer;
 ghost use mathlib.Core.Path.{_≡_};
 ghost use mathlib.Core.Bool.{cond};
-ghost use Prim.Native.Nat.{ℕ, suc, _+_, _-_, _*_, _≤_, _<_};
+ghost use Prim.Native.Nat.{suc, _+_, _-_, _*_, _≤_, _<_};
 ghost use lib.ListN.{length};
 ghost use Rattle.homes.specs.Homes.{Ready, homeIn};
 ghost use Rattle.pages.specs.Page.{rank};
@@ -52,12 +53,12 @@ fn reach(area: &[u8], cap: usize, shape: Shape, first: usize, at: usize, seen: u
 }
 
 // The first phase of a put.
-pub fn plan_put(area: &[u8], cap: usize, shape: Shape, key: u64) -> Plan
+pub fn plan_put(area: &[u8], cap: usize, shape: Shape, new: Record) -> Plan
     requires { ⌜ (cap ≤ 4096) × (length (now area) ≡ 256 * cap) × Ready shape × (shape .p ≤ cap) ⌝ }
-    ensures { λ r. ⌜ ((v : ℕ) → planned (λ n a i. poured (homeIn shape) (now (area .entry)) (suc n) a (key, v)) r ≡ putWalk (homeIn shape) (now (area .entry)) cap (key, v)) ⌝ }
-    ensures within { λ r. ⌜ planIn cap r × placedIn (homeIn shape) (now (area .entry)) key r ⌝ }
+    ensures { λ r. ⌜ planned (λ n a i. poured (homeIn shape) (now (area .entry)) (suc n) a new) r ≡ putWalk (homeIn shape) (now (area .entry)) cap new ⌝ }
+    ensures within { λ r. ⌜ planIn cap r × placedIn (homeIn shape) (now (area .entry)) (new .key) r ⌝ }
 {
-    match crate::meet(area, cap, shape, key) {
+    match crate::meet(area, cap, shape, new.key) {
         Met::Found {
             page: _,
             slot: _,
@@ -107,30 +108,20 @@ fn place_on(page: Page, shape: Shape, known: bool, at: usize, key: u64) -> usize
 }
 
 // The second phase of a put: a record goes to its place on each page, and the last of a full page goes on to the next. It is total on any bytes.
-pub fn pour(
-    area: &mut [u8],
-    shape: Shape,
-    first: usize,
-    at: usize,
-    last: usize,
-    key: u64,
-    value: u64,
-)
+pub fn pour(area: &mut [u8], shape: Shape, first: usize, at: usize, last: usize, new: Record)
     requires { ⌜ (first ≤ last) × (last < 4096) × (256 * (last + 1) ≤ length (now area)) × Ready shape ⌝ }
-    requires { ⌜ at ≡ ahead (rank (homeIn shape)) (ranked (homeIn shape key) key) (held (now area) first) ⌝ }
-    ensures { λ _. ⌜ now (area .exit) ≡ writes (now (area .entry)) (poured (homeIn shape) (now (area .entry)) (suc (last - first)) first (key, value)) ⌝ }
+    requires { ⌜ at ≡ ahead (rank (homeIn shape)) (rank (homeIn shape) new) (held (now area) first) ⌝ }
+    ensures { λ _. ⌜ now (area .exit) ≡ writes (now (area .entry)) (poured (homeIn shape) (now (area .entry)) (suc (last - first)) first new) ⌝ }
 {
     let mut a = first;
-    let mut k = key;
-    let mut v = value;
+    let mut x = new;
     while a <= last {
         let page = pages::parse_at(&area[..], a);
-        let place = place_on(page, shape, a == first, at, k);
-        let pushed = pages::slots::push(page, place, k, v);
+        let place = place_on(page, shape, a == first, at, x.key);
+        let pushed = pages::slots::push(page, place, x);
         let next = pushed.page;
         pages::store_at(area, a, next);
-        k = pushed.key;
-        v = pushed.value;
+        x = pushed.over;
         a += 1;
     }
 }

@@ -3,6 +3,7 @@ use crate::Met;
 use crate::Plan;
 use homes::Shape;
 use pages::Page;
+use pages::Record;
 use state::Answer;
 ghost use mathlib.Core.Path.{_≡_};
 ghost use Prim.Native.Nat.{suc, _+_, _-_, _*_, _≤_, _<_};
@@ -124,8 +125,9 @@ fn take_back(page: Page, next: Page, shape: Shape) -> Page
     let keys = next.keys;
     let values = next.values;
     let key = keys[0];
+    let value = values[0];
     let place = pages::slots::place_back(page, shape, shape.home(key), key);
-    let pushed = pages::slots::push(page, place, key, values[0]);
+    let pushed = pages::slots::push(page, place, Record { key, value });
     pushed.page
 }
 

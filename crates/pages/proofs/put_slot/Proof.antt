@@ -36,7 +36,7 @@ returns c =
     let f = c .before .before .before .before .before .before .before .before in
     let e = f .before .before .before .before .before .before .before .before .before in
     let a = e .args in
-    cc (simp add-assoc at (puts-written (slot (a .kind) (a .key) (a .value)) (now (a .part)) (a .at) (e .pre)))
+    cc (simp add-assoc at (puts-written (slot (a .kind) (a .x)) (now (a .part)) (a .at) (e .pre)))
 
 pub put-slot-spec : {M : Type 1} → statement M
 put-slot-spec =

@@ -34,23 +34,23 @@ loop-holds c =
     let n = c .before .before .before .before .before .before .before .pre .0 in
     (search needs, search needs, λ rs h. head-first _ _ _ _ _ _ rs n (c .before .before .put-head .ensures) h)
 
+mul-key : tie.Need-mul-key Inv-loop μ-loop
+mul-key c = search needs
+
+array-read-key : tie.Need-array-read-key Inv-loop μ-loop
+array-read-key c = search needs
+
+mul-value : tie.Need-mul-value Inv-loop μ-loop
+mul-value c = search needs
+
+array-read-value : tie.Need-array-read-value Inv-loop μ-loop
+array-read-value c = search needs
+
 mul-put-slot : tie.Need-mul-put-slot Inv-loop μ-loop
 mul-put-slot c = search needs
 
 add-put-slot : tie.Need-add-put-slot Inv-loop μ-loop
 add-put-slot c = search needs
-
-mul-put-slot-2 : tie.Need-mul-put-slot-2 Inv-loop μ-loop
-mul-put-slot-2 c = search needs
-
-array-read-put-slot : tie.Need-array-read-put-slot Inv-loop μ-loop
-array-read-put-slot c = search needs
-
-mul-put-slot-3 : tie.Need-mul-put-slot-3 Inv-loop μ-loop
-mul-put-slot-3 c = search needs
-
-array-read-put-slot-2 : tie.Need-array-read-put-slot-2 Inv-loop μ-loop
-array-read-put-slot-2 c = search needs
 
 put-slot-requires : tie.Need-put-slot-requires Inv-loop μ-loop
 put-slot-requires c κs = search needs
@@ -93,12 +93,12 @@ store-spec =
     μ-loop
     put-head-requires
     loop-holds
+    mul-key
+    array-read-key
+    mul-value
+    array-read-value
     mul-put-slot
     add-put-slot
-    mul-put-slot-2
-    array-read-put-slot
-    mul-put-slot-3
-    array-read-put-slot-2
     put-slot-requires
     add-i
     loop-less

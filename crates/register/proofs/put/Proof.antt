@@ -22,7 +22,7 @@ returns : tie.Need-returns
 returns c =
     let e = c .before .before .before in
     let a = e .before .before .args in
-    put-shut (a .state) (now (a .area)) _ (e .enter .ensures .0) _ (c .before .gate .given .1) (a .key) (a .value)
+    put-shut (a .state) (now (a .area)) _ (e .enter .ensures .0) _ (c .before .gate .given .1) (a .new)
 
 same-length : tie.Need-same-length
 same-length c = search needs
@@ -33,7 +33,7 @@ returns-2 c =
     let t = o .before .before in
     let e = t .before .before in
     let a = e .before .before .args in
-    put-past (a .state) (now (a .area)) _ (e .enter .ensures .0) (t .enum-told .given .1) (a .key) (a .value) _ _ (o .put-open .ensures)
+    put-past (a .state) (now (a .area)) _ (e .enter .ensures .0) (t .enum-told .given .1) (a .new) _ _ (o .put-open .ensures)
 
 pub put-spec : {M : Type 1} → statement M
 put-spec =

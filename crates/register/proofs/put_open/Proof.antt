@@ -57,7 +57,7 @@ returns c =
     let o = k .before .before in
     let h = o .before .before .before in
     let a = h .before .before .args in
-    put-full (a .state) _ (h .shape .ensures .0) (now (a .area)) (a .key) (a .value) _ (o .plan-put .ensures .0 (a .value)) (g .0 .0) (g .0 .1 .0) (g .0 .1 .1 .0)
+    put-full (a .state) _ (h .shape .ensures .0) (now (a .area)) (a .new) _ (o .plan-put .ensures .0) (g .0 .0) (g .0 .1 .0) (g .0 .1 .1 .0)
     (g .0 .1 .1 .1 .0) (g .1) (c .if1 .taken)
 
 pour-requires : tie.Need-pour-requires
@@ -70,7 +70,7 @@ pour-requires c κs =
     let w = low k in (
       (w .0, w .1, w .2, h .shape .ensures .1),
       place-known (b .args .state) (b .pre .0) _ (g .0 .0) (g .0 .1 .0) (g .0 .1 .1 .0) (g .0 .1 .1 .1 .0) (g .1)
-          (homeIn (h .shape .result)) (now (b .args .area)) (b .args .key) (o .plan-put .ensures .1 .1),
+          (homeIn (h .shape .result)) (now (b .args .area)) (b .args .new) (o .plan-put .ensures .1 .1),
     )
 
 one-more-requires : tie.Need-one-more-requires
@@ -90,7 +90,7 @@ returns-2 c =
     let o = c .before .before .before in
     let h = o .before .before .before in
     let a = h .before .before .args in
-    put-stops (a .state) _ (h .shape .ensures .0) (now (a .area)) (a .key) (a .value) _ (o .plan-put .ensures .0 (a .value)) _ (c .before .plan .given .1)
+    put-stops (a .state) _ (h .shape .ensures .0) (now (a .area)) (a .new) _ (o .plan-put .ensures .0) _ (c .before .plan .given .1)
 
 same-length-3 : tie.Need-same-length-3
 same-length-3 c = search needs
@@ -105,7 +105,7 @@ returns-3 d =
     let o = k .before .before in
     let h = o .before .before .before in
     let a = h .before .before .args in
-    rw (d .wrote .ensures) (put-goes (a .state) _ (h .shape .ensures .0) (now (a .area)) (a .key) (a .value) _ (o .plan-put .ensures .0 (a .value)) (g .0 .0) (g .0 .1 .0) (g .0 .1 .1 .0)
+    rw (d .wrote .ensures) (put-goes (a .state) _ (h .shape .ensures .0) (now (a .area)) (a .new) _ (o .plan-put .ensures .0) (g .0 .0) (g .0 .1 .0) (g .0 .1 .1 .0)
     (g .0 .1 .1 .1 .0) (g .1) (l .if1 .left) _ (p .pour .ensures) _ (c .one-more .ensures))
 
 pub put-open-spec : {M : Type 1} → statement M

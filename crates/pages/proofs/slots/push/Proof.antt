@@ -10,7 +10,7 @@ returns : tie.Need-returns
 returns c =
     let a = c .before .args in
     let e = c .before .pre .2 in
-    push-last (a .page) (a .at) (a .key) (a .value) (recordsOf (a .page)) e (omega (arith, held (a .page) e .0)) (omega arith)
+    push-last (a .page) (a .at) (a .new) (recordsOf (a .page)) e (omega (arith, held (a .page) e .0)) (omega arith)
 
 open-row-requires : tie.Need-open-row-requires
 open-row-requires c κs = search needs
@@ -26,7 +26,7 @@ returns-2 c =
     let a = c .before .before .before .before .before .before .args in
     let e = c .before .before .before .before .before .before .pre in
     push-more (a .page .count) (a .at) (a .page .keys) (a .page .values) (recordsOf (a .page)) (held (a .page) (e .2)) (e .0)
-    (a .key) (a .value) (e .1) _ _ (c .before .before .open-row .ensures) (c .before .open-row2 .ensures) (omega arith)
+    (a .new) (e .1) _ _ (c .before .before .open-row .ensures) (c .before .open-row2 .ensures) (omega arith)
 
 array-read-t17 : tie.Need-array-read-t17
 array-read-t17 c = search needs
@@ -39,7 +39,7 @@ returns-3 c =
     let a = c .before .before .before .before .before .before .args in
     let e = c .before .before .before .before .before .before .pre in
     push-full (a .page .count) (a .at) (a .page .keys) (a .page .values) (recordsOf (a .page)) (held (a .page) (e .2)) (e .0)
-    (a .key) (a .value) (e .1) _ _ (c .before .before .open-row .ensures) (c .before .open-row2 .ensures) (omega arith) (omega arith)
+    (a .new) (e .1) _ _ (c .before .before .open-row .ensures) (c .before .open-row2 .ensures) (omega arith) (omega arith)
 
 pub push-spec : {M : Type 1} → statement M
 push-spec =

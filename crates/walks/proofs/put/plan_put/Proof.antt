@@ -47,11 +47,11 @@ returns c =
     let m = c .before .before .before .before .meet in
     let a = c .before .before .before .before .before .before .args in
     let w = ends (c .before) in (
-      put-here (homeIn (a .shape)) (now (a .area)) (a .key) (a .cap) (m .result) (m .ensures .0) (g .0 .0) (g .0 .1 .0) (g .0 .1 .1 .0) (g .0 .1 .1 .1 .0) (g .1)
+      put-here (homeIn (a .shape)) (now (a .area)) (a .new) (a .cap) (m .result) (m .ensures .0) (g .0 .0) (g .0 .1 .0) (g .0 .1 .1 .0) (g .0 .1 .1 .1 .0) (g .1)
           (w .0) (w .3) (c .if1 .taken),
       (
         (omega arith, w .0, omega arith),
-        put-at (homeIn (a .shape)) (now (a .area)) (a .key) (a .cap) (m .result) (m .ensures .0)
+        put-at (homeIn (a .shape)) (now (a .area)) (a .new) (a .cap) (m .result) (m .ensures .0)
             (g .0 .0) (g .0 .1 .0) (g .0 .1 .1 .0) (g .0 .1 .1 .1 .0) (g .1) .place,
       ),
     )
@@ -67,7 +67,7 @@ returns-2 c =
     let g = c .before .old .given in
     let m = c .before .before .before .meet in
     let a = c .before .before .before .before .before .args in (
-      put-found (homeIn (a .shape)) (now (a .area)) (a .key) (a .cap) (m .result) (m .ensures .0) (g .0 .0) (g .0 .1 .0) (g .0 .1 .1 .0) (g .0 .1 .1 .1 .0)
+      put-found (homeIn (a .shape)) (now (a .area)) (a .new) (a .cap) (m .result) (m .ensures .0) (g .0 .0) (g .0 .1 .0) (g .0 .1 .1 .0) (g .0 .1 .1 .1 .0)
           (g .0 .1 .1 .1 .1 .0) (g .1),
       (tt, tt),
     )
@@ -77,14 +77,14 @@ returns-3 c =
     let g = c .before .page .given in
     let m = c .before .before .before .meet in
     let a = c .before .before .before .before .before .args in
-    (put-sick (homeIn (a .shape)) (now (a .area)) (a .key) (a .cap) (m .result) (m .ensures .0) (g .0 .0) (g .0 .1 .0) (g .1), (tt, tt))
+    (put-sick (homeIn (a .shape)) (now (a .area)) (a .new) (a .cap) (m .result) (m .ensures .0) (g .0 .0) (g .0 .1 .0) (g .1), (tt, tt))
 
 returns-4 : tie.Need-returns-4
 returns-4 c =
     let g = c .before .read .given in
     let m = c .before .before .before .meet in
     let a = c .before .before .before .before .before .args in
-    (put-past (homeIn (a .shape)) (now (a .area)) (a .key) (a .cap) (m .result) (m .ensures .0) (g .0 .0) (g .1), (tt, tt))
+    (put-past (homeIn (a .shape)) (now (a .area)) (a .new) (a .cap) (m .result) (m .ensures .0) (g .0 .0) (g .1), (tt, tt))
 
 returns-5 : tie.Need-returns-5
 returns-5 c =
@@ -93,11 +93,11 @@ returns-5 c =
     let a = c .before .before .before .before .before .before .before .args in
     let w = ends (c .before .before) in
     let r = c .reach in (
-      put-on (homeIn (a .shape)) (now (a .area)) (a .key) (a .cap) (m .result) (m .ensures .0) (g .0 .0) (g .0 .1 .0) (g .0 .1 .1 .0) (g .0 .1 .1 .1 .0) (g .1)
+      put-on (homeIn (a .shape)) (now (a .area)) (a .new) (a .cap) (m .result) (m .ensures .0) (g .0 .0) (g .0 .1 .0) (g .0 .1 .1 .0) (g .0 .1 .1 .1 .0) (g .1)
           (w .0) (w .3) (c .before .if1 .left) (r .result) (r .ensures .0),
       (
         r .ensures .1,
-        put-placed (homeIn (a .shape)) (now (a .area)) (a .key) (a .cap)
+        put-placed (homeIn (a .shape)) (now (a .area)) (a .new) (a .cap)
             (m .result) (m .ensures .0) (g .0 .0) (g .0 .1 .0) (g .0 .1 .1 .0) (g .0 .1 .1 .1 .0) (g .1) (r .result) (r .ensures .0),
       ),
     )

@@ -13,12 +13,12 @@ use Rattle.walks.proofs.put.pour.Statement.{statement}
 use Rattle.walks.proofs.put.pour.Tie as tie
 
 abbrev Inv-loop : tie.InvT-loop
-Inv-loop area₀ shape first at last key value a₀ k₀ v₀ area a k v =
-    (first ≤ a) × (a ≤ last + 1) × (length area ≡ length area₀) × Untouched area₀ area a × (a ≡ first → k ≡ key)
-    × (writes area (poured (homeIn shape) area₀ (suc last - a) a (k, v)) ≡ writes area₀ (poured (homeIn shape) area₀ (suc (last - first)) first (key, value)))
+Inv-loop area₀ shape first at last a₀ x₀ area a x =
+    (first ≤ a) × (a ≤ last + 1) × (length area ≡ length area₀) × Untouched area₀ area a × (a ≡ first → x ≡ x₀)
+    × (writes area (poured (homeIn shape) area₀ (suc last - a) a x) ≡ writes area₀ (poured (homeIn shape) area₀ (suc (last - first)) first x₀))
 
 abbrev μ-loop : tie.MeasureT-loop
-μ-loop area₀ shape first at last key value a₀ k₀ v₀ area a k v = last + 1 - a
+μ-loop area₀ shape first at last a₀ x₀ area a x = last + 1 - a
 
 loop-holds : tie.Need-loop-holds Inv-loop μ-loop
 loop-holds c =
@@ -28,7 +28,7 @@ loop-holds c =
       refl,
       λ b l. refl,
       λ e. refl,
-      pour-starts (homeIn (a .shape)) (now (a .area)) (a .first) (a .last) (a .key, a .value)
+      pour-starts (homeIn (a .shape)) (now (a .area)) (a .first) (a .last) (a .new)
           (c .before .pre .0 .0),
     )
 
@@ -43,8 +43,8 @@ place-on-requires c κs =
 -- the place is the right one
 turn : (c : tie.After-place-on Inv-loop μ-loop)
     → Turn (homeIn (c .before .before .before .before .before .before .args .shape)) (now (c .before .before .before .before .before .before .args .area))
-    (c .before .before .before .before .loop .area) (c .before .before .before .before .loop .a) (c .before .before .before .before .loop .k)
-    (c .before .before .before .before .loop .v) (c .before .parse-at .result) (c .place-on .result)
+    (c .before .before .before .before .loop .area) (c .before .before .before .before .loop .a) (c .before .before .before .before .loop .x)
+    (c .before .parse-at .result) (c .place-on .result)
 turn c =
     let l = c .before .before .before .before .loop in
     let s = c .before .before .before .before .before .before in
@@ -52,8 +52,8 @@ turn c =
     record {
       rest = l .inv .3;
       is = is;
-      at = place-right (homeIn (s .args .shape)) (now (s .args .area)) (l .area) (l .a) (l .k) (c .before .parse-at .result) (s .args .first) (s .args .at)
-          (s .args .key) (c .place-on .result) (l .inv .3) is (l .inv .4) (s .pre .1) (c .place-on .ensures);
+      at = place-right (homeIn (s .args .shape)) (now (s .args .area)) (l .area) (l .a) (l .x) (c .before .parse-at .result) (s .args .first) (s .args .at)
+          (s .args .new) (c .place-on .result) (l .inv .3) is (l .inv .4) (s .pre .1) (c .place-on .ensures);
     }
 
 push-requires : tie.Need-push-requires Inv-loop μ-loop
@@ -78,11 +78,11 @@ loop-less c = search needs
 
 loop-again : tie.Need-loop-again Inv-loop μ-loop
 loop-again c =
-    let w = c .before .before .before .before .before in
+    let w = c .before .before .before .before .before .before in
     let l = w .before .before .before .before .before .loop in
     let s = w .before .before .before .before .before .before .before in
     let t = turn (w .before) in
-    let to = c .before .before .store-at in
+    let to = c .before .before .before .store-at in
     let fits : 256 * (l .a + 1) ≤ length (l .area) = omega arith in (
       omega arith,
       omega arith,
@@ -100,7 +100,7 @@ returns : tie.Need-returns Inv-loop μ-loop
 returns c =
     let l = c .before .loop in
     let a = c .before .before .before .args in
-    sym (pour-ends (homeIn (a .shape)) (now (a .area)) (l .area) (a .last) (l .a) (l .k, l .v) (c .loop-test .left)) ∙ l .inv .5
+    sym (pour-ends (homeIn (a .shape)) (now (a .area)) (l .area) (a .last) (l .a) (l .x) (c .loop-test .left)) ∙ l .inv .5
 
 pub pour-spec : {M : Type 1} → statement M
 pour-spec =

@@ -8,14 +8,14 @@ use Rattle.walks.proofs.remove.take_back.Tie as tie
 array-read-key : tie.Need-array-read-key
 array-read-key c = search needs
 
+array-read-value : tie.Need-array-read-value
+array-read-value c = search needs
+
 home-requires : tie.Need-home-requires
 home-requires c κs = search needs
 
 place-back-requires : tie.Need-place-back-requires
 place-back-requires c κs = search needs
-
-array-read-push : tie.Need-array-read-push
-array-read-push c = search needs
 
 push-requires : tie.Need-push-requires
 push-requires c κs =
@@ -33,8 +33,8 @@ take-back-spec =
     tie.close
     (tie.spec
     array-read-key
+    array-read-value
     home-requires
     place-back-requires
-    array-read-push
     push-requires
     returns)

@@ -8,12 +8,18 @@ use Rattle.register.proofs.Answers.{fresh-fits, format-wide, format-shu
 use Rattle.register.proofs.format.Statement.{statement}
 use Rattle.register.proofs.format.Tie as tie
 
+cast-if1 : tie.Need-cast-if1
+cast-if1 c = search needs
+
+cast-if1-2 : tie.Need-cast-if1-2
+cast-if1-2 c = search needs
+
 mul-if1 : tie.Need-mul-if1
-mul-if1 c = omega (arith, product-fits (c .before .before .args .params .n0) (c .before .before .args .params .n) (omega arith) (omega arith))
+mul-if1 c = omega (arith, product-fits (c .before .before .before .args .params .n0) (c .before .before .before .args .params .n) (omega arith) (omega arith))
 
 returns : tie.Need-returns
 returns c =
-    let a = c .before .before .before .args in
+    let a = c .before .before .before .before .args in
     format-wide (a .state) (a .params) (a .cap) (now (a .area)) (c .if1 .taken) (omega arith)
 
 new-requires : tie.Need-new-requires
@@ -32,14 +38,14 @@ clear-pages-requires : tie.Need-clear-pages-requires
 clear-pages-requires c κs =
     let t = c .before in
     let e = t .before .before in
-    let a = e .before .before .before .before .before .args in
+    let a = e .before .before .before .before .before .before .args in
     let k = past _ _ _ (e .enter .ensures .1) (t .enum-told .given .1) in
     fresh-fits (a .params) (a .cap) _ _ (e .before .new .ensures) (k .0) (k .1)
 
 returns-2 : tie.Need-returns-2
 returns-2 c =
     let e = c .before .before .before in
-    let a = e .before .before .before .before .before .args in
+    let a = e .before .before .before .before .before .before .args in
     format-shut (a .state) (a .params) (a .cap) (now (a .area)) _ (e .before .new .ensures) _ (e .enter .ensures .0) _ (c .before .gate .given .1)
 
 same-length : tie.Need-same-length
@@ -50,13 +56,15 @@ returns-3 c =
     let p = c .before .before in
     let t = p .before .before in
     let e = t .before .before in
-    let a = e .before .before .before .before .before .args in
+    let a = e .before .before .before .before .before .before .args in
     format-open (a .state) (a .params) (a .cap) (now (a .area)) _ (e .before .new .ensures) _ (e .enter .ensures .0) (t .enum-told .given .1) _ (p .clear-pages .ensures)
 
 pub format-spec : {M : Type 1} → statement M
 format-spec =
     tie.close
     (tie.spec
+    cast-if1
+    cast-if1-2
     mul-if1
     returns
     new-requires

@@ -2,6 +2,7 @@
 pub mod carry;
 pub mod records;
 
+use pages::Record;
 use state::Numbers;
 use state::State;
 ghost use mathlib.Core.Path.{_≡_};
@@ -31,7 +32,7 @@ pub enum Form {
 // A command with its numbers.
 pub enum Command {
     Format { n0: u16, n: u16, s: u16, cap: u16 },
-    Put { key: u64, value: u64 },
+    Put { new: Record },
     Find { key: u64 },
     Remove { key: u64 },
     Grow,

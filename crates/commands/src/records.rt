@@ -3,6 +3,7 @@ use crate::Command;
 use crate::Form;
 use crate::Item;
 use crate::Kind;
+use pages::Record;
 use state::Numbers;
 use state::State;
 ghost use mathlib.Core.Path.{_≡_};
@@ -60,8 +61,10 @@ fn command_of(kind: Kind, input: &[u8]) -> Command
             cap: numbers::get_u16(input, 10),
         },
         Kind::Put => Command::Put {
-            key: numbers::get_u64(input, 4),
-            value: numbers::get_u64(input, 12),
+            new: Record {
+                key: numbers::get_u64(input, 4),
+                value: numbers::get_u64(input, 12),
+            },
         },
         Kind::Find => Command::Find {
             key: numbers::get_u64(input, 4),

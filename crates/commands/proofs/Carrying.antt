@@ -6,6 +6,7 @@ use lib.ListN.{take}
 use borrow.Author.Tests.{lt-ltb, le-ltb}
 use Rattle.homes.specs.declared.Params.{Params}
 use Rattle.numbers.proofs.Laws.{written-nil}
+use Rattle.pages.specs.Page.{Record}
 use Rattle.state.specs.declared.State.{State}
 use Rattle.state.specs.declared.Numbers.{Numbers}
 use Rattle.register.specs.Calls.{formatted, found, stored, removed, checked, grew}
@@ -35,9 +36,9 @@ module _ (s : State) (space row : List ℕ) (c : Command) where
 
   module _ (t : Told) where
     -- a put is called on the pages of the state, and leaves the row
-    pub carries-put : (k v : ℕ) → c ≡ Put k v → (new : List ℕ) → Back t space new (stored s (take (256 * s .cap) space) (k, v)) → Leaves t new row (carried (site s space row) c)
+    pub carries-put : (x : Record) → c ≡ Put x → (new : List ℕ) → Back t space new (stored s (take (256 * s .cap) space) x) → Leaves t new row (carried (site s space row) c)
     unfolding carried left
-    carries-put k v e new w = rw e (w .0, (w .1, sym (written-nil row 0)))
+    carries-put x e new w = rw e (w .0, (w .1, sym (written-nil row 0)))
 
     -- a find leaves the pages and the row
     pub carries-find : (k : ℕ) → c ≡ Find k → t ≡ tells (found s (take (256 * s .cap) space) k) → Leaves t space row (carried (site s space row) c)

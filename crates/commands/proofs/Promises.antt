@@ -11,7 +11,7 @@ use Rattle.commands.proofs.Parts.{in-parts, parts-stopped, enough}
 -- the numbers of a command fit the fields of its record
 sized-fit : (c : Command) → Sized c → Fit (layoutOf c)
 sized-fit (Format q cap) h = (omega arith, (omega arith, (h .0, (h .1, (h .2, (h .3, tt))))))
-sized-fit (Put k v) h = (omega arith, (omega arith, (h .0, (h .1, tt))))
+sized-fit (Put x) h = (omega arith, (omega arith, (h .0, (h .1, tt))))
 sized-fit (Find k) h = (omega arith, (omega arith, (h, tt)))
 sized-fit (Remove k) h = (omega arith, (omega arith, (h, tt)))
 sized-fit Grow h = (omega arith, (omega arith, tt))

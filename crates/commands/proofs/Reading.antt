@@ -8,11 +8,13 @@ use Prim.Native.Nat.{ℕ, _≤_, _<_}
 use lib.ListN.{length}
 use borrow.Author.Tests.{eq-eqb, eqb-true, ne-eqb, lt-ltb, le-ltb}
 use Rattle.numbers.specs.Little.{numberAt}
+use Rattle.pages.specs.Page.{recordWith}
 use Rattle.commands.specs.declared.Kind.{Kind}
 use Rattle.commands.specs.declared.Kind.the-variants as kind
 use Rattle.commands.specs.declared.Form.{Form}
 use Rattle.commands.specs.declared.Form.the-variants as form
 use Rattle.commands.specs.declared.Command.{Command}
+use Rattle.commands.specs.declared.Command.the-variants.{Put}
 use Rattle.commands.specs.declared.Item.the-variants.{Asks, Unknown, Cut}
 use Rattle.commands.specs.Records.{lengthOf, formOf, commandOf, firstOf}
 use Rattle.commands.specs.Within.{Formed}
@@ -78,6 +80,10 @@ of-number x =
 -- there is a whole record of a kind, and so of the kind that it turns out to be
 pub long : (n : ℕ) (j k : Kind) → lengthOf j ≤ n → j ≡ k → lengthOf k ≤ n
 long n j k h e = rw e at h
+
+-- the two numbers that were read make the record of a put
+pub put-read : (k : Kind) (l : List ℕ) (a b : ℕ) → k ≡ kind.Put → a ≡ numberAt 8 l 4 → b ≡ numberAt 8 l 12 → Put (recordWith a b) ≡ commandOf k l
+put-read k l a b e p q = rw (e, p, q)
 
 -- a known form has its kind's length
 pub formed-length : (f : Form) (k : Kind) (n : ℕ) → Formed f → f ≡ form.Known k n → n ≡ lengthOf k

@@ -10,6 +10,7 @@ use borrow.Author.Tests.{eq-eqb, eqb-true, ltb-false}
 use Rattle.numbers.specs.Little.{Bytes, numberAt}
 use Rattle.numbers.specs.Fields.{Field, width, encode, matches}
 use Rattle.numbers.proofs.Records.{Fit, length-encode, match-first, match-rest, matches-sound, matches-complete}
+use Rattle.pages.specs.Page.{key, value}
 use Rattle.commands.specs.declared.Kind.{Kind}
 use Rattle.commands.specs.declared.Kind.the-variants as kind
 use Rattle.commands.specs.declared.Form.{Form}
@@ -45,8 +46,16 @@ record Tells (l : List ℕ) (c : Command) : Type 0 where
 
 -- so they do where they say the fields of its layout
 tells : (l : List ℕ) (c : Command) → Says l 0 (layoutOf c) → Tells l c
-tells l (Format q cap) t = record { what = kind.Format; first = t .0; second = t .1 .0; body = cc }
-tells l (Put k v) t = record { what = kind.Put; first = t .0; second = t .1 .0; body = cc }
+tells l (Format q cap) t =
+    let a : numberAt 2 l 4 ≡ q .n0 = t .1 .1 .0 in
+    let b : numberAt 2 l 6 ≡ q .n = t .1 .1 .1 .0 in
+    let c : numberAt 2 l 8 ≡ q .s = t .1 .1 .1 .1 .0 in
+    let d : numberAt 2 l 10 ≡ cap = t .1 .1 .1 .1 .1 .0 in
+    record { what = kind.Format; first = t .0; second = t .1 .0; body = rw (a, b, c, d) }
+tells l (Put x) t =
+    let k : numberAt 8 l 4 ≡ key x = t .1 .1 .0 in
+    let v : numberAt 8 l 12 ≡ value x = t .1 .1 .1 .0 in
+    record { what = kind.Put; first = t .0; second = t .1 .0; body = rw (k, v) }
 tells l (Find k) t = record { what = kind.Find; first = t .0; second = t .1 .0; body = cc }
 tells l (Remove k) t = record { what = kind.Remove; first = t .0; second = t .1 .0; body = cc }
 tells l Grow t = record { what = kind.Grow; first = t .0; second = t .1 .0; body = refl }

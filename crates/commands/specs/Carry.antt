@@ -34,7 +34,7 @@ carries n d = record { numbers = n; site = d }
 -- "cap (pages lent)": a format is lent the pages that it asks for, every other command those of the state
 abbrev pub lentTo : State → Command → ℕ
 lentTo s (Format q cap) = cap
-lentTo s (Put k v) = s .cap
+lentTo s (Put x) = s .cap
 lentTo s (Find k) = s .cap
 lentTo s (Remove k) = s .cap
 lentTo s Grow = s .cap
@@ -43,7 +43,7 @@ lentTo s Check = s .cap
 -- the call that a command makes; grow "is lent a row of 32-bit counts, one a page"
 abbrev pub callOf : Command → (row : List ℕ) → Call
 callOf (Format q cap) row = format q cap
-callOf (Put k v) row = put k v
+callOf (Put x) row = put x
 callOf (Find k) row = find k
 callOf (Remove k) row = remove k
 callOf Grow row = grow row
@@ -62,7 +62,7 @@ calledWith d c lent =
 -- 12: "more than 128 pages asked"
 abbrev pub tooMany : Command → Bool
 tooMany (Format q cap) = ltb 128 cap
-tooMany (Put k v) = false
+tooMany (Put x) = false
 tooMany (Find k) = false
 tooMany (Remove k) = false
 tooMany Grow = false

@@ -7,6 +7,7 @@ use mathlib.Core.List.{List, _++_}
 use lib.ListN.{length, take, drop}
 use Rattle.numbers.specs.Little.{Bytes}
 use Rattle.numbers.specs.Fields.{width, encode}
+use Rattle.pages.specs.Page.{key, value}
 use Rattle.commands.specs.declared.Command.{Command}
 use Rattle.commands.specs.declared.Command.the-variants.{Format, Put, Find, Remove, Grow, Check}
 use Rattle.commands.specs.declared.Item.the-variants.{Asks}
@@ -18,7 +19,7 @@ use Rattle.commands.specs.Log.{Log, log, wholeLog}
 -- each)", and a key and a value of 64 bits
 abbrev pub Sized : Command → Type 0
 Sized (Format q cap) = (q .n0 < 2 ^ 16) × (q .n < 2 ^ 16) × (q .s < 2 ^ 16) × (cap < 2 ^ 16)
-Sized (Put k v) = (k < 2 ^ 64) × (v < 2 ^ 64)
+Sized (Put x) = (key x < 2 ^ 64) × (value x < 2 ^ 64)
 Sized (Find k) = k < 2 ^ 64
 Sized (Remove k) = k < 2 ^ 64
 Sized Grow = Unit {0}

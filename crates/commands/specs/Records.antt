@@ -7,6 +7,7 @@ use lib.Dec.{eqb, ltb}
 use Rattle.numbers.specs.Little.{numberAt}
 use Rattle.numbers.specs.Fields.{Field}
 use Rattle.homes.specs.Homes.{params}
+use Rattle.pages.specs.Page.{key, value, recordWith}
 use Rattle.state.specs.declared.State.{State}
 use Rattle.state.specs.declared.Numbers.{Numbers}
 use Rattle.state.specs.State.{isDue}
@@ -44,7 +45,7 @@ formOf k =
 -- the command of a record, whose body follows four bytes of length and kind
 abbrev pub commandOf : Kind → List ℕ → Command
 commandOf kind.Format l = Format (params (numberAt 2 l 4) (numberAt 2 l 6) (numberAt 2 l 8)) (numberAt 2 l 10)
-commandOf kind.Put l = Put (numberAt 8 l 4) (numberAt 8 l 12)
+commandOf kind.Put l = Put (recordWith (numberAt 8 l 4) (numberAt 8 l 12))
 commandOf kind.Find l = Find (numberAt 8 l 4)
 commandOf kind.Remove l = Remove (numberAt 8 l 4)
 commandOf kind.Grow l = Grow
@@ -62,7 +63,7 @@ firstOf l = cond (ltb (length l) 4) Cut (formed l (formOf (numberAt 2 l 2)))
 -- the bytes of a command's record: length and kind, "length first", then its numbers. `LogPromises` (Promises.antt) says that a command is read from these bytes and from no others.
 abbrev pub layoutOf : Command → List Field
 layoutOf (Format q cap) = (2, 12) ∷ (2, 257) ∷ (2, q .n0) ∷ (2, q .n) ∷ (2, q .s) ∷ (2, cap) ∷ []
-layoutOf (Put k v) = (2, 20) ∷ (2, 258) ∷ (8, k) ∷ (8, v) ∷ []
+layoutOf (Put x) = (2, 20) ∷ (2, 258) ∷ (8, key x) ∷ (8, value x) ∷ []
 layoutOf (Find k) = (2, 12) ∷ (2, 259) ∷ (8, k) ∷ []
 layoutOf (Remove k) = (2, 12) ∷ (2, 260) ∷ (8, k) ∷ []
 layoutOf Grow = (2, 4) ∷ (2, 261) ∷ []

@@ -2,6 +2,7 @@
 use crate::Command;
 use crate::Told;
 use homes::Params;
+use pages::Record;
 use state::Done;
 use state::Numbers;
 use state::State;
@@ -56,12 +57,12 @@ fn format_lent(state: State, params: Params, cap: u16, space: &mut [u8]) -> Told
     tell(done)
 }
 
-fn put_lent(state: State, space: &mut [u8], key: u64, value: u64) -> Told
-    ensures { λ r. ⌜ r ≡ tells (stored state (take (256 * state .cap) (now (space .entry))) (key, value) .done) ⌝ }
-    ensures { λ _. ⌜ now (space .exit) ≡ written (now (space .entry)) 0 (stored state (take (256 * state .cap) (now (space .entry))) (key, value) .area) ⌝ }
+fn put_lent(state: State, space: &mut [u8], new: Record) -> Told
+    ensures { λ r. ⌜ r ≡ tells (stored state (take (256 * state .cap) (now (space .entry))) new .done) ⌝ }
+    ensures { λ _. ⌜ now (space .exit) ≡ written (now (space .entry)) 0 (stored state (take (256 * state .cap) (now (space .entry))) new .area) ⌝ }
 {
     let end = lent(state.cap, &space[..]);
-    let done = register::put(state, &mut space[..end], key, value);
+    let done = register::put(state, &mut space[..end], new);
     tell(done)
 }
 
@@ -118,7 +119,7 @@ pub fn carry_out(state: State, space: &mut [u8], row: &mut [u32], command: Comma
             }
             format_lent(state, params, cap, space)
         }
-        Command::Put { key, value } => put_lent(state, space, key, value),
+        Command::Put { new } => put_lent(state, space, new),
         Command::Find { key } => find_lent(state, &space[..], key),
         Command::Remove { key } => remove_lent(state, space, key),
         Command::Grow => grow_lent(state, space, row),

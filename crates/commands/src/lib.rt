@@ -3,6 +3,7 @@ pub mod carry;
 pub mod records;
 
 use homes::Params;
+use pages::Record;
 use state::Numbers;
 use state::State;
 ghost use mathlib.Core.Path.{_≡_};
@@ -32,7 +33,7 @@ pub enum Form {
 // A command with its numbers.
 pub enum Command {
     Format { params: Params, cap: u16 },
-    Put { key: u64, value: u64 },
+    Put { new: Record },
     Find { key: u64 },
     Remove { key: u64 },
     Grow,

@@ -4,6 +4,7 @@ use crate::Form;
 use crate::Item;
 use crate::Kind;
 use homes::Params;
+use pages::Record;
 use state::Numbers;
 use state::State;
 ghost use mathlib.Core.Path.{_≡_};
@@ -66,8 +67,10 @@ fn command_of(kind: Kind, input: &[u8]) -> Command
             }
         }
         Kind::Put => Command::Put {
-            key: numbers::get_u64(input, 4),
-            value: numbers::get_u64(input, 12),
+            new: Record {
+                key: numbers::get_u64(input, 4),
+                value: numbers::get_u64(input, 12),
+            },
         },
         Kind::Find => Command::Find {
             key: numbers::get_u64(input, 4),

@@ -7,7 +7,7 @@ use lib.ListN.{replicate}
 use Rattle.numbers.specs.Little.{little, bytesOf, numberAt, written}
 use Rattle.numbers.specs.Fields.{encode}
 use Rattle.homes.specs.Homes.{draw, mover, swept, newPage, moved, nextGroups, steps, params, home}
-use Rattle.pages.specs.Page.{key, pageBytes, recordsIn, wellFormed, readPage, inMemory}
+use Rattle.pages.specs.Page.{key, recordWith, pageBytes, recordsIn, wellFormed, readPage, inMemory}
 use Rattle.pages.specs.Slots.{opened, closed}
 use Rattle.pages.specs.Area.{partAt}
 use Rattle.state.specs.declared.Done.{Done}
@@ -46,7 +46,7 @@ file cap = formatted (record { params = params 0 0 0; p = 0; cap = 0; r = 0 }) (
 -- keys put one after the other, each with itself as its value
 abbrev putAll : List ℕ → Outcome → Outcome
 putAll [] o = o
-putAll (k ∷ ks) o = putAll ks (stored (o .done .state) (o .area) (k, k))
+putAll (k ∷ ks) o = putAll ks (stored (o .done .state) (o .area) (recordWith k k))
 
 -- and then one page more
 abbrev grow : Outcome → Growth
@@ -72,7 +72,7 @@ moves g = (refusal (g .done) ∷ movedBy (g .done) ∷ []) ∷ keysOn (g .area) 
 
 -- "Then key 12 is refused with 7, though page 0 is empty."
 abbrev then12 : Growth → List (List ℕ)
-then12 g = (refusal (stored (g .done .state) (g .area) (12, 12) .done) ∷ []) ∷ []
+then12 g = (refusal (stored (g .done .state) (g .area) (recordWith 12 12) .done) ∷ []) ∷ []
 
 -- "Keys 0 to 12 put at P 1: page 0 holds 0 to 11, page 1 holds 12; grow is refused with 7."
 abbrev thirteen : Outcome → List (List ℕ)
@@ -80,7 +80,7 @@ thirteen o = keysOn (o .area) 0 ∷ keysOn (o .area) 1 ∷ (refusal (grow o .don
 
 -- "cap 1: the thirteenth key is refused with 7, a held key still gets 6."
 abbrev onePage : Outcome → List (List ℕ)
-onePage o = (refusal (stored (o .done .state) (o .area) (12, 12) .done) ∷ refusal (stored (o .done .state) (o .area) (5, 12) .done) ∷ []) ∷ []
+onePage o = (refusal (stored (o .done .state) (o .area) (recordWith 12 12) .done) ∷ refusal (stored (o .done .state) (o .area) (recordWith 5 12) .done) ∷ []) ∷ []
 
 -- what takes no call
 abbrev alone : List (List ℕ)

@@ -3,6 +3,7 @@ use homes::Params;
 use crate::text::print_item;
 use crate::text::say;
 use crate::text::say_number;
+use pages::Record;
 use state::Done;
 use state::State;
 ghost use mathlib.Core.Path.{_≡_};
@@ -15,7 +16,8 @@ fn put_below(mut state: State, area: &mut [u8], end: u64) -> State
 {
     let mut key = 0;
     while key < end {
-        let done = register::put(state, area, key, 10 * key);
+        let value = 10 * key;
+        let done = register::put(state, area, Record { key, value });
         state = done.state;
         key += 1;
     }
@@ -88,7 +90,11 @@ fn print_grown(area: &mut [u8], row: &mut [u32])
     let grown = register::grow(state, area, row);
     print_answer(b"cap 2, keys 0 to 11, grow", grown);
     print_pages(b"  page ", b" then holds ", &area[..]);
-    let put = register::put(grown.state, area, 12, 120);
+    let new = Record {
+        key: 12,
+        value: 120,
+    };
+    let put = register::put(grown.state, area, new);
     print_answer(b"  then put of key 12", put);
 }
 
@@ -104,9 +110,14 @@ fn print_spilt(area: &mut [u8], row: &mut [u32])
 // The held key is put again with another value.
 fn print_full(area: &mut [u8]) {
     let state = file_of(area, 1, 12);
-    let thirteenth = register::put(state, area, 12, 120);
+    let new = Record {
+        key: 12,
+        value: 120,
+    };
+    let thirteenth = register::put(state, area, new);
     print_answer(b"cap 1, thirteenth key", thirteenth);
-    let held = register::put(thirteenth.state, area, 5, 1);
+    let again = Record { key: 5, value: 1 };
+    let held = register::put(thirteenth.state, area, again);
     print_answer(b"cap 1, held key 5 (value 50) put again", held);
 }
 

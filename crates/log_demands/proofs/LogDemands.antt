@@ -70,7 +70,7 @@ fresh m d w =
 called : (d : Site) (c : Command) → AsCalled d c
 unfolding carried
 called d (Format q cap) = tt
-called d (Put k v) = refl
+called d (Put x) = refl
 called d (Find k) = refl
 called d (Remove k) = refl
 called d Grow = refl
@@ -80,7 +80,7 @@ called d Check = refl
 before : (space row : List ℕ) (c : Command) → AnswersOne space row c
 unfolding carried left gateOf growGate inRange all
 before space row (Format q cap) = tt
-before space row (Put k v) = refl
+before space row (Put x) = refl
 before space row (Find k) = refl
 before space row (Remove k) = refl
 before space row Grow = refl

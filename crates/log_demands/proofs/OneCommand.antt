@@ -103,7 +103,7 @@ command-keeps o d (Format q cap) w h = go (ltb 128 cap)
     go : (u : Bool) → Keeps o (Format q cap) (cond u (carries (refusedBy 12) d) (calledWith d (Format q cap) cap))
     go true = h
     go false = format-keeps o (d .state) (d .space) q cap h
-command-keeps o d (Put k v) w h = call-keeps (put k v) (w []) refl (λ m. (holding m ((k, v) ∷ m .held), refl, refl)) o (d .state) (d .space) h
+command-keeps o d (Put x) w h = call-keeps (put x) (w []) refl (λ m. (holding m (x ∷ m .held), refl, refl)) o (d .state) (d .space) h
 command-keeps o d (Find k) w h = call-keeps (find k) (w []) refl (λ m. (m, refl, refl)) o (d .state) (d .space) h
 command-keeps o d (Remove k) w h = call-keeps (remove k) (w []) refl (λ m. (holding m (without k (m .held)), refl, refl)) o (d .state) (d .space) h
 command-keeps o d Grow w h = call-keeps (grow (take (d .state .cap) (d .row))) tt refl (λ m. (paged m, refl, refl)) o (d .state) (d .space) h

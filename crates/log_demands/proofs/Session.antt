@@ -10,7 +10,7 @@ use Rattle.numbers.specs.Fields.{encode}
 use Rattle.numbers.proofs.Laws.{bytes-append}
 use Rattle.numbers.proofs.Records.{bytes-encode}
 use Rattle.homes.specs.Homes.{draw, mover, swept, moved, nextGroups, steps, home}
-use Rattle.pages.specs.Page.{pageBytes, recordsIn, wellFormed, readPage}
+use Rattle.pages.specs.Page.{recordWith, pageBytes, recordsIn, wellFormed, readPage}
 use Rattle.pages.specs.Slots.{closed}
 use Rattle.pages.specs.Area.{partAt}
 use Rattle.state.specs.State.{all, inRange}
@@ -50,14 +50,14 @@ session = refl
 
 -- what it keeps: one record on one of two pages
 abbrev outcome : Kept
-outcome = record { params = params 1 1 1; cap = 2; p = 1; held = (5, 9) ∷ [] }
+outcome = record { params = params 1 1 1; cap = 2; p = 1; held = recordWith 5 9 ∷ [] }
 
 -- the session's bytes are those of its three commands
 bytes : Bytes input
 unfolding bytesOf encode
 bytes =
-    bytes-append (encode (layoutOf (Format (params 1 1 1) 2))) (encode (layoutOf (Put 5 9)) ++ encode (layoutOf (Find 5))) (bytes-encode (layoutOf (Format (params 1 1 1) 2)))
-    (bytes-append (encode (layoutOf (Put 5 9))) (encode (layoutOf (Find 5))) (bytes-encode (layoutOf (Put 5 9))) (bytes-encode (layoutOf (Find 5))))
+    bytes-append (encode (layoutOf (Format (params 1 1 1) 2))) (encode (layoutOf (Put (recordWith 5 9))) ++ encode (layoutOf (Find 5))) (bytes-encode (layoutOf (Format (params 1 1 1) 2)))
+    (bytes-append (encode (layoutOf (Put (recordWith 5 9)))) (encode (layoutOf (Find 5))) (bytes-encode (layoutOf (Put (recordWith 5 9)))) (bytes-encode (layoutOf (Find 5))))
 
 pub session-after : After outcome (wholeLog start input .site)
 unfolding draw mover swept moved nextGroups steps home little bytesOf numberAt written encode pageBytes recordsIn wellFormed readPage partAt closed all inRange walk putWalk removeWalk gateOf left formOf firstOf carried asked keptBy

@@ -44,7 +44,7 @@ fileAt d = record { state = d .state; area = take (256 * d .state .cap) (d .spac
 -- something of every command but a format
 abbrev pub ButFormat : (Command → Type 0) → Command → Type 0
 ButFormat Says (Format q cap) = Unit {0}
-ButFormat Says (Put k v) = Says (Put k v)
+ButFormat Says (Put x) = Says (Put x)
 ButFormat Says (Find k) = Says (Find k)
 ButFormat Says (Remove k) = Says (Remove k)
 ButFormat Says Grow = Says Grow

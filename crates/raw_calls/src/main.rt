@@ -4,6 +4,7 @@ mod records;
 use homes::Params;
 use libc::STDIN_FILENO;
 use libc::STDOUT_FILENO;
+use pages::Record;
 use records::Asked;
 use state::Answer;
 use state::Done;
@@ -38,7 +39,13 @@ fn call(asked: Asked, area: &mut [u8], row: &mut [u32]) -> Done {
     match kind {
         0..=256 => due(state),
         257 => format(state, area, asked.a),
-        258 => register::put(state, area, asked.a, asked.b),
+        258 => {
+            let new = Record {
+                key: asked.a,
+                value: asked.b,
+            };
+            register::put(state, area, new)
+        }
         259 => register::find(state, &area[..], asked.a),
         260 => register::remove(state, area, asked.a),
         261 => register::grow(state, area, row),

@@ -1,5 +1,6 @@
 // The calls for programs in other languages. Each is the register's call on the state that a slip of forty bytes brings; the slip then holds the state after it and the answer. It takes any lengths and any bytes, and returns the number of its refusal.
 use homes::Params;
+use pages::Record;
 use state::Done;
 use state::Numbers;
 use state::State;
@@ -8,6 +9,7 @@ ghost use lib.ListN.{length};
 ghost use Rattle.numbers.specs.Little.{written};
 ghost use Rattle.numbers.specs.Fields.{encode};
 ghost use Rattle.homes.specs.Homes.{params};
+ghost use Rattle.pages.specs.Page.{recordWith};
 ghost use Rattle.state.specs.Answer.{numbers};
 ghost use Rattle.register.specs.Files.{format, find, put, remove, grow, check};
 ghost use Rattle.reefcushion.specs.Slip.{stateIn, stateFields, answerFields, slipOf, served, servedRow, dueOn};
@@ -115,16 +117,16 @@ pub extern "C" fn reefcushion_find(slip: &mut [u8], area: &[u8], key: u64) -> u3
 
 #[no_mangle]
 pub extern "C" fn reefcushion_put(slip: &mut [u8], area: &mut [u8], key: u64, value: u64) -> u32
-    ensures { λ r. ⌜ r ≡ served (now (slip .entry)) (now (area .entry)) (put key value) .returned ⌝ }
-    ensures { λ _. ⌜ now (slip .exit) ≡ served (now (slip .entry)) (now (area .entry)) (put key value) .slip ⌝ }
-    ensures { λ _. ⌜ now (area .exit) ≡ served (now (slip .entry)) (now (area .entry)) (put key value) .file .area ⌝ }
-    ensures again { λ _. ⌜ stateIn (now (slip .exit)) ≡ served (now (slip .entry)) (now (area .entry)) (put key value) .file .state ⌝ }
+    ensures { λ r. ⌜ r ≡ served (now (slip .entry)) (now (area .entry)) (put (recordWith key value)) .returned ⌝ }
+    ensures { λ _. ⌜ now (slip .exit) ≡ served (now (slip .entry)) (now (area .entry)) (put (recordWith key value)) .slip ⌝ }
+    ensures { λ _. ⌜ now (area .exit) ≡ served (now (slip .entry)) (now (area .entry)) (put (recordWith key value)) .file .area ⌝ }
+    ensures again { λ _. ⌜ stateIn (now (slip .exit)) ≡ served (now (slip .entry)) (now (area .entry)) (put (recordWith key value)) .file .state ⌝ }
 {
     if slip.len() != SLIP {
         return NO_SLIP;
     }
     let state = state_in(&slip[..]);
-    let done = register::put(state, area, key, value);
+    let done = register::put(state, area, Record { key, value });
     tell(slip, done)
 }
 

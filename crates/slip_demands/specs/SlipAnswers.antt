@@ -3,6 +3,7 @@ use Prim.Native.Nat.{ℕ}
 use mathlib.Core.List.{List}
 use denote.Ref.{now}
 use Rattle.homes.specs.Homes.{params}
+use Rattle.pages.specs.Page.{recordWith}
 use Rattle.register.specs.Files.{format, find, put, remove, grow, check}
 use Rattle.demands.specs.Answers.{Settled}
 use Rattle.reefcushion.proofs.reefcushion_format as Format
@@ -27,7 +28,7 @@ pub record SlipAnswers : Type 0 where
       (λ κs a. served (now (a .0)) (now (a .1 .0)) (find (a .1 .1 .0)))
       (λ κs a y v. came y (v .0) (now (a .1 .0)))
   pub put : Settled Put.ended Put.Reads.Asked Put.Reads.Learnt
-      (λ κs a. served (now (a .0)) (now (a .1 .0)) (put (a .1 .1 .0) (a .1 .1 .1 .0)))
+      (λ κs a. served (now (a .0)) (now (a .1 .0)) (put (recordWith (a .1 .1 .0) (a .1 .1 .1 .0))))
       (λ κs a y v. came y (v .0) (v .1 .0))
   pub remove : Settled Remove.ended Remove.Reads.Asked Remove.Reads.Learnt
       (λ κs a. served (now (a .0)) (now (a .1 .0)) (remove (a .1 .1 .0)))

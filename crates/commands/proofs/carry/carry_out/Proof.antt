@@ -69,7 +69,7 @@ returns-3 c =
     let f = c .before .before in
     let k = f .before .before .before in
     let a = k .before .before .before .before .args in
-    carries-put (a .state) (now (a .space)) (now (a .row)) (a .command) _ _ _ (k .command2 .given .1) _ (f .put-lent .ensures)
+    carries-put (a .state) (now (a .space)) (now (a .row)) (a .command) _ _ (k .command2 .given .1) _ (f .put-lent .ensures)
 
 same-length-3 : tie.Need-same-length-3
 same-length-3 c = search needs

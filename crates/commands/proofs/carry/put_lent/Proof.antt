@@ -32,7 +32,7 @@ returns c =
     let g = c .before .before .before in
     let l = g .before .before in
     let a = l .before .before .before .args in
-    wrote-lent (256 * a .state .cap) _ (now (a .space)) (l .lent .ensures .0) (λ area. stored (a .state) area (a .key, a .value)) _ _ (g .put .ensures) (g .put .kept .1 .0) _ (c .tell .ensures)
+    wrote-lent (256 * a .state .cap) _ (now (a .space)) (l .lent .ensures .0) (λ area. stored (a .state) area (a .new)) _ _ (g .put .ensures) (g .put .kept .1 .0) _ (c .tell .ensures)
 
 pub put-lent-spec : {M : Type 1} → statement M
 put-lent-spec =

@@ -1,8 +1,9 @@
 -- `commands::records::command_of` meets its contract: the record is as long as its kind's, so each number lies in it.
+use denote.Ref.{now}
 use native.Mathlib.Omega.{arith}
 use borrow.Author.Needs.{needs}
 use Rattle.commands.specs.declared.Kind.the-variants as kind
-use Rattle.commands.proofs.Reading.{long}
+use Rattle.commands.proofs.Reading.{long, put-read}
 use Rattle.commands.proofs.records.command_of.Statement.{statement}
 use Rattle.commands.proofs.records.command_of.Tie as tie
 
@@ -52,7 +53,9 @@ returns : tie.Need-returns
 returns c = cc
 
 returns-2 : tie.Need-returns-2
-returns-2 c = cc
+returns-2 c =
+    let a = c .before .before .before .before .before .args in
+    put-read (a .kind) (now (a .input)) _ _ (c .before .before .enum-told2 .given .1) (c .before .get-u64 .ensures) (c .get-u642 .ensures)
 
 returns-3 : tie.Need-returns-3
 returns-3 c = cc

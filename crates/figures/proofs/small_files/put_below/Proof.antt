@@ -15,8 +15,8 @@ abbrev μ-loop : tie.MeasureT-loop
 loop-holds : tie.Need-loop-holds Inv-loop μ-loop
 loop-holds c = search needs
 
-mul-put : tie.Need-mul-put Inv-loop μ-loop
-mul-put c = search needs
+mul-value : tie.Need-mul-value Inv-loop μ-loop
+mul-value c = search needs
 
 put-requires : tie.Need-put-requires Inv-loop μ-loop
 put-requires c κs = search needs
@@ -39,4 +39,4 @@ returns c = search needs
 pub put-below-spec : {M : Type 1} → statement M
 put-below-spec =
     tie.close
-    (tie.spec Inv-loop μ-loop loop-holds mul-put put-requires add-key loop-less loop-again same-length returns)
+    (tie.spec Inv-loop μ-loop loop-holds mul-value put-requires add-key loop-less loop-again same-length returns)

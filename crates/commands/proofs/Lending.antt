@@ -12,7 +12,7 @@ use Rattle.state.specs.declared.Done.{Done}
 use Rattle.register.specs.Calls.{Outcome, Growth}
 use Rattle.register.proofs.Answers.{Comes, Grows}
 use Rattle.commands.specs.declared.Told.{Told}
-use Rattle.commands.specs.Carry.{tells}
+use Rattle.commands.specs.Execute.{tells}
 
 -- what a call on lent bytes comes to: what is told, and its outcome written over them
 abbrev pub Back : Told → (space new : List ℕ) → Outcome → Type 0

@@ -2,7 +2,7 @@ pub mod Reading
 pub mod Replying
 pub mod ToTheByte
 pub mod Lending
-pub mod Carrying
+pub mod Executing
 pub mod Turning
 pub mod Parts
 pub mod Promises

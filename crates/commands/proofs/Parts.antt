@@ -18,7 +18,7 @@ use Rattle.commands.specs.declared.Form.the-variants as form
 use Rattle.commands.specs.declared.Item.{Item}
 use Rattle.commands.specs.declared.Item.the-variants.{Asks, Unknown, Cut}
 use Rattle.commands.specs.Records.{lengthOf, formOf, commandOf, formed, firstOf}
-use Rattle.commands.specs.Carry.{Site, Carried}
+use Rattle.commands.specs.Execute.{Site, Executed}
 use Rattle.commands.specs.Log.{Turn, waits, stops, goes, onItem, turn, Log, rests, answered, onTurn, log, wholeLog}
 use Rattle.commands.specs.Promises.{joined}
 use Rattle.commands.proofs.Reading.{head-low, of-number}
@@ -38,7 +38,8 @@ head-front : (l m : List ℕ) → 4 ≤ length l → firstOf (l ++ m) ≡ formed
 unfolding firstOf
 head-front l m h = rw (le-ltb (length (l ++ m)) 4 (omega (arith, length-append l m)), number-front 2 l m 2 (omega arith))
 
--- a first record that is not cut off is the same with more behind it, and a command's lies within the bytes
+-- a first record that is not cut off is the same with more behind it, and a command's lies within
+-- the bytes
 abbrev ReadSame : List ℕ → Item → Type 0
 ReadSame l Cut = Unit {0}
 ReadSame l Unknown = (m : List ℕ) → firstOf (l ++ m) ≡ Unknown
@@ -95,7 +96,7 @@ abbrev resumed : Log → Log → Log
 resumed a b = cond (a .stopped) a (joined a b)
 
 -- a command's reply goes before both alike
-answered-resumed : (c : Carried) (n : ℕ) (a b : Log) → answered c n (resumed a b) ≡ resumed (answered c n a) b
+answered-resumed : (c : Executed) (n : ℕ) (a b : Log) → answered c n (resumed a b) ≡ resumed (answered c n a) b
 answered-resumed c n a b = go (a .stopped)
   where
     go : (u : Bool) → answered c n (cond u a (joined a b)) ≡ cond u (answered c n a) (joined (answered c n a) b)

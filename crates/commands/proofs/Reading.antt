@@ -17,7 +17,7 @@ use Rattle.commands.specs.declared.Command.{Command}
 use Rattle.commands.specs.declared.Command.the-variants.{Put}
 use Rattle.commands.specs.declared.Item.the-variants.{Asks, Unknown, Cut}
 use Rattle.commands.specs.Records.{lengthOf, formOf, commandOf, firstOf}
-use Rattle.commands.specs.Within.{Formed}
+use Rattle.commands.specs.steps.Within.{Formed}
 
 -- the number that a record has for its kind
 abbrev pub numberOf : Kind → ℕ

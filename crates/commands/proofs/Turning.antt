@@ -23,9 +23,9 @@ use Rattle.commands.specs.declared.Step.the-variants.{Waits, Stops, Goes
 use Rattle.commands.specs.declared.Told.{Told}
 use Rattle.commands.specs.declared.Ran.{Ran}
 use Rattle.commands.specs.Records.{firstOf, replyOf}
-use Rattle.commands.specs.Carry.{Site, site, Carried, carried, refusedBy, toldOf}
+use Rattle.commands.specs.Execute.{Site, site, Executed, executed, refusedBy, toldOf}
 use Rattle.commands.specs.Log.{Turn, waits, stops, goes, turn, Log, rests, onTurn, log, bytesOfAll, ranOf}
-use Rattle.commands.specs.Within.{Lies, stepOf, siteAfter, replyAfter, Takes, RanIn}
+use Rattle.commands.specs.steps.Within.{Lies, stepOf, siteAfter, replyAfter, Takes, RanIn}
 
 -- what the code gives back of a turn: the step, the space, the row, and the bytes of the reply
 abbrev pub Served : Site → (part : List ℕ) → (n : ℕ) → Turn → Step → (space row reply : List ℕ) → Type 0
@@ -40,8 +40,8 @@ module _ (last : Bool) (d : Site) (l part : List ℕ) where
 
   module _ (some : length l ≡ 0 → ⊥) (i : Item) (first : i ≡ firstOf l) where
     -- a command is carried out and answered
-    pub serve-goes : (c : Command) (n : ℕ) → i ≡ Asks c n → Lies (length l) i → (told : Told) → told ≡ toldOf (carried d c) → (space row reply : List ℕ)
-        → space ≡ carried d c .site .space → row ≡ carried d c .site .row → reply ≡ encode (replyOf (told .numbers) (told .state))
+    pub serve-goes : (c : Command) (n : ℕ) → i ≡ Asks c n → Lies (length l) i → (told : Told) → told ≡ toldOf (executed d c) → (space row reply : List ℕ)
+        → space ≡ executed d c .site .space → row ≡ executed d c .site .row → reply ≡ encode (replyOf (told .numbers) (told .state))
         → Served d part (length l) (turn last d l) (Goes (told .state) n) space row reply
     unfolding turn
     serve-goes c n e w told t space row reply s r y =
@@ -76,7 +76,7 @@ told-stops waits e = (0, cc)
 told-stops (stops n) e = (n, refl)
 told-stops (goes c n) e = (0, cc)
 
-told-goes : (t : Turn) (s : State) (n : ℕ) → Goes s n ≡ stepOf t → (c : Carried) × (t ≡ goes c n) × (s ≡ c .site .state)
+told-goes : (t : Turn) (s : State) (n : ℕ) → Goes s n ≡ stepOf t → (c : Executed) × (t ≡ goes c n) × (s ≡ c .site .state)
 told-goes waits s n e = absurd (let z : _≡_ {A = ℕ} 0 1 = cc in omega arith)
 told-goes (stops m) s n e = absurd (let z : _≡_ {A = ℕ} 0 1 = cc in omega arith)
 told-goes (goes c m) s n e = (c, cc, cc)
@@ -110,7 +110,8 @@ placed-written l v k n = let m : 28 * k + 28 - 28 * k ≡ length v = omega arith
 abbrev pub behind : List (List Field) → (taken : ℕ) → Log → Log
 behind rs n g = record { replies = rs ++ g .replies; site = g .site; taken = n + g .taken; stopped = g .stopped }
 
--- a log under way: the replies so far stand at the front of the bytes, and the whole log is what is left of it behind them
+-- a log under way: the replies so far stand at the front of the bytes, and the whole log is what is
+-- left of it behind them
 pub record Going (last : Bool) (room : ℕ) (d : Site) (input given : List ℕ) (e : Site) (now : List ℕ) (taken told : ℕ) : Type 0 where
   pub sofar : List (List Field)
   pub fits : 28 * room ≤ length given
@@ -209,7 +210,7 @@ module _ {last : Bool} {room : ℕ} {d : Site} {input given : List ℕ} {e : Sit
 
     -- it goes on
     module _ (a : State) (n : ℕ) (q : step ≡ Goes a n) (u : length space ≡ length (e .space)) (v : length row ≡ length (e .row)) (x : length (placed now told reply) ≡ length now) where
-      goes-by : (c : Carried) → turn last e (drop taken input) ≡ goes c n → a ≡ c .site .state
+      goes-by : (c : Executed) → turn last e (drop taken input) ≡ goes c n → a ≡ c .site .state
           → Going last room d input given (site a space row) (placed now told reply) (taken + n) (told + 1)
       goes-by c f p =
           let h = served (goes c n) f in

@@ -1,5 +1,5 @@
 pub mod Records
-pub mod Carry
+pub mod Execute
 pub mod Log
-pub mod Within
 pub mod Promises
+pub mod steps

@@ -12,7 +12,7 @@ use Rattle.commands.specs.declared.Command.{Command}
 use Rattle.commands.specs.declared.Command.the-variants.{Format, Put, Find, Remove, Grow, Check}
 use Rattle.commands.specs.declared.Item.the-variants.{Asks}
 use Rattle.commands.specs.Records.{firstOf, layoutOf}
-use Rattle.commands.specs.Carry.{Site}
+use Rattle.commands.specs.Execute.{Site}
 use Rattle.commands.specs.Log.{Log, log, wholeLog}
 
 -- the numbers of a command are of the width that they have in its record: "n0, N, s, cap (2 bytes

@@ -20,7 +20,8 @@ use Rattle.commands.specs.declared.Command.the-variants.{Format, Put, Fi
 use Rattle.commands.specs.declared.Item.{Item}
 use Rattle.commands.specs.declared.Item.the-variants.{Asks, Unknown, Cut}
 
--- "257 format: n0, N, s, cap (2 bytes each), length 12. 258 put: key, value, length 20. 259 find and 260 remove: key, length 12. 261 grow and 262 check: length 4."
+-- "257 format: n0, N, s, cap (2 bytes each), length 12. 258 put: key, value, length 20. 259 find
+-- and 260 remove: key, length 12. 261 grow and 262 check: length 4."
 abbrev pub lengthOf : Kind → ℕ
 lengthOf kind.Format = 12
 lengthOf kind.Put = 20
@@ -32,7 +33,8 @@ lengthOf kind.Check = 4
 abbrev known : Kind → Form
 known k = form.Known k (lengthOf k)
 
--- "Kinds 257 to 262 are commands, 513 is a reply, all others are unknown; a reply is unknown as input."
+-- "Kinds 257 to 262 are commands, 513 is a reply, all others are unknown; a reply is unknown as
+-- input."
 unfoldable pub formOf : ℕ → Form
 formOf k =
     cond (eqb k 257) (known kind.Format)
@@ -56,11 +58,13 @@ abbrev pub formed : List ℕ → Form → Item
 formed l form.Unknown = Unknown
 formed l (form.Known k n) = cond (eqb (numberAt 2 l 0) n) (cond (ltb (length l) n) Cut (Asks (commandOf k l) n)) Unknown
 
--- the first record of an input: "the four head bytes (11 if fewer)", then what they ask for. "Length covers the whole record."
+-- the first record of an input: "the four head bytes (11 if fewer)", then what they ask for.
+-- "Length covers the whole record."
 unfoldable pub firstOf : List ℕ → Item
 firstOf l = cond (ltb (length l) 4) Cut (formed l (formOf (numberAt 2 l 2)))
 
--- the bytes of a command's record: length and kind, "length first", then its numbers. `LogPromises` (Promises.antt) says that a command is read from these bytes and from no others.
+-- the bytes of a command's record: length and kind, "length first", then its numbers. `LogPromises`
+-- (Promises.antt) says that a command is read from these bytes and from no others.
 abbrev pub layoutOf : Command → List Field
 layoutOf (Format q cap) = (2, 12) ∷ (2, 257) ∷ (2, q .n0) ∷ (2, q .n) ∷ (2, q .s) ∷ (2, cap) ∷ []
 layoutOf (Put x) = (2, 20) ∷ (2, 258) ∷ (8, key x) ∷ (8, value x) ∷ []
@@ -72,7 +76,8 @@ layoutOf Check = (2, 4) ∷ (2, 262) ∷ []
 abbrev pub bit : Bool → ℕ
 bit u = cond u 1 0
 
--- "Reply, length 28: length, kind, refusal, page (2 each), value (8), pages read, moved (4 each), P, due as 0 or 1 (2 each, both of the state after the command ..)"
+-- "Reply, length 28: length, kind, refusal, page (2 each), value (8), pages read, moved (4 each),
+-- P, due as 0 or 1 (2 each, both of the state after the command ..)"
 abbrev pub replyOf : Numbers → State → List Field
 replyOf n s =
     (2, 28) ∷ (2, 513) ∷ (2, n .refusal) ∷ (2, n .page) ∷ (8, n .value) ∷ (4, n .read) ∷ (4, n .moved) ∷ (2, s .p)

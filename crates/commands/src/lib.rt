@@ -1,5 +1,5 @@
 // The log: commands read from bytes, carried out on a state and lent pages, and answered in bytes.
-pub mod carry;
+pub mod execute;
 pub mod records;
 
 use homes::Params;
@@ -10,9 +10,9 @@ ghost use mathlib.Core.Path.{_≡_};
 ghost use Prim.Native.Nat.{_/_};
 ghost use lib.ListN.{length};
 ghost use Rattle.numbers.specs.Little.{written};
-ghost use Rattle.commands.specs.Carry.{site};
+ghost use Rattle.commands.specs.Execute.{site};
 ghost use Rattle.commands.specs.Log.{turn, log, bytesOfAll, ranOf};
-ghost use Rattle.commands.specs.Within.{stepOf, siteAfter, replyAfter, Takes, RanIn};
+ghost use Rattle.commands.specs.steps.Within.{stepOf, siteAfter, replyAfter, Takes, RanIn};
 
 // What a kind stands for.
 pub enum Kind {
@@ -53,7 +53,8 @@ pub struct Told {
     pub numbers: Numbers,
 }
 
-// What comes of one record: nothing yet, a reply that is the last, or a reply after which the log goes on.
+// What comes of one record: nothing yet, a reply that is the last, or a reply after which the log
+// goes on.
 pub enum Step {
     Waits,
     Stops,
@@ -90,7 +91,7 @@ fn serve_one(
     let item = records::first(input);
     match item {
         Item::Asks { command, length } => {
-            let told = carry::carry_out(state, space, row, command);
+            let told = execute::execute(state, space, row, command);
             let after = told.state;
             let numbers = told.numbers;
             records::reply(part, numbers, after);
@@ -100,20 +101,21 @@ fn serve_one(
             }
         }
         Item::Unknown => {
-            records::reply(part, carry::refused(10), state);
+            records::reply(part, execute::refused(10), state);
             Step::Stops
         }
         Item::Cut => {
             if !last {
                 return Step::Waits;
             }
-            records::reply(part, carry::refused(11), state);
+            records::reply(part, execute::refused(11), state);
             Step::Stops
         }
     }
 }
 
-// A log, as far as its input and the room for its replies go. The input may come in parts: `last` says that none follows, and what was not taken goes before the next.
+// A log, as far as its input and the room for its replies go. The input may come in parts: `last`
+// says that none follows, and what was not taken goes before the next.
 pub fn log(
     state: State,
     space: &mut [u8],

@@ -12,7 +12,7 @@ ghost use Prim.Native.Nat.{_≤_};
 ghost use lib.ListN.{length};
 ghost use Rattle.numbers.specs.Fields.{encode};
 ghost use Rattle.commands.specs.Records.{lengthOf, formOf, commandOf, firstOf, replyOf};
-ghost use Rattle.commands.specs.Within.{Formed, Lies};
+ghost use Rattle.commands.specs.steps.Within.{Formed, Lies};
 
 // The command that a kind stands for, and the length of its record.
 fn form_of(kind: u16) -> Form

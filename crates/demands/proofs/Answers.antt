@@ -1,4 +1,5 @@
--- Each call takes whatever it is given, and its contract allows one answer, one state, and one area and one row afterwards.
+-- Each call takes whatever it is given, and its contract allows one answer, one state, and one area
+-- and one row afterwards.
 use mathlib.Core.Path.{refl, _∙⁻¹_}
 use mathlib.Core.List.{[]}
 use denote.Ref.{now}

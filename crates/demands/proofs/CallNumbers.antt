@@ -8,9 +8,9 @@ use Rattle.state.specs.declared.State.{State}
 use Rattle.state.specs.declared.Done.{Done}
 use Rattle.state.specs.declared.Numbers.{Numbers}
 use Rattle.state.specs.Answer.{told, numbers}
-use Rattle.register.specs.declared.Gate.{Gate}
-use Rattle.register.specs.declared.Gate.the-variants.{Open, Shut}
-use Rattle.register.specs.Gates.{onGate}
+use Rattle.gates.specs.declared.Gate.{Gate}
+use Rattle.gates.specs.declared.Gate.the-variants.{Open, Shut}
+use Rattle.gates.specs.Gates.{onGate}
 use Rattle.register.specs.Calls.{done, Outcome, refused}
 use Rattle.register.specs.Files.{Call, File}
 use Rattle.demands.specs.Refusals.{BrokenAt, order, OneOf, gives, AcceptedTells}

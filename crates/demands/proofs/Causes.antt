@@ -1,4 +1,5 @@
--- What the gates of a call tell, as causes: a number out of range, an area or a row of another length, a broken page, no image.
+-- What the gates of a call tell, as causes: a number out of range, an area or a row of another
+-- length, a broken page, no image.
 use mathlib.Core.Path.{_≡_, refl, sym, _∙_}
 use mathlib.Core.Bool.{Bool, true, false, cond, _&&_, false≢true}
 use mathlib.Core.Logic.{_↔_}
@@ -26,13 +27,13 @@ use Rattle.state.specs.declared.Answer.the-variants.{OutOfRange, WrongArea, Wro
 use Rattle.state.specs.State.{inRange, homes, grown}
 use Rattle.state.specs.Promises.{Ranged}
 use Rattle.state.proofs.Ranges.{ranged, in-range}
-use Rattle.register.specs.declared.Gate.the-variants.{Open, Shut}
-use Rattle.register.specs.Gates.{gateOf, imageOf, imageGate, growGate}
+use Rattle.gates.specs.declared.Gate.the-variants.{Open, Shut}
+use Rattle.gates.specs.Gates.{gateOf, imageOf, imageGate, growGate}
 use Rattle.register.specs.OneImage.{ImageOfR}
 use Rattle.register.specs.Files.{File}
-use Rattle.register.proofs.Gating.{range-shut, area-shut, gate-open, row-shut, cap-shut, pages-decide}
-use Rattle.register.proofs.Judging.{sound-open}
-use Rattle.register.proofs.CheckImage.{image-sound, check-image}
+use Rattle.gates.proofs.Gating.{range-shut, area-shut, gate-open, row-shut, cap-shut, pages-decide}
+use Rattle.gates.proofs.Judging.{good-open}
+use Rattle.register.proofs.CheckImage.{image-good, check-image}
 use Rattle.demands.specs.Refusals.{RightArea, SomeBroken, LowestBroken}
 use Rattle.demands.proofs.Clean.{read-held}
 
@@ -52,16 +53,16 @@ enter s area = go (inRange s) refl (ℕ-discrete (length area) (256 * s .cap))
 
 -- what the search for the lowest broken one of n pages from page a on tells
 module _ (h : ℕ → ℕ) (area : List ℕ) where
-  abbrev Sick : ℕ → Type 0
-  Sick a = readPage h a (partAt area a) ≡ none
+  abbrev Breaks : ℕ → Type 0
+  Breaks a = readPage h a (partAt area a) ≡ none
 
   -- none is broken from page a up to the one before b
   abbrev Clear : (a b : ℕ) → Type 0
-  Clear a b = (c : ℕ) → a ≤ c → c < b → Sick c → ⊥
+  Clear a b = (c : ℕ) → a ≤ c → c < b → Breaks c → ⊥
 
   abbrev Looked : (n a : ℕ) → Option ℕ → Type 0
   Looked n a none = Clear a (a + n)
-  Looked n a (some b) = (a ≤ b) × (b < a + n) × Sick b × Clear a b
+  Looked n a (some b) = (a ≤ b) × (b < a + n) × Breaks b × Clear a b
 
   clear-more : (a b : ℕ) (p : List Record) → readPage h a (partAt area a) ≡ some p → Clear (suc a) b → Clear a b
   clear-more a b p q on c l u k = go (ℕ-discrete a c)
@@ -99,7 +100,7 @@ module _ (f : File) (b : Bytes (f .area)) (r : Ranged (f .state)) (l : RightArea
   -- an image opens the gate, and nothing else does
   shut-image : (why : Answer) → imageGate s area ≡ Shut why → ImageOfR s area → ⊥
   shut-image why e w =
-      let q : Shut why ≡ Open = sym e ∙ sound-open s area (image-sound s area b l w) in
+      let q : Shut why ≡ Open = sym e ∙ good-open s area (image-good s area b l w) in
       let z : _≡_ {A = ℕ} 0 1 = cc in
       omega arith
 

@@ -1,4 +1,5 @@
--- Format, check and grow on any bytes: each way out with its numbers, and with the causes that hold there.
+-- Format, check and grow on any bytes: each way out with its numbers, and with the causes that hold
+-- there.
 use mathlib.Core.Path.{_≡_, refl, _∙_}
 use mathlib.Core.Bool.{true, false}
 use mathlib.Core.Logic.{_↔_, inl, inr}
@@ -16,7 +17,7 @@ use Rattle.placing.specs.Lay.{taken}
 use Rattle.placing.specs.Rows.{strayed}
 use Rattle.pages.specs.Page.{key, homeFor}
 use Rattle.pages.specs.Area.{areaFrom, heldFrom}
-use Rattle.rebuild.specs.Rebuild.{relaid}
+use Rattle.rebuild.specs.Relaid.{relaid}
 use Rattle.state.specs.declared.State.{State}
 use Rattle.state.specs.declared.Done.{Done}
 use Rattle.state.specs.declared.Numbers.{Numbers}
@@ -24,9 +25,9 @@ use Rattle.state.specs.declared.Answer.{Answer}
 use Rattle.state.specs.declared.Answer.the-variants.{Accepted}
 use Rattle.state.specs.State.{homes, fresh, grown}
 use Rattle.state.specs.Answer.{told, numbers}
-use Rattle.register.specs.declared.Gate.{Gate}
-use Rattle.register.specs.declared.Gate.the-variants.{Open, Shut}
-use Rattle.register.specs.Gates.{onGate, gateOf, imageGate, growGate}
+use Rattle.gates.specs.declared.Gate.{Gate}
+use Rattle.gates.specs.declared.Gate.the-variants.{Open, Shut}
+use Rattle.gates.specs.Gates.{onGate, gateOf, imageGate, growGate}
 use Rattle.register.specs.OneImage.{ImageOfR}
 use Rattle.register.specs.Calls.{done, grownFile}
 use Rattle.register.specs.Files.{Call, format, grow, check, File, left}

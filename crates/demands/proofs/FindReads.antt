@@ -1,4 +1,5 @@
--- How many pages a find judges, on a file that stands: those from the home to the page that holds the request, or would take it.
+-- How many pages a find judges, on a file that stands: those from the home to the page that holds
+-- the request, or would take it.
 use mathlib.Core.Path.{_≡_, refl, sym, ap, _∙_}
 use mathlib.Core.Bool.{Bool, true, false, cond}
 use mathlib.Core.Option.{Option, none, some}
@@ -15,13 +16,14 @@ use Rattle.placing.proofs.Perms.{perm-seek}
 use Rattle.placing.proofs.Seek.{clash}
 use Rattle.placing.proofs.Strays.{page-none, one-page}
 use Rattle.pages.specs.Page.{Record, key, recordWith, recordsIn}
-use Rattle.pages.specs.Slots.{ahead}
+use Rattle.pages.specs.Places.{ahead}
 use Rattle.pages.specs.Area.{partAt, pagesFrom, areaFrom}
 use Rattle.pages.proofs.Areas.{pages-length}
 use Rattle.state.specs.State.{homes}
 use Rattle.state.specs.Answer.{numbers}
 use Rattle.walks.specs.declared.Met.{Met}
-use Rattle.walks.specs.declared.Met.the-variants.{Found, Sick, Ends, Past}
+use Rattle.walks.specs.declared.Met.the-variants.{Found, Ends}
+use Rattle.walks.specs.declared.Met.the-variants as mets
 use Rattle.walks.specs.Walks.{heldAt, onHeld, endsOn, meets, walk, findAnswer}
 use Rattle.register.specs.Files.{put, File, Left, numbersOf}
 use Rattle.demands.specs.Histories.{Kept, stateOf, commitOf, holding}
@@ -36,19 +38,20 @@ use Rattle.demands.proofs.Sets.{seek-some}
 use Rattle.demands.proofs.Moves.{put-holds}
 use Rattle.demands.proofs.Standing.{Stands, fileOf, Accepts, misses, find-leaves, with-new, new-once}
 
--- a walk from page a on that has judged n, with so many pages before it: those up to the one where it ends
+-- a walk from page a on that has judged n, with so many pages before it: those up to the one where
+-- it ends
 abbrev Judges : (a n pages : ℕ) → Met → Type 0
 Judges a n w (Found b i c v r) = a + r ≡ n + suc b
-Judges a n w (Sick b r) = a + r ≡ n + suc b
+Judges a n w (mets.Broken b r) = a + r ≡ n + suc b
 Judges a n w (Ends b i c r) = a + r ≡ n + suc b
-Judges a n w (Past r) = r ≡ n + w
+Judges a n w (mets.AtEnd r) = r ≡ n + w
 
 module _ (h : ℕ → ℕ) (k : ℕ) where
   judges-on : (a n w : ℕ) (m : Met) → Judges (suc a) (suc n) w m → Judges a n (suc w) m
   judges-on a n w (Found b i c v r) e = omega arith
-  judges-on a n w (Sick b r) e = omega arith
+  judges-on a n w (mets.Broken b r) e = omega arith
   judges-on a n w (Ends b i c r) e = omega arith
-  judges-on a n w (Past r) e = omega arith
+  judges-on a n w (mets.AtEnd r) e = omega arith
 
   meets-judges : (a n : ℕ) (qs : List (Option (List Record))) → Judges a n (length qs) (meets h k a n qs)
   meets-judges a n [] = omega arith
@@ -83,7 +86,8 @@ module _ {m : Kept} {ps : List (List Record)} (s : Stands m ps) where
     abbrev met : Met
     met = walk h (areaFrom 0 ps) (m .cap) k
 
-    -- where the walk of a find ends: it reads to the page that holds the request, or to the one that would take it, or to the end
+    -- where the walk of a find ends: it reads to the page that holds the request, or to the one
+    -- that would take it, or to the end
     pub data Reads : Type 0 where
       held-on : (b v : ℕ) → b < m .cap → readTo f k ≡ b + 1 → seek key k (page ps b) ≡ some (recordWith k v) → Reads
       ends-on : (b : ℕ) → EndsAt h k (h k) b (drop (h k) ps) → readTo f k ≡ b + 1 → findIn key h 12 k ps ≡ none → Reads
@@ -103,9 +107,9 @@ module _ {m : Kept} {ps : List (List Record)} (s : Stands m ps) where
             let low = lies (on-clean s) k l (home-low s k) (t .halt) in
             let here : page ps b ≡ t .halt .last = sym (clean-part (on-clean s) b low) ∙ last-read (on-clean s) k l (home-low s k) (t .halt) in
             held-on b v low (omega arith) (rw here (held-record k 0 i v (t .halt .last) (t .here)))
-        go (Sick b r) t j e n = absurd t
+        go (mets.Broken b r) t j e n = absurd t
         go (Ends b i c r) t j e n = ends-on b t (omega arith) e
-        go (Past r) t j e n = past-all t (omega (arith, home-low s k)) e
+        go (mets.AtEnd r) t j e n = past-all t (omega (arith, home-low s k)) e
 
     pub read-within : readTo f k ≤ m .cap
     read-within = go find-reads

@@ -15,7 +15,8 @@ use Rattle.pages.specs.Area.{areaFrom}
 use Rattle.state.specs.declared.Answer.{Answer}
 use Rattle.state.specs.declared.Answer.the-variants.{Accepted, Absent}
 use Rattle.walks.specs.declared.Met.{Met}
-use Rattle.walks.specs.declared.Met.the-variants.{Found, Sick, Ends, Past}
+use Rattle.walks.specs.declared.Met.the-variants.{Found, Ends}
+use Rattle.walks.specs.declared.Met.the-variants as mets
 use Rattle.walks.specs.Walks.{endsOn, walk, findAnswer}
 use Rattle.demands.proofs.Clean.{Clean, clean-from}
 use Rattle.demands.proofs.Stops.{Small, Passed, Halt, Stops, meets-stops, away-seek, here-seek}
@@ -37,9 +38,9 @@ small-from {ps = ps} c a = all-right (All Small) (take a ps) (drop a ps) (rw tak
 -- the record of a key that a walk meets
 abbrev pub recordOf : ℕ → Met → Option Record
 recordOf k (Found a i c v n) = some (recordWith k v)
-recordOf k (Sick a n) = none
+recordOf k (mets.Broken a n) = none
 recordOf k (Ends a i c n) = none
-recordOf k (Past n) = none
+recordOf k (mets.AtEnd n) = none
 
 module _ (h : ℕ → ℕ) (k : ℕ) (l : k < 2 ^ 64) where
   abbrev rank : Record → ℕ
@@ -75,9 +76,9 @@ module _ (h : ℕ → ℕ) (k : ℕ) (l : k < 2 ^ 64) where
   -- find finds what the walk meets
   pub find-stops : (a : ℕ) (qs : List (List Record)) (m : Met) → All (All Small) qs → Stops h k a qs m → find rank 12 r qs ≡ recordOf k m
   find-stops a qs (Found b i c v m) s t = find-halt (t .halt) s ∙ rw (here-seek h k (t .halt .last) i v l (last-small (t .halt) s) (t .here))
-  find-stops a qs (Sick b m) s t = absurd t
+  find-stops a qs (mets.Broken b m) s t = absurd t
   find-stops a qs (Ends b i c m) s t = find-halt (t .halt) s ∙ rw (away-seek h k (t .halt .last) l (last-small (t .halt) s) (t .away), t .ends)
-  find-stops a qs (Past m) s t = rw append-nil at (find-passed qs [] s t)
+  find-stops a qs (mets.AtEnd m) s t = rw append-nil at (find-passed qs [] s t)
 
 -- the walk on good bytes ends as it does on the pages that they are
 pub walk-stops : {h : ℕ → ℕ} {n : ℕ} {ps : List (List Record)} → Clean h n ps → (k : ℕ) → h k ≤ n → Stops h k (h k) (drop (h k) ps) (walk h (areaFrom 0 ps) n k)
@@ -99,6 +100,6 @@ find-clean {h} {n} {ps} c k l g =
   where
     answers : (m : Met) → Stops h k (h k) (drop (h k) ps) m → FindGoes (recordOf k m) (findAnswer m)
     answers (Found b i j v r) t = (r, refl)
-    answers (Sick b r) t = absurd t
+    answers (mets.Broken b r) t = absurd t
     answers (Ends b i j r) t = (r, refl)
-    answers (Past r) t = (r, refl)
+    answers (mets.AtEnd r) t = (r, refl)

@@ -12,10 +12,10 @@ use Rattle.pages.specs.Page.{Record, key}
 use Rattle.pages.specs.Area.{areaFrom}
 use Rattle.state.specs.declared.Answer.the-variants.{Accepted, OutOfRange, WrongArea}
 use Rattle.state.specs.State.{inRange, homes, fresh}
-use Rattle.register.specs.declared.Gate.the-variants.{Open, Shut}
-use Rattle.register.specs.Gates.{onGate, gateOf}
+use Rattle.gates.specs.declared.Gate.the-variants.{Open, Shut}
+use Rattle.gates.specs.Gates.{onGate, gateOf}
 use Rattle.register.specs.Calls.{done, refused}
-use Rattle.register.specs.Files.{format, File, Left, leaves, wrote, left}
+use Rattle.register.specs.Files.{format, File, Left, leaves, ofOutcome, left}
 use Rattle.demands.specs.Histories.{stateOf, begun}
 use Rattle.demands.proofs.Standing.{Stands}
 
@@ -57,7 +57,7 @@ unfolding left gateOf
 format-begins f q cap = go (inRange (fresh q cap)) (eqb (length (f .area)) (256 * cap)) refl
   where
     go : (u v : Bool) → inRange (fresh q cap) ≡ u
-        → Begins f q cap (wrote (onGate (cond u (cond v Open (Shut WrongArea)) (Shut OutOfRange)) (refused (f .state) (f .area)) (record { done = done (fresh q cap) (Accepted 0 0 0); area = areaFrom 0 (replicate cap []) })))
+        → Begins f q cap (ofOutcome (onGate (cond u (cond v Open (Shut WrongArea)) (Shut OutOfRange)) (refused (f .state) (f .area)) (record { done = done (fresh q cap) (Accepted 0 0 0); area = areaFrom 0 (replicate cap []) })))
     go true true e = began refl (blank-stands q cap e)
     go true false e = elsewhere refl
     go false v e = outside refl

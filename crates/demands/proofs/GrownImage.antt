@@ -21,17 +21,17 @@ use Rattle.placing.proofs.Rehome.{rehomed}
 use Rattle.pages.specs.Page.{Record, key, homeFor, pageBytes}
 use Rattle.pages.specs.Area.{areaFrom}
 use Rattle.pages.proofs.Write.{page-bytes}
-use Rattle.rebuild.specs.Rebuild.{relaid}
+use Rattle.rebuild.specs.Relaid.{relaid}
 use Rattle.state.specs.declared.State.{State}
 use Rattle.state.specs.declared.Answer.{Answer}
 use Rattle.state.specs.declared.Answer.the-variants.{Accepted, WrongRow, NoRoom, AtCap}
 use Rattle.state.specs.State.{homes, grown}
-use Rattle.register.specs.declared.Gate.the-variants.{Open}
-use Rattle.register.specs.Gates.{imageGate}
+use Rattle.gates.specs.declared.Gate.the-variants.{Open}
+use Rattle.gates.specs.Gates.{imageGate}
 use Rattle.register.specs.Calls.{done, checked, Growth, grownFile, grew}
-use Rattle.register.proofs.Gating.{row-shut, cap-shut, pages-decide}
-use Rattle.register.proofs.Judging.{sound-open}
-use Rattle.register.proofs.CheckImage.{image-sound}
+use Rattle.gates.proofs.Gating.{row-shut, cap-shut, pages-decide}
+use Rattle.gates.proofs.Judging.{good-open}
+use Rattle.register.proofs.CheckImage.{image-good}
 use Rattle.demands.proofs.Clean.{clean-held}
 use Rattle.demands.proofs.OnImage.{OnImage, on-clean, on-length, on-gate}
 
@@ -63,7 +63,7 @@ module _ {s : State} {rs : List Record} {ps : List (List Record)} (w : OnImage s
   -- the pages pass
   pub image-open : imageGate s (areaFrom 0 ps) ≡ Open
   image-open =
-      sound-open s (areaFrom 0 ps) (image-sound s (areaFrom 0 ps) (area-bytes 0 ps) (on-length w) (record {
+      good-open s (areaFrom 0 ps) (image-good s (areaFrom 0 ps) (area-bytes 0 ps) (on-length w) (record {
         records = rs;
         set = w .set;
         count = w .count;

@@ -1,4 +1,6 @@
--- The law of refusals in order: where the causes are gone through one by one and the first that holds gives the number, each number is given exactly when its cause holds and no earlier one does.
+-- The law of refusals in order: where the causes are gone through one by one and the first that
+-- holds gives the number, each number is given exactly when its cause holds and no earlier one
+-- does.
 use mathlib.Core.Path.{_≡_, refl, sym, _∙_}
 use mathlib.Core.Bool.{Bool, true, false, not, _&&_, _||_, false≢true}
 use mathlib.Core.Logic.{_⊎_, inl, inr, ⊎-elim}
@@ -45,7 +47,8 @@ clash (when k it) h f = f h
 clash (unless k it) h f = h f
 
 module _ (n : ℕ) where
-  -- how n came about: at each cause it is given, or the cause doesn't hold and the next is looked at; past all of them it is another number
+  -- how n came about: at each cause it is given, or the cause doesn't hold and the next is looked
+  -- at; past all of them it is another number
   abbrev pub Comes : (all cs : List Cause) → Type 0
   Comes all [] = OneOf n (ranks all) → ⊥
   Comes all (c ∷ cs) = (Holds c × (n ≡ number c)) ⊎ (Fails c × Comes all cs)

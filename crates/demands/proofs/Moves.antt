@@ -1,4 +1,5 @@
--- How many records the walks of put and remove say they moved: as many as lie on another page than before.
+-- How many records the walks of put and remove say they moved: as many as lie on another page than
+-- before.
 use mathlib.Core.Path.{_≡_, sym, ap, subst, _∙_}
 use mathlib.Core.Bool.{Bool, true, false, cond, _||_}
 use mathlib.Core.Option.{some}
@@ -8,7 +9,7 @@ use native.Mathlib.Omega.{arith}
 use lib.Dec.{leb, ltb}
 use lib.ListN.{length, take, drop, getD}
 use lib.Seq.{drop-at, getD-append-add}
-use Rattle.placing.specs.Image.{All, cat, page, home, Distinct}
+use Rattle.placing.specs.Image.{All, cat, page, homeOf, Distinct}
 use Rattle.placing.specs.Lay.{rankOf, rankIn, ins}
 use Rattle.placing.specs.Rows.{strays, strayed}
 use Rattle.placing.specs.Walks.{seek, lastAfter, del, carry as carried, pullBack, remove, putIn, removeIn}
@@ -17,11 +18,12 @@ use Rattle.placing.proofs.Order.{Sorted, sorted-right}
 use Rattle.placing.proofs.Seek.{del-all}
 use Rattle.placing.proofs.Strays.{cat-append, distinct-left, distinct-right, apart, There, there, strays-none, strayed-none, strayed-after, strays-ins, hops, EndsFirst, first-holds, hops-strayed}
 use Rattle.pages.specs.Page.{Record, key}
-use Rattle.pages.specs.Slots.{closed}
+use Rattle.pages.specs.Places.{closed}
 use Rattle.pages.specs.Area.{pagesFrom, areaFrom}
 use Rattle.walks.specs.declared.Met.{Met}
-use Rattle.walks.specs.declared.Met.the-variants.{Found, Sick, Ends, Past}
-use Rattle.walks.specs.Walks.{Walked, went, stopped, wrote, heldAt, endsOn, walk, carry, putMet, putWalk, pullBack as pulls, removeMet, removeWalk}
+use Rattle.walks.specs.declared.Met.the-variants.{Found, Ends}
+use Rattle.walks.specs.declared.Met.the-variants as mets
+use Rattle.walks.specs.Walks.{Walked, went, stopped, andPage, heldAt, endsOn, walk, carry, putMet, putWalk, pullBack as pulls, removeMet, removeWalk}
 use Rattle.demands.proofs.Clean.{Clean, clean-from}
 use Rattle.demands.proofs.Stops.{Small, Halt, Stops, here-seek}
 use Rattle.demands.proofs.FindWalk.{walk-stops}
@@ -33,7 +35,7 @@ abbrev pub Moves : ℕ → Walked → Type 0
 Moves n (went pages read moved) = moved ≡ n
 Moves n (stopped why) = Unit {0}
 
-wrote-moves : (n a : ℕ) (p : List Record) (w : Walked) → Moves n w → Moves n (wrote a p w)
+wrote-moves : (n a : ℕ) (p : List Record) (w : Walked) → Moves n w → Moves n (andPage a p w)
 wrote-moves n a p (went pages read moved) e = e
 wrote-moves n a p (stopped why) e = tt
 
@@ -61,15 +63,16 @@ module _ (h : ℕ → ℕ) where
       on = carry h (suc a) (suc n) (suc m) y (map some qs)
 
       go : (u : Bool) → Moves (suc m + hops rank 12 y qs) on
-          → Moves (m + cond u 0 (suc (hops rank 12 y qs))) (cond u (went ((a, q) ∷ []) (suc n) m) (wrote a (take 12 q) on))
+          → Moves (m + cond u 0 (suc (hops rank 12 y qs))) (cond u (went ((a, q) ∷ []) (suc n) m) (andPage a (take 12 q) on))
       go true t = omega arith
       go false t =
           let e : suc m + hops rank 12 y qs ≡ m + suc (hops rank 12 y qs) = omega arith in
           wrote-moves _ a (take 12 q) on (subst (λ (i : ℕ). Moves i on) e t)
 
-  -- a remove's walk counts each time that one comes back, where `was` was on page a and p is left of it
+  -- a remove's walk counts each time that one comes back, where `was` was on page a and p is left
+  -- of it
   pulls-moves : (a n m : ℕ) (was p : List Record) (qs : List (List Record)) → All (There key was) p → Distinct key (was ++ cat qs [])
-      → Moves (m + strayed key (was ∷ qs) (pullBack rank (home key h) 12 a p qs)) (pulls h a n m p (map some qs))
+      → Moves (m + strayed key (was ∷ qs) (pullBack rank (homeOf key h) 12 a p qs)) (pulls h a n m p (map some qs))
   pulls-moves a n m was p [] t d = omega (arith, strays-none key was p t)
   pulls-moves a n m was p ([] ∷ qs) t d = omega (arith, strays-none key was p t, strayed-none key ([] ∷ qs))
   pulls-moves a n m was p ((y ∷ q) ∷ qs) t d =
@@ -77,7 +80,7 @@ module _ (h : ℕ → ℕ) where
       (pulls-moves (suc a) (suc n) (suc m) (y ∷ q) q qs (there key (y ∷ q) .1) (distinct-right key was ((y ∷ q) ++ cat qs []) d))
     where
       back : List (List Record)
-      back = pullBack rank (home key h) 12 (suc a) q qs
+      back = pullBack rank (homeOf key h) 12 (suc a) q qs
 
       on : Walked
       on = pulls h (suc a) (suc n) (suc m) q (map some qs)
@@ -88,7 +91,7 @@ module _ (h : ℕ → ℕ) where
 
       go : (u v : Bool) → Moves (suc m + strayed key ((y ∷ q) ∷ qs) back) on
           → Moves (m + strayed key (was ∷ ((y ∷ q) ∷ qs)) (cond u (ins rank y p ∷ cond v (q ∷ qs) back) (p ∷ ((y ∷ q) ∷ qs))))
-          (cond u (wrote a (ins rank y p) (cond v (went ((suc a, q) ∷ []) (suc n) (suc m)) on)) (went ((a, p) ∷ []) (suc n) m))
+          (cond u (andPage a (ins rank y p) (cond v (went ((suc a, q) ∷ []) (suc n) (suc m)) on)) (went ((a, p) ∷ []) (suc n) m))
       go true true w = omega (arith, new, strays-none key (y ∷ q) q (there key (y ∷ q) .1), strayed-none key qs)
       go true false w =
           let e : suc m + strayed key ((y ∷ q) ∷ qs) back ≡ m + (strays key was (ins rank y p) + strayed key ((y ∷ q) ∷ qs) back) = omega (arith, new) in
@@ -97,7 +100,7 @@ module _ (h : ℕ → ℕ) where
 
   -- the page that holds the key
   taken-moves : (k i v a n : ℕ) (p : List Record) (qs : List (List Record)) → k < 2 ^ 64 → All Small p → heldAt k 0 p ≡ some (i, v) → Distinct key (p ++ cat qs [])
-      → Moves (strayed key (p ∷ qs) (remove rank (home key h) 12 a (rankOf h k) (p ∷ qs)))
+      → Moves (strayed key (p ∷ qs) (remove rank (homeOf key h) 12 a (rankOf h k) (p ∷ qs)))
       (cond (ltb (length p) 12) (went ((a, closed i p) ∷ []) n 0) (pulls h a n 0 (closed i p) (map some qs)))
   taken-moves k i v a n p qs l s e c = rw (here-seek h k p i v l s e, held-del h k i v p l s e) (go (ltb (length p) 12))
     where
@@ -107,11 +110,11 @@ module _ (h : ℕ → ℕ) where
       left : All (There key p) d
       left = del-all rank (There key p) (rankOf h k) p (there key p)
 
-      go : (u : Bool) → Moves (strayed key (p ∷ qs) (cond u (d ∷ qs) (pullBack rank (home key h) 12 a d qs)))
+      go : (u : Bool) → Moves (strayed key (p ∷ qs) (cond u (d ∷ qs) (pullBack rank (homeOf key h) 12 a d qs)))
           (cond u (went ((a, d) ∷ []) n 0) (pulls h a n 0 d (map some qs)))
       go true = omega (arith, strays-none key p d left, strayed-none key qs)
       go false =
-          let z : 0 + strayed key (p ∷ qs) (pullBack rank (home key h) 12 a d qs) ≡ strayed key (p ∷ qs) (pullBack rank (home key h) 12 a d qs) = omega arith in
+          let z : 0 + strayed key (p ∷ qs) (pullBack rank (homeOf key h) 12 a d qs) ≡ strayed key (p ∷ qs) (pullBack rank (homeOf key h) 12 a d qs) = omega arith in
           rw z at (pulls-moves a n 0 p d qs left c)
 
 module _ {h : ℕ → ℕ} {n : ℕ} {ps : List (List Record)} (c : Clean h n ps) where
@@ -126,15 +129,15 @@ module _ {h : ℕ → ℕ} {n : ℕ} {ps : List (List Record)} (c : Clean h n ps
           let front = before c k l g t in
           let whole = whole-file c k l g t in
           let parts : Distinct key (cat front [] ++ cat (t .last ∷ t .rest) []) = rw (whole, cat-append front (t .last ∷ t .rest)) at d in
-          let e : strayed key ps (removeIn key h 12 k ps) ≡ strayed key (t .last ∷ t .rest) (remove (rankIn key h) (home key h) 12 b (rankOf h k) (t .last ∷ t .rest)) =
+          let e : strayed key ps (removeIn key h 12 k ps) ≡ strayed key (t .last ∷ t .rest) (remove (rankIn key h) (homeOf key h) 12 b (rankOf h k) (t .last ∷ t .rest)) =
           ap (λ (l : List (List Record)). strayed key l (removeIn key h 12 k ps)) whole
           ∙ ap (λ (l : List (List Record)). strayed key (front ++ (t .last ∷ t .rest)) l) (remove-halt c k l g t)
-          ∙ strayed-after key front (t .last ∷ t .rest) (remove (rankIn key h) (home key h) 12 b (rankOf h k) (t .last ∷ t .rest)) in
+          ∙ strayed-after key front (t .last ∷ t .rest) (remove (rankIn key h) (homeOf key h) 12 b (rankOf h k) (t .last ∷ t .rest)) in
           rw (e, last-read c k l g t, rest-read c k l g t)
           (taken-moves h k i v b r (t .last) (t .rest) l (last-keys c k l g t) (s .here) (distinct-right key (cat front []) (cat (t .last ∷ t .rest) []) parts))
-      go (Sick b r) s = absurd s
+      go (mets.Broken b r) s = absurd s
       go (Ends b i w r) s = tt
-      go (Past r) s = tt
+      go (mets.AtEnd r) s = tt
 
   module _ (x : Record) (l : key x < 2 ^ 64) (g : h (key x) ≤ n) {b : ℕ} (t : Halt h (key x) (h (key x)) b (drop (h (key x)) ps)) (e : endsOn h (key x) (t .last) ≡ true) where
     abbrev front : List (List Record)
@@ -205,6 +208,6 @@ module _ {h : ℕ → ℕ} {n : ℕ} {ps : List (List Record)} (c : Clean h n ps
     where
       go : (met : Met) → Stops h (key x) (h (key x)) (drop (h (key x)) ps) met → Moves (strayed key (putIn key h 12 x ps .0) ps) (putMet h (areaFrom 0 ps) n x met)
       go (Found b i j v r) t = tt
-      go (Sick b r) t = absurd t
+      go (mets.Broken b r) t = absurd t
       go (Ends b i j r) t = ends-moves x l g (t .halt) (t .ends) w s d (r - 1)
-      go (Past r) t = tt
+      go (mets.AtEnd r) t = tt

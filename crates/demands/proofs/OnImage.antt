@@ -18,9 +18,9 @@ use Rattle.pages.proofs.Areas.{area-length}
 use Rattle.state.specs.declared.State.{State}
 use Rattle.state.specs.State.{inRange, homes}
 use Rattle.state.proofs.Ranges.{ranged, in-shape}
-use Rattle.register.specs.declared.Gate.the-variants.{Open}
-use Rattle.register.specs.Gates.{gateOf}
-use Rattle.register.proofs.Gating.{gate-open}
+use Rattle.gates.specs.declared.Gate.the-variants.{Open}
+use Rattle.gates.specs.Gates.{gateOf}
+use Rattle.gates.proofs.Gating.{gate-open}
 use Rattle.demands.proofs.Clean.{Clean, image-clean}
 
 -- a state in range, and pages that are the image of as many records as it tells

@@ -15,14 +15,16 @@ use Rattle.pages.specs.Page.{Record, key, value}
 use Rattle.pages.specs.Area.{pagesFrom, areaFrom}
 use Rattle.state.specs.declared.Answer.the-variants.{Held, NoRoom}
 use Rattle.walks.specs.declared.Met.{Met}
-use Rattle.walks.specs.declared.Met.the-variants.{Found, Sick, Ends, Past}
-use Rattle.walks.specs.Walks.{Walked, went, stopped, wrote, endsOn, walk, carry, putMet, putWalk}
+use Rattle.walks.specs.declared.Met.the-variants.{Found, Ends}
+use Rattle.walks.specs.declared.Met.the-variants as mets
+use Rattle.walks.specs.Walks.{Walked, went, stopped, andPage, endsOn, walk, carry, putMet, putWalk}
 use Rattle.demands.proofs.Clean.{Clean, clean-from}
 use Rattle.demands.proofs.Stops.{Passed, Stops}
 use Rattle.demands.proofs.Went.{Went, wrote-went, one-went}
 use Rattle.demands.proofs.FindWalk.{cond-or, small-from, recordOf, find-stops, walk-stops}
 
--- a walk with a record at hand makes of the pages ps the pages qs where no record is left over, and else finds no room
+-- a walk with a record at hand makes of the pages ps the pages qs where no record is left over, and
+-- else finds no room
 abbrev pub Poured : (ps qs : List (List Record)) → List Record → Walked → Type 0
 Poured ps qs [] w = Went ps qs w
 Poured ps qs (y ∷ over) w = (n : ℕ) × (w ≡ stopped (NoRoom n))
@@ -34,9 +36,9 @@ PutGoes ps none o w = Poured ps (o .0) (o .1) w
 
 -- the first page that a walk writes
 poured-on : (front : List (List Record)) (a : ℕ) → length front ≡ a → (was p : List Record) (qs new : List (List Record)) (over : List Record) (w : Walked)
-    → Poured (front ++ (p ∷ qs)) new over w → Poured (front ++ (was ∷ qs)) new over (wrote a p w)
+    → Poured (front ++ (p ∷ qs)) new over w → Poured (front ++ (was ∷ qs)) new over (andPage a p w)
 poured-on front a at was p qs new [] w t = wrote-went front a at was p qs t
-poured-on front a at was p qs new (y ∷ over) w t = (t .0, ap (wrote a p) (t .1))
+poured-on front a at was p qs new (y ∷ over) w t = (t .0, ap (andPage a p) (t .1))
 
 -- good pages after those in front are read back
 clean-after : {h : ℕ → ℕ} {n : ℕ} (front qs : List (List Record)) (a : ℕ) → length front ≡ a → Clean h n (front ++ qs)
@@ -73,7 +75,7 @@ module _ (h : ℕ → ℕ) where
       came u = cond u (q ∷ qs, []) (kept ∷ on .0, on .1)
 
       go : (u : Bool) → Poured (front ++ (kept ∷ []) ++ qs) (front ++ (kept ∷ []) ++ on .0) (on .1) walked
-          → Poured (front ++ (p ∷ qs)) (front ++ came u .0) (came u .1) (cond u (went ((a, q) ∷ []) (suc n) m) (wrote a kept walked))
+          → Poured (front ++ (p ∷ qs)) (front ++ came u .0) (came u .1) (cond u (went ((a, q) ∷ []) (suc n) m) (andPage a kept walked))
       go true t = one-went front a at p q qs (suc n) m
       go false t =
           poured-on front a at p kept qs (front ++ (kept ∷ on .0)) (on .1) walked (rw (append-snoc front kept qs, append-snoc front kept (on .0)) at t)
@@ -106,13 +108,13 @@ module _ (h : ℕ → ℕ) where
       -- each way in which the walk ends
       put-stops : (front qs : List (List Record)) (a : ℕ) (m : Met) → length front ≡ a → Clean h n (front ++ qs) → Stops h (key x) a qs m → Goes front qs m
       put-stops front qs a (Found b i c v r) at clean t = (r, refl)
-      put-stops front qs a (Sick b r) at clean t = absurd t
+      put-stops front qs a (mets.Broken b r) at clean t = absurd t
       put-stops front qs a (Ends b i c r) at clean t =
           let s = t .halt in
           let e : length (front ++ s .front) ≡ b = omega (arith, length-append front (s .front), s .at) in
           rw (s .whole)
           (put-ends front (s .front) (s .last) (s .rest) b i c r e (rw (s .whole, ← append-assoc front (s .front) (s .last ∷ s .rest)) at clean) (s .passed) (t .ends))
-      put-stops front qs a (Past r) at clean t = rw (rw append-nil at (put-passed qs [] t)) (r, refl)
+      put-stops front qs a (mets.AtEnd r) at clean t = rw (rw append-nil at (put-passed qs [] t)) (r, refl)
 
 -- put makes of good bytes what the walk on the pages makes
 pub put-clean : {h : ℕ → ℕ} {n : ℕ} {ps : List (List Record)} → Clean h n ps → (x : Record) → key x < 2 ^ 64 → h (key x) ≤ n

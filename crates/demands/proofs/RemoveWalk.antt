@@ -9,19 +9,20 @@ use native.Mathlib.Omega.{arith}
 use lib.Dec.{leb, ltb, eqb}
 use lib.ListN.{length, take, drop, length-append, take-append-drop}
 use lib.Seq.{append-snoc, length-take-le, drop-append-add, getD-at}
-use Rattle.placing.specs.Image.{All, page, home}
+use Rattle.placing.specs.Image.{All, page, homeOf}
 use Rattle.placing.specs.Lay.{rankOf, rankIn, ins}
 use Rattle.placing.specs.Walks.{del, remove, findIn, removeIn, pullBack}
 use Rattle.placing.proofs.Lists.{all-left, all-right}
 use Rattle.placing.proofs.Seek.{clash}
 use Rattle.placing.proofs.Rank.{del-key}
 use Rattle.pages.specs.Page.{Record, key, value, recordsIn}
-use Rattle.pages.specs.Slots.{closed}
+use Rattle.pages.specs.Places.{closed}
 use Rattle.pages.specs.Area.{partAt, pagesFrom, areaFrom}
 use Rattle.state.specs.declared.Answer.the-variants.{Absent}
 use Rattle.walks.specs.declared.Met.{Met}
-use Rattle.walks.specs.declared.Met.the-variants.{Found, Sick, Ends, Past}
-use Rattle.walks.specs.Walks.{Walked, went, stopped, wrote, heldAt, walk, removeMet, removeWalk, pullBack as pulls}
+use Rattle.walks.specs.declared.Met.the-variants.{Found, Ends}
+use Rattle.walks.specs.declared.Met.the-variants as mets
+use Rattle.walks.specs.Walks.{Walked, went, stopped, andPage, heldAt, walk, removeMet, removeWalk, pullBack as pulls}
 use Rattle.demands.proofs.Clean.{Clean, clean-from, clean-part}
 use Rattle.demands.proofs.Stops.{Small, Passed, Halt, Stops, away-seek, here-seek}
 use Rattle.demands.proofs.Went.{Went, wrote-went, one-went}
@@ -29,7 +30,7 @@ use Rattle.demands.proofs.FindWalk.{cond-or, small-from, recordOf, find
 
 -- pages that the walk passes stay
 remove-passed : (h : ℕ → ℕ) (k a : ℕ) → k < 2 ^ 64 → (front qs : List (List Record)) → All (All Small) front → All (Passed h k) front
-    → remove (rankIn key h) (home key h) 12 a (rankOf h k) (front ++ qs) ≡ front ++ remove (rankIn key h) (home key h) 12 (a + length front) (rankOf h k) qs
+    → remove (rankIn key h) (homeOf key h) 12 a (rankOf h k) (front ++ qs) ≡ front ++ remove (rankIn key h) (homeOf key h) 12 (a + length front) (rankOf h k) qs
 remove-passed h k a l [] qs s f = rw add-zero
 remove-passed h k a l (p ∷ front) qs s f =
     let e = away-seek h k p l (s .0) (f .0 .away) in
@@ -62,7 +63,7 @@ held-del h k i v p l s e =
 module _ (h : ℕ → ℕ) where
   -- where page a was full, the records that come back are those of the list walk
   pulls-went : (front : List (List Record)) (a n m : ℕ) → length front ≡ a → (was p : List Record) (qs : List (List Record))
-      → Went (front ++ (was ∷ qs)) (front ++ pullBack (rankIn key h) (home key h) 12 a p qs) (pulls h a n m p (map some qs))
+      → Went (front ++ (was ∷ qs)) (front ++ pullBack (rankIn key h) (homeOf key h) 12 a p qs) (pulls h a n m p (map some qs))
   pulls-went front a n m at was p [] = one-went front a at was p [] n m
   pulls-went front a n m at was p ([] ∷ qs) = one-went front a at was p ([] ∷ qs) (suc n) m
   pulls-went front a n m at was p ((y ∷ q) ∷ qs) =
@@ -79,7 +80,7 @@ module _ (h : ℕ → ℕ) where
       at′ = omega (arith, length-append front (p′ ∷ []))
 
       back : List (List Record)
-      back = pullBack (rankIn key h) (home key h) 12 (suc a) q qs
+      back = pullBack (rankIn key h) (homeOf key h) 12 (suc a) q qs
 
       on : Walked
       on = pulls h (suc a) (suc n) (suc m) q (map some qs)
@@ -94,21 +95,21 @@ module _ (h : ℕ → ℕ) where
 
       go : (u : Bool) → Next (ltb (suc (length q)) 12)
           → Went (front ++ (was ∷ ((y ∷ q) ∷ qs))) (front ++ cond u (p′ ∷ cond (ltb (suc (length q)) 12) (q ∷ qs) back) (p ∷ ((y ∷ q) ∷ qs)))
-          (cond u (wrote a p′ (cond (ltb (suc (length q)) 12) (went ((suc a, q) ∷ []) (suc n) (suc m)) on)) (went ((a, p) ∷ []) (suc n) m))
+          (cond u (andPage a p′ (cond (ltb (suc (length q)) 12) (went ((suc a, q) ∷ []) (suc n) (suc m)) on)) (went ((a, p) ∷ []) (suc n) m))
       go true g = wrote-went front a at was p′ ((y ∷ q) ∷ qs) g
       go false g = one-went front a at was p ((y ∷ q) ∷ qs) (suc n) m
 
   -- the page that holds the key, at address a after those of `front`
   taken-went : (k i v a n : ℕ) (front : List (List Record)) (p : List Record) (qs : List (List Record)) → k < 2 ^ 64 → All Small p → length front ≡ a
       → heldAt k 0 p ≡ some (i, v)
-      → Went (front ++ (p ∷ qs)) (front ++ remove (rankIn key h) (home key h) 12 a (rankOf h k) (p ∷ qs))
+      → Went (front ++ (p ∷ qs)) (front ++ remove (rankIn key h) (homeOf key h) 12 a (rankOf h k) (p ∷ qs))
       (cond (ltb (length p) 12) (went ((a, closed i p) ∷ []) n 0) (pulls h a n 0 (closed i p) (map some qs)))
   taken-went k i v a n front p qs l s at e = rw (here-seek h k p i v l s e, held-del h k i v p l s e) (go (ltb (length p) 12))
     where
       d : List Record
       d = del (rankIn key h) (rankOf h k) p
 
-      go : (u : Bool) → Went (front ++ (p ∷ qs)) (front ++ cond u (d ∷ qs) (pullBack (rankIn key h) (home key h) 12 a d qs))
+      go : (u : Bool) → Went (front ++ (p ∷ qs)) (front ++ cond u (d ∷ qs) (pullBack (rankIn key h) (homeOf key h) 12 a d qs))
           (cond u (went ((a, d) ∷ []) n 0) (pulls h a n 0 d (map some qs)))
       go true = one-went front a at p d qs n 0
       go false = pulls-went front a n 0 at p d qs
@@ -144,7 +145,7 @@ module _ {h : ℕ → ℕ} {n : ℕ} {ps : List (List Record)} (c : Clean h n ps
     last-keys = all-right (All Small) (t .front) (t .last ∷ t .rest) halt-keys .0
 
     -- remove goes as from this page on
-    pub remove-halt : removeIn key h 12 k ps ≡ before ++ remove (rankIn key h) (home key h) 12 b (rankOf h k) (t .last ∷ t .rest)
+    pub remove-halt : removeIn key h 12 k ps ≡ before ++ remove (rankIn key h) (homeOf key h) 12 b (rankOf h k) (t .last ∷ t .rest)
     remove-halt =
         rw (t .whole, t .at, remove-passed h k (h k) l (t .front) (t .last ∷ t .rest) (all-left (All Small) (t .front) (t .last ∷ t .rest) halt-keys) (t .passed)) (sym (append-assoc (take (h k) ps) (t .front) _))
 
@@ -163,9 +164,9 @@ module _ {h : ℕ → ℕ} {n : ℕ} {ps : List (List Record)} (c : Clean h n ps
       let t = s .halt in
       rw (remove-halt t, last-read t, rest-read t)
       (rw (← whole-file t) at (taken-went h k i v b r (before t) (t .last) (t .rest) l (last-keys t) (before-length t) (s .here)))
-  met-goes (Sick b r) s = absurd s
+  met-goes (mets.Broken b r) s = absurd s
   met-goes (Ends b i w r) s = (r, refl)
-  met-goes (Past r) s = (r, refl)
+  met-goes (mets.AtEnd r) s = (r, refl)
 
 -- remove makes of good bytes what the walk on the pages makes
 pub remove-clean : {h : ℕ → ℕ} {n : ℕ} {ps : List (List Record)} → Clean h n ps → (k : ℕ) → k < 2 ^ 64 → h k ≤ n

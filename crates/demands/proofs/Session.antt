@@ -8,13 +8,13 @@ use Rattle.numbers.specs.Little.{little, bytesOf, numberAt, written}
 use Rattle.numbers.specs.Fields.{encode}
 use Rattle.homes.specs.Homes.{draw, mover, swept, moved, nextGroups, steps, home}
 use Rattle.pages.specs.Page.{recordWith, pageBytes, recordsIn, wellFormed, readPage}
-use Rattle.pages.specs.Slots.{closed}
+use Rattle.pages.specs.Places.{closed}
 use Rattle.pages.specs.Area.{partAt}
 use Rattle.state.specs.State.{all, inRange}
 use Rattle.walks.specs.Walks.{walk, putWalk, removeWalk}
 use Rattle.survey.specs.Survey.{isImage, surveyed}
-use Rattle.rebuild.specs.Rebuild.{relaid}
-use Rattle.register.specs.Gates.{gateOf, imageGate, growGate}
+use Rattle.rebuild.specs.Relaid.{relaid}
+use Rattle.gates.specs.Gates.{gateOf, imageGate, growGate}
 use Rattle.register.specs.Calls.{grownFile}
 use Rattle.register.specs.Files.{Call, format, find, put, remove, grow, check, due, File, left}
 use Rattle.demands.specs.Histories.{after, Kept, without, kept}

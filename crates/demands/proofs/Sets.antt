@@ -1,4 +1,5 @@
--- The commit of a request and the records without one, in placing's words; and what the order of records does not change.
+-- The commit of a request and the records without one, in placing's words; and what the order of
+-- records does not change.
 use mathlib.Core.Path.{_≡_, refl, sym, ap, subst, _∙_}
 use mathlib.Core.Bool.{Bool, true, false, cond}
 use mathlib.Core.Option.{Option, none, some, Option·map}

@@ -21,8 +21,8 @@ use Rattle.state.specs.State.{homes, grown}
 use Rattle.state.specs.Answer.{numbers}
 use Rattle.state.proofs.Ranges.{ranged, grown-range}
 use Rattle.register.specs.Calls.{done, Growth, grew}
-use Rattle.register.specs.Files.{Call, format, find, put, remove, grow, check, due, File, says, Left, leaves, grewTo, left, numbersOf}
-use Rattle.demands.specs.Histories.{Fits, after, refusal, Kept, stateOf, without, commitOf, begun, holding, paged, keeps, kept}
+use Rattle.register.specs.Files.{Call, format, find, put, remove, grow, check, due, File, says, Left, leaves, ofGrowth, left, numbersOf}
+use Rattle.demands.specs.Histories.{Fits, after, refusal, Kept, stateOf, without, commitOf, begun, holding, paged, makes, kept}
 use Rattle.demands.proofs.GrownImage.{grownPages, grownRow, accepts, refuses, check-yes, grow-refused-row, grow-at-cap, grow-room, grow-full, grown-image}
 use Rattle.demands.proofs.Standing.{Stands, fileOf, Refused, Accepts, find-held, find-absent, remove-absent, remove-held, put-held, put-full, put-new}
 use Rattle.demands.proofs.Sets.{set-put}
@@ -81,7 +81,7 @@ room-told h n rs f = go (ℕ-discrete (taken (homeFor h) 12 rs n) (length rs))
     go (no e) = no (λ r. e (room-taken key h 12 n rs f .0 r))
 
 module _ {m : Kept} {ps : List (List Record)} (s : Stands m ps) where
-  grow-leaves : (row : List ℕ) (g : Growth) → grew (stateOf m) (areaFrom 0 ps) row ≡ g → left (fileOf m ps) (grow row) ≡ grewTo g
+  grow-leaves : (row : List ℕ) (g : Growth) → grew (stateOf m) (areaFrom 0 ps) row ≡ g → left (fileOf m ps) (grow row) ≡ ofGrowth g
   unfolding left
   grow-leaves row g e = rw e
 
@@ -196,7 +196,7 @@ still l = go (eqb (numbersOf (l .said) .refusal) 0)
 
 -- after a call that comes to l
 abbrev Next : Option Kept → Call → Left → Type 0
-Next o c l = Known (cond (eqb (numbersOf (l .said) .refusal) 0) (keeps o c) o) (l .file)
+Next o c l = Known (cond (eqb (numbersOf (l .said) .refusal) 0) (makes o c) o) (l .file)
 
 step-next : (m : Kept) (ps : List (List Record)) → Stands m ps → (c : Call) → Step m ps c → Next (some m) c (left (fileOf m ps) c)
 step-next m ps s c (refused why row p e) =

@@ -14,9 +14,10 @@ use Rattle.placing.specs.Walks.{seek}
 use Rattle.placing.proofs.Seek.{clash}
 use Rattle.placing.proofs.Rank.{seek-key}
 use Rattle.pages.specs.Page.{Record, key, value, recordWith}
-use Rattle.pages.specs.Slots.{ahead}
+use Rattle.pages.specs.Places.{ahead}
 use Rattle.walks.specs.declared.Met.{Met}
-use Rattle.walks.specs.declared.Met.the-variants.{Found, Sick, Ends, Past}
+use Rattle.walks.specs.declared.Met.the-variants.{Found, Ends}
+use Rattle.walks.specs.declared.Met.the-variants as mets
 use Rattle.walks.specs.Walks.{heldAt, onHeld, endsOn, meets}
 use Rattle.walks.proofs.Meeting.{held-seek}
 
@@ -66,9 +67,9 @@ module _ (h : ℕ → ℕ) (k : ℕ) where
   -- where the walk ends, on the pages from a on
   abbrev pub Stops : (a : ℕ) → List (List Record) → Met → Type 0
   Stops a qs (Found b i c v r) = FoundAt a b i v qs
-  Stops a qs (Sick b r) = ⊥
+  Stops a qs (mets.Broken b r) = ⊥
   Stops a qs (Ends b i c r) = EndsAt a b qs
-  Stops a qs (Past r) = All Passed qs
+  Stops a qs (mets.AtEnd r) = All Passed qs
 
   abbrev further : (a b : ℕ) (p : List Record) (qs : List (List Record)) → Passed p → Halt (suc a) b qs → Halt a b (p ∷ qs)
   further a b p qs s t =
@@ -86,9 +87,9 @@ module _ (h : ℕ → ℕ) (k : ℕ) where
 
   on-stops : (a : ℕ) (p : List Record) (qs : List (List Record)) (m : Met) → Passed p → Stops (suc a) qs m → Stops a (p ∷ qs) m
   on-stops a p qs (Found b i c v r) s t = record { halt = further a b p qs s (t .halt); here = t .here }
-  on-stops a p qs (Sick b r) s t = t
+  on-stops a p qs (mets.Broken b r) s t = t
   on-stops a p qs (Ends b i c r) s t = record { halt = further a b p qs s (t .halt); away = t .away; ends = t .ends }
-  on-stops a p qs (Past r) s t = (s, t)
+  on-stops a p qs (mets.AtEnd r) s t = (s, t)
 
   -- no good page is broken
   pub meets-stops : (a n : ℕ) (qs : List (List Record)) → Stops a qs (meets h k a n (map some qs))

@@ -10,17 +10,17 @@ use Rattle.placing.specs.Lay.{taken}
 use Rattle.placing.specs.Rows.{counts, strayed}
 use Rattle.pages.specs.Page.{Record, key, homeFor}
 use Rattle.pages.specs.Area.{heldFrom, areaFrom}
-use Rattle.rebuild.specs.Rebuild.{relaid}
+use Rattle.rebuild.specs.Relaid.{relaid}
 use Rattle.state.specs.declared.State.{State}
 use Rattle.state.specs.declared.Answer.{Answer}
 use Rattle.state.specs.declared.Answer.the-variants.{Accepted, NoRoom}
 use Rattle.state.specs.State.{homes, fresh, oneMore, oneLess, grown}
 use Rattle.walks.specs.Walks.{Walked, went, stopped, walk, findAnswer, putWalk, removeWalk}
-use Rattle.register.specs.declared.Gate.{Gate}
-use Rattle.register.specs.declared.Gate.the-variants.{Open, Shut}
-use Rattle.register.specs.Gates.{onGate, gateOf, imageGate, growGate}
+use Rattle.gates.specs.declared.Gate.{Gate}
+use Rattle.gates.specs.declared.Gate.the-variants.{Open, Shut}
+use Rattle.gates.specs.Gates.{onGate, gateOf, imageGate, growGate}
 use Rattle.register.specs.Calls.{done, Outcome, refused, settled, putOpen, removeOpen, grownFile}
-use Rattle.register.specs.Files.{format, find, put, remove, grow, check, due, File, Left, wrote, grewTo, leaves, left, numbersOf}
+use Rattle.register.specs.Files.{format, find, put, remove, grow, check, due, File, Left, ofOutcome, ofGrowth, leaves, left, numbersOf}
 use Rattle.demands.specs.Histories.{refusal}
 use Rattle.demands.specs.Demands.{Total}
 
@@ -28,13 +28,14 @@ use Rattle.demands.specs.Demands.{Total}
 abbrev number : Left → ℕ
 number l = numbersOf (l .said) .refusal
 
--- a call leaves the file f unless it is accepted, and of the row what it was lent unless there was no room
+-- a call leaves the file f unless it is accepted, and of the row what it was lent unless there was
+-- no room
 abbrev Leaves : File → Left → List ℕ → Type 0
 Leaves f l row = (number l ≡ 0 → ⊥) → (l .file ≡ f) × ((number l ≡ 7 → ⊥) → l .row ≡ row)
 
 module _ (f : File) where
   -- past a gate, or not
-  gated : (g : Gate) (o : Outcome) → Leaves f (wrote o) [] → Leaves f (wrote (onGate g (refused (f .state) (f .area)) o)) []
+  gated : (g : Gate) (o : Outcome) → Leaves f (ofOutcome o) [] → Leaves f (ofOutcome (onGate g (refused (f .state) (f .area)) o)) []
   gated Open o k = k
   gated (Shut why) o k = λ n. (refl, λ s. refl)
 
@@ -42,12 +43,12 @@ module _ (f : File) where
   looks Open a = λ n. (refl, λ s. refl)
   looks (Shut why) a = λ n. (refl, λ s. refl)
 
-  walked : (next : State) (wrong : Bool) (w : Walked) → Leaves f (wrote (settled (f .state) (f .area) next wrong w)) []
+  walked : (next : State) (wrong : Bool) (w : Walked) → Leaves f (ofOutcome (settled (f .state) (f .area) next wrong w)) []
   walked next wrong (stopped why) = λ n. (refl, λ s. refl)
   walked next true (went pages read moved) = λ n. (refl, λ s. refl)
   walked next false (went pages read moved) = λ n. absurd (n refl)
 
-  rebuilt : (g : Gate) (row : List ℕ) → Leaves f (grewTo (onGate g (λ why. record { done = done (f .state) why; area = f .area; row = row }) (grownFile (f .state) (f .area)))) row
+  rebuilt : (g : Gate) (row : List ℕ) → Leaves f (ofGrowth (onGate g (λ why. record { done = done (f .state) why; area = f .area; row = row }) (grownFile (f .state) (f .area)))) row
   unfolding grownFile
   rebuilt (Shut why) row = λ n. (refl, λ s. refl)
   rebuilt Open row = fits (eqb (taken (homeFor h) 12 held (s .cap)) (length held))
@@ -70,7 +71,7 @@ module _ (f : File) where
       counted : List ℕ
       counted = counts (homeFor h) held (s .cap) 0
 
-      fits : (u : Bool) → Leaves f (grewTo (cond u (record { done = done (grown s) (Accepted 0 (s .cap) (strayed key old new)); area = areaFrom 0 new; row = counted }) (record { done = done s (NoRoom (s .cap)); area = f .area; row = counted }))) row
+      fits : (u : Bool) → Leaves f (ofGrowth (cond u (record { done = done (grown s) (Accepted 0 (s .cap) (strayed key old new)); area = areaFrom 0 new; row = counted }) (record { done = done s (NoRoom (s .cap)); area = f .area; row = counted }))) row
       fits true = λ n. absurd (n refl)
       fits false = λ n. (refl, λ t. absurd (t refl))
 
@@ -81,7 +82,7 @@ total f (format q cap) = formats (gateOf (fresh q cap) (length (f .area)))
     new : Outcome
     new = record { done = done (fresh q cap) (Accepted 0 0 0); area = areaFrom 0 (replicate cap []) }
 
-    formats : (g : Gate) → Leaves f (wrote (onGate g (refused (f .state) (f .area)) new)) []
+    formats : (g : Gate) → Leaves f (ofOutcome (onGate g (refused (f .state) (f .area)) new)) []
     formats g = gated f g new (λ n. absurd (n refl))
 total f (find k) = looks f (gateOf (f .state) (length (f .area))) (findAnswer (walk (homes (f .state)) (f .area) (f .state .cap) k))
 total f (put x) =

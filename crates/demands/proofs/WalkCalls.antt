@@ -15,9 +15,10 @@ use Rattle.state.specs.declared.Numbers.{Numbers}
 use Rattle.state.specs.State.{homes, oneMore, oneLess}
 use Rattle.state.specs.Answer.{told, numbers}
 use Rattle.walks.specs.declared.Met.{Met}
-use Rattle.walks.specs.declared.Met.the-variants.{Found, Sick, Ends, Past}
+use Rattle.walks.specs.declared.Met.the-variants.{Found, Ends}
+use Rattle.walks.specs.declared.Met.the-variants as mets
 use Rattle.walks.specs.Walks.{Walked, went, stopped, walk, findAnswer, putWalk, removeWalk}
-use Rattle.register.specs.Gates.{onGate, gateOf}
+use Rattle.gates.specs.Gates.{onGate, gateOf}
 use Rattle.register.specs.Calls.{done, settled, putOpen, removeOpen}
 use Rattle.register.specs.Files.{Call, find, put, remove, File, left}
 use Rattle.demands.specs.Refusals.{RightArea, order, OneOf, gives, tells, AcceptedTells}
@@ -48,7 +49,7 @@ module _ (f : File) where
       where
         met : Ranged s → RightArea s area → (m : Met) → MetBroken f m → Known f (find k) (numbers (findAnswer m))
         met r l (Found a i c v n) t = record { comes = inr (r, inr (l, none-of 0 (1 ∷ 2 ∷ []) refl)); gives = inl refl; accepted = λ e. refl; broken = λ e. absurd (omega arith) }
-        met r l (Sick a n) t =
+        met r l (mets.Broken a n) t =
             record {
               comes = inr (r, inr (l, none-of 4 (1 ∷ 2 ∷ []) refl));
               gives = one-of 4 (gives (find k)) refl;
@@ -56,7 +57,7 @@ module _ (f : File) where
               broken = λ e. t;
             }
         met r l (Ends a i c n) t = refuses f (find k) 5 n refl refl (inr (r, inr (l, none-of 5 (1 ∷ 2 ∷ []) refl)))
-        met r l (Past n) t = refuses f (find k) 5 n refl refl (inr (r, inr (l, none-of 5 (1 ∷ 2 ∷ []) refl)))
+        met r l (mets.AtEnd n) t = refuses f (find k) 5 n refl refl (inr (r, inr (l, none-of 5 (1 ∷ 2 ∷ []) refl)))
 
         go : Enters s area → Known f (find k) (onGate (gateOf s (length area)) numbers (numbers (findAnswer (walk (homes s) area (s .cap) k))))
         go (out r g) = rw g (refuses f (find k) 1 0 refl refl (inl (r, refl)))

@@ -1,4 +1,5 @@
--- What the walks of find, put and remove answer on any bytes: which numbers, and 4 with a page that is broken.
+-- What the walks of find, put and remove answer on any bytes: which numbers, and 4 with a page that
+-- is broken.
 use mathlib.Core.Path.{_≡_, refl}
 use mathlib.Core.Bool.{Bool, true, false, cond}
 use mathlib.Core.Logic.{inl, inr}
@@ -10,14 +11,15 @@ use lib.Dec.{leb, ltb}
 use lib.ListN.{length, take, getD}
 use Rattle.placing.specs.Lay.{rankOf, rankIn, ins}
 use Rattle.pages.specs.Page.{Record, key, recordsIn, readPage}
-use Rattle.pages.specs.Slots.{closed, ahead}
+use Rattle.pages.specs.Places.{closed, ahead}
 use Rattle.pages.specs.Area.{partAt, pagesFrom}
 use Rattle.state.specs.declared.Numbers.{Numbers}
 use Rattle.state.specs.Answer.{told, numbers}
 use Rattle.state.specs.State.{homes}
 use Rattle.walks.specs.declared.Met.{Met}
-use Rattle.walks.specs.declared.Met.the-variants.{Found, Sick, Ends, Past}
-use Rattle.walks.specs.Walks.{heldAt, onHeld, endsOn, meets, walk, Walked, went, stopped, wrote, carry, putMet, putWalk, pullBack, removeMet, removeWalk}
+use Rattle.walks.specs.declared.Met.the-variants.{Found, Ends}
+use Rattle.walks.specs.declared.Met.the-variants as mets
+use Rattle.walks.specs.Walks.{heldAt, onHeld, endsOn, meets, walk, Walked, went, stopped, andPage, carry, putMet, putWalk, pullBack, removeMet, removeWalk}
 use Rattle.register.specs.Files.{put, remove, File}
 use Rattle.demands.specs.Refusals.{BrokenAt, OneOf, gives}
 use Rattle.demands.proofs.InOrder.{listed, one-of, none-of}
@@ -36,9 +38,9 @@ module _ (f : File) where
   -- a page that the walk to a key calls broken is broken
   abbrev pub MetBroken : Met → Type 0
   MetBroken (Found a i c v n) = Unit {0}
-  MetBroken (Sick a n) = BrokenAt f a
+  MetBroken (mets.Broken a n) = BrokenAt f a
   MetBroken (Ends a i c n) = Unit {0}
-  MetBroken (Past n) = Unit {0}
+  MetBroken (mets.AtEnd n) = Unit {0}
 
   meets-broken : (k m a n : ℕ) → m ≤ cap - a → MetBroken (meets h k a n (from m a))
   meets-broken k zero a n l = tt
@@ -61,7 +63,8 @@ module _ (f : File) where
   unfolding walk
   walk-broken k = meets-broken k (cap - h k) (h k) 0 (omega arith)
 
-  -- where a walk stops: one of the numbers of its call, and none that stands before or after the walk; 4 with a page that is broken
+  -- where a walk stops: one of the numbers of its call, and none that stands before or after the
+  -- walk; 4 with a page that is broken
   pub record Stop (ks : List ℕ) (n : Numbers) : Type 0 where
     pub gives : OneOf (n .refusal) ks
     pub met : OneOf (n .refusal) (0 ∷ 1 ∷ 2 ∷ 9 ∷ []) → ⊥
@@ -80,7 +83,7 @@ module _ (f : File) where
       let away = none-of k (4 ∷ 0 ∷ 1 ∷ 2 ∷ 9 ∷ []) d in
       record { gives = one-of k ks g; met = λ w. away (inr w); broken = λ e. absurd (away (inl e)) }
 
-  wrote-stops : (ks : List ℕ) (a : ℕ) (p : List Record) (w : Walked) → StopsWith ks w → StopsWith ks (wrote a p w)
+  wrote-stops : (ks : List ℕ) (a : ℕ) (p : List Record) (w : Walked) → StopsWith ks w → StopsWith ks (andPage a p w)
   wrote-stops ks a p (went ws n m) t = tt
   wrote-stops ks a p (stopped why) t = t
 
@@ -92,7 +95,7 @@ module _ (f : File) where
   carry-stops zero a n c x l = stop putStops 7 0 n refl refl
   carry-stops (suc m) a n c x l = go (readPage h a (partAt (f .area) a)) refl (λ y. carry-stops m (suc a) (suc n) (suc c) y (omega arith))
     where
-      room : (q : List Record) (u : Bool) (on : Walked) → StopsWith putStops on → StopsWith putStops (cond u (went ((a, q) ∷ []) (suc n) c) (wrote a (take 12 q) on))
+      room : (q : List Record) (u : Bool) (on : Walked) → StopsWith putStops on → StopsWith putStops (cond u (went ((a, q) ∷ []) (suc n) c) (andPage a (take 12 q) on))
       room q true on t = tt
       room q false on t = wrote-stops putStops a (take 12 q) on t
 
@@ -110,9 +113,9 @@ module _ (f : File) where
     where
       go : (m : Met) → MetBroken m → StopsWith putStops (putMet h (f .area) cap x m)
       go (Found a i c v n) t = stop putStops 6 v n refl refl
-      go (Sick a n) t = stop-broken putStops a n refl t
+      go (mets.Broken a n) t = stop-broken putStops a n refl t
       go (Ends a i c n) t = carry-stops (cap - a) a (n - 1) 0 x (omega arith)
-      go (Past n) t = stop putStops 7 0 n refl refl
+      go (mets.AtEnd n) t = stop putStops 7 0 n refl refl
 
   -- and of any removal
   abbrev removeStops : List ℕ
@@ -123,7 +126,7 @@ module _ (f : File) where
   back-stops (suc m) a n c p l = go (readPage h (suc a) (partAt (f .area) (suc a))) refl (λ q. back-stops m (suc a) (suc n) (suc c) q (omega arith))
     where
       next : (y : Record) (q : List Record) (u v : Bool) (on : Walked) → StopsWith removeStops on
-          → StopsWith removeStops (cond u (wrote a (ins (rankIn key h) y p) (cond v (went ((suc a, q) ∷ []) (suc n) (suc c)) on)) (went ((a, p) ∷ []) (suc n) c))
+          → StopsWith removeStops (cond u (andPage a (ins (rankIn key h) y p) (cond v (went ((suc a, q) ∷ []) (suc n) (suc c)) on)) (went ((a, p) ∷ []) (suc n) c))
       next y q true true on t = tt
       next y q true false on t = wrote-stops removeStops a (ins (rankIn key h) y p) on t
       next y q false v on t = tt
@@ -145,6 +148,6 @@ module _ (f : File) where
 
       go : (m : Met) → MetBroken m → StopsWith removeStops (removeMet h (f .area) cap m)
       go (Found a i c v n) t = let p = recordsIn (partAt (f .area) a) in full (ltb (length p) 12) a i n p
-      go (Sick a n) t = stop-broken removeStops a n refl t
+      go (mets.Broken a n) t = stop-broken removeStops a n refl t
       go (Ends a i c n) t = stop removeStops 5 0 n refl refl
-      go (Past n) t = stop removeStops 5 0 n refl refl
+      go (mets.AtEnd n) t = stop removeStops 5 0 n refl refl

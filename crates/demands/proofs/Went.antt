@@ -8,7 +8,7 @@ use lib.Seq.{set-at}
 use Rattle.pages.specs.Page.{Record}
 use Rattle.pages.specs.Area.{areaFrom, withPage}
 use Rattle.pages.proofs.Areas.{with-area}
-use Rattle.walks.specs.Walks.{Pages, Walked, went, wrote, writes}
+use Rattle.walks.specs.Walks.{Pages, Walked, went, andPage, writes}
 
 -- the walk makes of the pages ps the pages qs
 pub record Went (ps qs : List (List Record)) (w : Walked) : Type 0 where
@@ -25,13 +25,13 @@ module _ (front : List (List Record)) (a : ℕ) (at : length front ≡ a) (was p
       with-area a (front ++ (was ∷ qs)) p (omega (arith, length-append front (was ∷ qs))) ∙ ap (areaFrom 0) (set-at front was qs p a at)
 
   -- so is the first of the pages that a walk writes
-  pub wrote-went : {new : List (List Record)} {w : Walked} → Went (front ++ (p ∷ qs)) new w → Went (front ++ (was ∷ qs)) new (wrote a p w)
+  pub wrote-went : {new : List (List Record)} {w : Walked} → Went (front ++ (p ∷ qs)) new w → Went (front ++ (was ∷ qs)) new (andPage a p w)
   wrote-went t =
       record {
         pages = (a, p) ∷ t .pages;
         read = t .read;
         moved = t .moved;
-        goes = ap (wrote a p) (t .goes);
+        goes = ap (andPage a p) (t .goes);
         leaves = rw page-written (t .leaves);
       }
 

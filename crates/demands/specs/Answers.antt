@@ -1,4 +1,5 @@
--- What the code's contracts allow: said of the contracts that the toolchain makes of each call's `requires` and `ensures` (register/src/lib.rt, state/src/lib.rt), and of no copy of them.
+-- What the code's contracts allow: said of the contracts that the toolchain makes of each call's
+-- `requires` and `ensures` (register/src/lib.rt, state/src/lib.rt), and of no copy of them.
 use mathlib.Core.Path.{_≡_}
 use mathlib.Core.List.{[]}
 use contract.Lifetimes.{Lfts}
@@ -25,7 +26,9 @@ module _ (T : Ended) where
   abbrev Gives : Lives → Type 0
   Gives = Res (T .signature)
 
-  -- Demand 1: "Every call takes any numbers and any bytes and ends": a contract asks nothing of its caller. 01: "prove that any two answers it allows are the same". And what it allows is what a definition says, here `left`.
+  -- Demand 1: "Every call takes any numbers and any bytes and ends": a contract asks nothing of its
+  -- caller. 01: "prove that any two answers it allows are the same". And what it allows is what a
+  -- definition says, here `left`.
   pub record Settled {O : Type 0}
       (Asked : (κs : Lives) → Given κs → Type 0)
       (Learnt : (κs : Lives) → Given κs → Gives κs → AtExit T κs → Type 0)
@@ -35,7 +38,9 @@ module _ (T : Ended) where
     pub one : (κs : Lives) (a : Given κs) (y z : Gives κs) (v w : Lasts T κs a) → Learnt κs a y (atExit T κs a v) → Learnt κs a z (atExit T κs a w) → (y ≡ z) × (v ≡ w)
     pub does : (κs : Lives) (a : Given κs) (y : Gives κs) (v : Lasts T κs a) → Learnt κs a y (atExit T κs a v) → came κs a y v ≡ call κs a
 
--- The arguments stand in the order of the signature: a .0 is the first, a .1 .0 the second, and so on; v has a place for each, and in it what is left of an area or a row that was lent to be changed.
+-- The arguments stand in the order of the signature: a .0 is the first, a .1 .0 the second, and so
+-- on; v has a place for each, and in it what is left of an area or a row that was lent to be
+-- changed.
 pub record Answers : Type 0 where
   pub format : Settled Format.ended Format.Reads.Asked Format.Reads.Learnt
       (λ κs a. left (record { state = a .0; area = now (a .1 .1 .1 .0) }) (format (a .1 .0) (a .1 .1 .0)))

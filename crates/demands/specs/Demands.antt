@@ -1,4 +1,5 @@
--- What the users asked for: `Demands`, at the end, with what each of its lines means before it. What is quoted is the demands', or 01's where it says so.
+-- What the users asked for: `Demands`, at the end, with what each of its lines means before it.
+-- What is quoted is the demands', or 01's where it says so.
 use Prim.Native.Nat.{ℕ, _*_, _^_, _<_}
 use mathlib.Core.Path.{_≡_}
 use mathlib.Core.Logic.{_↔_, _⊎_}
@@ -15,7 +16,8 @@ use Rattle.register.specs.Files.{Call, format, find, put, remove, grow, check, 
 use Rattle.demands.specs.Histories.{Fits, after, refusal, Kept, stateOf, commitOf, kept}
 use Rattle.demands.specs.ReadMoved.{ReadHeld, ReadAbsent, ReadWithin, Moved}
 
--- A file that a history left "from a fresh file": calls from any bytes and any state, a format among them accepted, with what they keep
+-- A file that a history left "from a fresh file": calls from any bytes and any state, a format
+-- among them accepted, with what they keep
 pub record Fresh (m : Kept) (f : File) : Type 0 where
   pub start : File
   pub calls : List Call
@@ -37,16 +39,19 @@ lent (grow row) = row
 lent check = []
 lent due = []
 
--- Demand 1: "A refusal changes no page and no state; the count row follows 01", where it "is untouched by 1, 2, 3, 8, 4 and 9"; of any file
+-- Demand 1: "A refusal changes no page and no state; the count row follows 01", where it "is
+-- untouched by 1, 2, 3, 8, 4 and 9"; of any file
 abbrev pub Total : File → Type 0
 Total f = (c : Call) → (refusal f c ≡ 0 → ⊥) → (left f c .file ≡ f) × ((refusal f c ≡ 7 → ⊥) → left f c .row ≡ lent c)
 
 module _ (m : Kept) (f : File) where
-  -- The rest is of a file after a fresh history. 01: "after success or 7" the row "holds the number of records of each home at size P + 1".
+  -- The rest is of a file after a fresh history. 01: "after success or 7" the row "holds the number
+  -- of records of each home at size P + 1".
   abbrev pub Row : Type 0
   Row = (row : List ℕ) → (refusal f (grow row) ≡ 0) ⊎ (refusal f (grow row) ≡ 7) → left f (grow row) .row ≡ counts (homeFor (homes (grown (stateOf m)))) (m .held) (m .cap) 0
 
-  -- Demand 2: "a search gives a request's commit exactly when the accepted puts and removals leave it there"; otherwise it is refused with 5
+  -- Demand 2: "a search gives a request's commit exactly when the accepted puts and removals leave
+  -- it there"; otherwise it is refused with 5
   abbrev pub Found : Type 0
   Found = (k : ℕ) → k < 2 ^ 64
       → ((v : ℕ) → Tells f (find k) 0 v ↔ (commitOf k (m .held) ≡ some v)) × ((refusal f (find k) ≡ 5) ↔ (commitOf k (m .held) ≡ none))
@@ -63,27 +68,33 @@ module _ (m : Kept) (f : File) where
   abbrev pub Sound : Type 0
   Sound = ((c : Call) → Fits c → (refusal f c ≡ 4 → ⊥) × (refusal f c ≡ 9 → ⊥)) × (refusal f check ≡ 0)
 
-  -- Demand 3: "the pages are the one image set by parameters, lent size, pages grown to and records held", in 01's sentence (`AreaImage`) and to the byte
+  -- Demand 3: "the pages are the one image set by parameters, lent size, pages grown to and records
+  -- held", in 01's sentence (`AreaImage`) and to the byte
   pub record TheImage : Type 0 where
     pub set : RecordSet key (m .held)
     pub image : AreaImage (stateOf m) (f .area) (m .held)
 
-  -- "A put of a number not held .. is refused for room exactly when no arrangement on the lent pages, twelve to a page, puts every record (the new one included) at its home page .. or a higher one"; otherwise it is accepted
+  -- "A put of a number not held .. is refused for room exactly when no arrangement on the lent
+  -- pages, twelve to a page, puts every record (the new one included) at its home page .. or a
+  -- higher one"; otherwise it is accepted
   abbrev pub RoomPut : Type 0
   RoomPut = (x : Record) → Fits (put x) → commitOf (key x) (m .held) ≡ none
       → let room = Room key (homes (stateOf m)) 12 (m .cap) (x ∷ m .held) in ((refusal f (put x) ≡ 7) ↔ (room → ⊥)) × ((refusal f (put x) ≡ 0) ↔ room)
 
-  -- and "a growth below the lent size with a row of the right length" likewise, each record at "its home after it"
+  -- and "a growth below the lent size with a row of the right length" likewise, each record at "its
+  -- home after it"
   abbrev pub RoomGrow : Type 0
   RoomGrow = (row : List ℕ) → m .p < m .cap → length row ≡ m .cap
       → let room = Room key (homes (grown (stateOf m))) 12 (m .cap) (m .held) in ((refusal f (grow row) ≡ 7) ↔ (room → ⊥)) × ((refusal f (grow row) ≡ 0) ↔ room)
 
-  -- the state tells the parameters, the lent size, the pages grown to and the number of records held; 01: "Growth is due exactly when 5r > 48P"
+  -- the state tells the parameters, the lent size, the pages grown to and the number of records
+  -- held; 01: "Growth is due exactly when 5r > 48P"
   pub record Counted : Type 0 where
     pub state : f .state ≡ stateOf m
     pub due : left f due .said ≡ says (ltb (48 * m .p) (5 * length (m .held)))
 
--- Two files agree in "parameters, lent size, pages grown to and records held": which commit each request became, in whatever order that came about
+-- Two files agree in "parameters, lent size, pages grown to and records held": which commit each
+-- request became, in whatever order that came about
 pub record Agree (a b : Kept) : Type 0 where
   pub params : a .params ≡ b .params
   pub cap : a .cap ≡ b .cap
@@ -94,7 +105,8 @@ pub record Agree (a b : Kept) : Type 0 where
 abbrev pub AfterFresh : (Kept → File → Type 0) → Type 0
 AfterFresh Says = (m : Kept) → (f : File) → Fresh m f → Says m f
 
--- What is promised, and proved as `demands` (proofs/Demands.antt). That every call takes whatever it is given and ends, and that its contract allows one answer, is `Answers` (specs/Answers.antt).
+-- What is promised, and proved as `demands` (proofs/Demands.antt). That every call takes whatever
+-- it is given and ends, and that its contract allows one answer, is `Answers` (specs/Answers.antt).
 pub record Demands : Type 0 where
   pub total : (f : File) → Total f
   pub row : AfterFresh Row

@@ -1,4 +1,6 @@
--- Histories of calls: "From a fresh file, each call given the pages and state that the last one left" (demands 2 and 3), and what the accepted calls make of a file. What is quoted is the demands', or 01's where it says so.
+-- Histories of calls: "From a fresh file, each call given the pages and state that the last one
+-- left" (demands 2 and 3), and what the accepted calls make of a file. What is quoted is the
+-- demands', or 01's where it says so.
 use Prim.Native.Nat.{ℕ, _+_, _^_, _<_}
 use mathlib.Core.Bool.{cond}
 use mathlib.Core.Option.{Option, none, some, Option·map}
@@ -11,7 +13,8 @@ use Rattle.pages.specs.Page.{Record, key, value}
 use Rattle.state.specs.declared.State.{State}
 use Rattle.register.specs.Files.{Call, format, find, put, remove, grow, check, due, File, left, numbersOf}
 
--- 01: "a key (the request number, any 64-bit value, 0 included) and a value (the commit number, any 64-bit value)"; all other numbers may be any
+-- 01: "a key (the request number, any 64-bit value, 0 included) and a value (the commit number, any
+-- 64-bit value)"; all other numbers may be any
 abbrev pub Fits : Call → Type 0
 Fits (format q cap) = Unit {0}
 Fits (find k) = k < 2 ^ 64
@@ -63,17 +66,19 @@ holding m rs = record { params = m .params; cap = m .cap; p = m .p; held = rs }
 abbrev pub paged : Kept → Kept
 paged m = record { params = m .params; cap = m .cap; p = m .p + 1; held = m .held }
 
--- what an accepted call makes of it. 01: an accepted format "begins a fresh file, and what was held before no longer counts"
-abbrev pub keeps : Option Kept → Call → Option Kept
-keeps o (format q cap) = some (begun q cap)
-keeps o (find k) = o
-keeps o (put x) = Option·map (λ m. holding m (x ∷ m .held)) o
-keeps o (remove k) = Option·map (λ m. holding m (without k (m .held))) o
-keeps o (grow row) = Option·map paged o
-keeps o check = o
-keeps o due = o
+-- what an accepted call makes of it. 01: an accepted format "begins a fresh file, and what was held
+-- before no longer counts"
+abbrev pub makes : Option Kept → Call → Option Kept
+makes o (format q cap) = some (begun q cap)
+makes o (find k) = o
+makes o (put x) = Option·map (λ m. holding m (x ∷ m .held)) o
+makes o (remove k) = Option·map (λ m. holding m (without k (m .held))) o
+makes o (grow row) = Option·map paged o
+makes o check = o
+makes o due = o
 
--- what "the accepted puts and removals leave", and the accepted growths: none before the first accepted format
+-- what "the accepted puts and removals leave", and the accepted growths: none before the first
+-- accepted format
 unfoldable pub kept : Option Kept → File → List Call → Option Kept
 kept o f [] = o
-kept o f (c ∷ cs) = kept (cond (eqb (refusal f c) 0) (keeps o c) o) (left f c .file) cs
+kept o f (c ∷ cs) = kept (cond (eqb (refusal f c) 0) (makes o c) o) (left f c .file) cs

@@ -1,4 +1,5 @@
--- 01's "Pages read" and "Moved", said of the pages and not of the walks that count them. What is quoted is 01's.
+-- 01's "Pages read" and "Moved", said of the pages and not of the walks that count them. What is
+-- quoted is 01's.
 use Prim.Native.Nat.{ℕ, _+_, _^_, _≤_, _<_}
 use mathlib.Core.Path.{_≡_}
 use mathlib.Core.Option.{some}
@@ -21,11 +22,13 @@ moved f c = numbersOf (left f c .said) .moved
 abbrev pub HeldOn : File → (b k v : ℕ) → Type 0
 HeldOn f b k v = (b < f .state .cap) × (commitOf k (recordsIn (partAt (f .area) b)) ≡ some v)
 
--- "the number of distinct pages judged": the first page after those that a find judges, from the home of the request on
+-- "the number of distinct pages judged": the first page after those that a find judges, from the
+-- home of the request on
 abbrev pub readTo : File → (k : ℕ) → ℕ
 readTo f k = homes (f .state) k + pagesRead f (find k)
 
--- a find of a request that is held judges the pages from its home to the one that holds it, and no other
+-- a find of a request that is held judges the pages from its home to the one that holds it, and no
+-- other
 abbrev pub ReadHeld : File → Type 0
 ReadHeld f = (k b v : ℕ) → k < 2 ^ 64 → HeldOn f b k v → readTo f k ≡ b + 1
 
@@ -41,7 +44,9 @@ ReadWithin f = (k : ℕ) → k < 2 ^ 64 → readTo f k ≤ f .state .cap
 abbrev pub pagesOf : File → List (List Record)
 pagesOf f = heldFrom (f .area) (f .state .cap) 0
 
--- "for put and remove, the number of times a held record went to a neighbouring page; for grow, the number of records whose page differs; otherwise 0": a record that a put adds, or a removal takes out, is none of them
+-- "for put and remove, the number of times a held record went to a neighbouring page; for grow, the
+-- number of records whose page differs; otherwise 0": a record that a put adds, or a removal takes
+-- out, is none of them
 abbrev pub differ : Call → (before after : List (List Record)) → ℕ
 differ (format q cap) before after = 0
 differ (find k) before after = 0

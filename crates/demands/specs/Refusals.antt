@@ -1,4 +1,6 @@
--- The refusals: which number a call gives and for what cause (01, 'Refusal numbers'), of any file, said by none of the tests that code and definitions go by. `Refusals`, at the end, is what is promised. What is quoted is 01's.
+-- The refusals: which number a call gives and for what cause (01, 'Refusal numbers'), of any file,
+-- said by none of the tests that code and definitions go by. `Refusals`, at the end, is what is
+-- promised. What is quoted is 01's.
 use Prim.Native.Nat.{ℕ, _+_, _*_, _<_}
 use mathlib.Core.Path.{_≡_}
 use mathlib.Core.Bool.{true, false}
@@ -60,7 +62,9 @@ abbrev pub Fails : Cause → Type 0
 Fails (when k it) = it → ⊥
 Fails (unless k it) = it
 
--- "A refusal is given when its cause holds and no earlier one does, and not otherwise.": n is the number given, the causes stand in the call's order, and no cause before them holds where `clear` does
+-- "A refusal is given when its cause holds and no earlier one does, and not otherwise.": n is the
+-- number given, the causes stand in the call's order, and no cause before them holds where `clear`
+-- does
 abbrev pub InOrder : (n : ℕ) → (clear : Type 0) → List Cause → Type 0
 InOrder n clear [] = Unit {0}
 InOrder n clear (c ∷ cs) = ((n ≡ number c) ↔ (clear × Holds c)) × InOrder n (clear × Fails c) cs
@@ -69,7 +73,9 @@ InOrder n clear (c ∷ cs) = ((n ≡ number c) ↔ (clear × Holds c)) × InOrde
 abbrev pub entry : State → List ℕ → List Cause
 entry s area = unless 1 (Ranged s) ∷ unless 2 (RightArea s area) ∷ []
 
--- "Order: format 1, 2 (judged on the numbers it is asked for, not on the state before it). Find 1, 2, then the walk. Put and remove 1, 2, the walk (4, 5, 6 or 7 as met), then 9. Grow 1, 2, 3, 8, 4, 9, 7. Check 1, 2, 4, 9." Due gives none. What a walk meets is its definition's to say.
+-- "Order: format 1, 2 (judged on the numbers it is asked for, not on the state before it). Find 1,
+-- 2, then the walk. Put and remove 1, 2, the walk (4, 5, 6 or 7 as met), then 9. Grow 1, 2, 3, 8,
+-- 4, 9, 7. Check 1, 2, 4, 9." Due gives none. What a walk meets is its definition's to say.
 abbrev pub order : File → Call → List Cause
 order f (format q cap) = entry (fresh q cap) (f .area)
 order f (find k) = entry (f .state) (f .area)
@@ -112,7 +118,8 @@ pub record Plain (n : Numbers) : Type 0 where
   -- "refusals 1, 2, 3, 8 .. read 0"
   pub read : OneOf (n .refusal) (1 ∷ 2 ∷ 3 ∷ 8 ∷ []) → n .read ≡ 0
 
--- what an accepted call tells: "value is 0 for all but find", "format .. read 0", and moved is 0 but for put, remove and grow; check and grow have judged all pages
+-- what an accepted call tells: "value is 0 for all but find", "format .. read 0", and moved is 0
+-- but for put, remove and grow; check and grow have judged all pages
 abbrev pub AcceptedTells : File → Call → Numbers → Type 0
 AcceptedTells f (format q cap) n = n ≡ told 0 0 0 0 0
 AcceptedTells f (find k) n = n .moved ≡ 0
@@ -122,7 +129,9 @@ AcceptedTells f (grow row) n = (n .value ≡ 0) × (n .read ≡ f .state .cap)
 AcceptedTells f check n = n ≡ told 0 0 0 (f .state .cap) 0
 AcceptedTells f due n = n ≡ told 0 0 0 0 0
 
--- "Check and grow judge pages from 0 upward and stop at the first broken one.": 4 tells "the lowest broken page", and the pages read are those up to it ("a broken one included"); 9 and 7 come after all pages
+-- "Check and grow judge pages from 0 upward and stop at the first broken one.": 4 tells "the lowest
+-- broken page", and the pages read are those up to it ("a broken one included"); 9 and 7 come after
+-- all pages
 pub record Judges (f : File) (n : Numbers) : Type 0 where
   pub lowest : n .refusal ≡ 4 → LowestBroken f (n .page)
   pub up-to : n .refusal ≡ 4 → n .read ≡ n .page + 1
@@ -149,13 +158,15 @@ pub record RefusalsOf (f : File) : Type 0 where
   pub grow-judges : (row : List ℕ) → Judges f (tells f (grow row))
   -- of every call: "4 a page looked at is broken; its address"
   pub broken : (c : Call) → refusal f c ≡ 4 → BrokenAt f (tells f c .page)
-  -- "the walk (4, 5, 6 or 7 as met), then 9": where the walk meets no cause, 9 is given exactly "where r = 12 x cap" by put, "where r = 0" by remove
+  -- "the walk (4, 5, 6 or 7 as met), then 9": where the walk meets no cause, 9 is given exactly
+  -- "where r = 12 x cap" by put, "where r = 0" by remove
   pub put-count : (x : Record) → OneOf (refusal f (put x)) (0 ∷ 9 ∷ []) → (refusal f (put x) ≡ 9) ↔ (f .state .r ≡ 12 * f .state .cap)
   pub remove-count : (k : ℕ) → OneOf (refusal f (remove k)) (0 ∷ 9 ∷ []) → (refusal f (remove k) ≡ 9) ↔ (f .state .r ≡ 0)
   -- "Growth is due exactly when 5r > 48P"; out of range "due answers no"
   pub due-yes : (left f due .said ≡ says true) ↔ (Ranged (f .state) × (48 * f .state .p < 5 * f .state .r))
   pub due-no : (left f due .said ≡ says false) ↔ (Ranged (f .state) × (48 * f .state .p < 5 * f .state .r) → ⊥)
 
--- What is promised of every file, any state and any bytes, and proved as `refusals` (proofs/Refusals.antt).
+-- What is promised of every file, any state and any bytes, and proved as `refusals`
+-- (proofs/Refusals.antt).
 abbrev pub Refusals : Type 0
 Refusals = (f : File) → Bytes (f .area) → RefusalsOf f

@@ -1,4 +1,5 @@
--- The starred figures of 01, 'Figures to try': what the definitions give beside what 01 prints, as one table.
+-- The starred figures of 01, 'Figures to try': what the definitions give beside what 01 prints, as
+-- one table.
 use mathlib.Core.Path.{_≡_, refl}
 use mathlib.Core.List.{List, [], _∷_, _++_, map}
 use mathlib.Core.Bool.{cond}
@@ -8,22 +9,24 @@ use Rattle.numbers.specs.Little.{little, bytesOf, numberAt, written}
 use Rattle.numbers.specs.Fields.{encode}
 use Rattle.homes.specs.Homes.{draw, mover, swept, newPage, moved, nextGroups, steps, params, home}
 use Rattle.pages.specs.Page.{key, recordWith, pageBytes, recordsIn, wellFormed, readPage, inMemory}
-use Rattle.pages.specs.Slots.{opened, closed}
+use Rattle.pages.specs.Places.{closed}
+use Rattle.pages.specs.steps.Slots.{opened}
 use Rattle.pages.specs.Area.{partAt}
 use Rattle.state.specs.declared.Done.{Done}
 use Rattle.state.specs.State.{all, inRange, isDue}
 use Rattle.state.specs.Answer.{numbers}
 use Rattle.walks.specs.Walks.{walk, putWalk}
 use Rattle.survey.specs.Survey.{isImage, surveyed}
-use Rattle.rebuild.specs.Rebuild.{relaid}
-use Rattle.register.specs.Gates.{gateOf, imageGate, growGate}
+use Rattle.rebuild.specs.Relaid.{relaid}
+use Rattle.gates.specs.Gates.{gateOf, imageGate, growGate}
 use Rattle.register.specs.Calls.{Outcome, Growth, formatted, stored, grownFile, grew}
 
 -- "Seed 1: draws"
 abbrev draws : List ℕ
 draws = map (draw 1) (1 ∷ 2 ∷ 3 ∷ 4 ∷ [])
 
--- "n0 2, N 8, s 3: groups grow in the order 7, 4, 1, 6, 3, 0, 5, 2": the new page of each of these groups
+-- "n0 2, N 8, s 3: groups grow in the order 7, 4, 1, 6, 3, 0, 5, 2": the new page of each of these
+-- groups
 abbrev grown : List ℕ
 grown = map (newPage 3 16 8) (7 ∷ 4 ∷ 1 ∷ 6 ∷ 3 ∷ 0 ∷ 5 ∷ 2 ∷ [])
 
@@ -86,7 +89,8 @@ onePage o = (refusal (stored (o .done .state) (o .area) (recordWith 12 12) .done
 abbrev alone : List (List ℕ)
 alone = draws ∷ grown ∷ homes 0 ∷ homes 1 ∷ movers ∷ dues ∷ []
 
--- The table: a row or more for each figure, the keys of a page in a row of their own, as the definitions give it ..
+-- The table: a row or more for each figure, the keys of a page in a row of their own, as the
+-- definitions give it ..
 abbrev pub given : List (List ℕ)
 given =
     alone

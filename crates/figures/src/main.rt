@@ -35,7 +35,8 @@ fn print_draws() {
     print_draw(10000);
 }
 
-// The lowest key that lives on a page when it is the last one grown, n0 2, N 8, s 3; 1,000 where none below that does.
+// The lowest key that lives on a page when it is the last one grown, n0 2, N 8, s 3; 1,000 where
+// none below that does.
 fn first_on(page: u64) -> u64
     requires { ⌜ (16 ≤ page) × (page < 24) ⌝ }
 {
@@ -85,7 +86,8 @@ fn print_homes(key: u64) {
     print_home(key, 8);
 }
 
-// At P 6 the first step alone has been taken, for both groups: a key that it moves has left page key mod 4.
+// At P 6 the first step alone has been taken, for both groups: a key that it moves has left page
+// key mod 4.
 fn print_mover(key: u64) {
     let params = Params { n0: 2, n: 2, s: 1 };
     let shape = Shape::new(params, 6);

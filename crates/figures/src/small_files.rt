@@ -1,8 +1,9 @@
-// Files of one and two pages, n0, N and s all 1: what put and grow answer, and the keys that the pages then hold.
-use homes::Params;
+// Files of one and two pages, n0, N and s all 1: what put and grow answer, and the keys that the
+// pages then hold.
 use crate::text::print_item;
 use crate::text::say;
 use crate::text::say_number;
+use homes::Params;
 use pages::Record;
 use state::Done;
 use state::State;

@@ -69,7 +69,8 @@ unfolding sizeAfter
 size-up n0 zero j x F G = size-low n0 (zero + j) x F G
 size-up n0 (suc i) j x F G = rw (suc-add i j) (size-up n0 i j (suc x) (F + G) (nextGroups n0 x G))
 
--- A size below 4,096 comes before step 40, counted from 0: the step taken there is one of the forty.
+-- A size below 4,096 comes before step 40, counted from 0: the step taken there is one of the
+-- forty.
 pub steps-few : (n0 N i : ℕ) → 1 ≤ n0 → n0 ≤ 4 → 1 ≤ N → sizeAfter n0 i 1 (n0 * N) N < 4096 → i < 40
 steps-few n0 N i h k l e =
     ⊎-elim (λ lt. lt)

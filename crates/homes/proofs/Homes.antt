@@ -1,4 +1,5 @@
--- The laws of the homes of a file: a home is a page of it, and one page more leaves a key where it is or takes it there.
+-- The laws of the homes of a file: a home is a page of it, and one page more leaves a key where it
+-- is or takes it there.
 --
 use mathlib.Core.Path.{_≡_}
 use mathlib.Core.Logic.{_⊎_, inl, inr, ⊎-elim}
@@ -7,7 +8,7 @@ use native.Mathlib.Nat.{mod-lt, mul-pos}
 use native.Mathlib.Omega.{arith}
 use Rattle.homes.specs.declared.Params.{Params}
 use Rattle.homes.specs.Homes.{seedOf, draw, mover, newPage, firstPages, home, InRange, shapeOf}
-use Rattle.homes.specs.Last.{lastStep}
+use Rattle.homes.specs.steps.Last.{lastStep}
 use Rattle.homes.proofs.New.{new-low, new-high}
 use Rattle.homes.proofs.Steps.{Into, OneMore, steps-below, grown}
 
@@ -25,7 +26,8 @@ unfolding home
 home-below q P K r =
     steps-below (λ x F. mover (q .n0) K x) (newPage (q .s)) (q .n0) P (P - firstPages q) 1 (firstPages q) (q .n) (K % firstPages q) (first-below q P K r)
 
--- With one page more each key stays at home, or its home becomes that page, where the last step leads there from it.
+-- With one page more each key stays at home, or its home becomes that page, where the last step
+-- leads there from it.
 pub home-more : (q : Params) (P K : ℕ) → InRange q P → OneMore (newPage (q .s)) P (lastStep (shapeOf q (P + 1))) (home q P K) (home q (P + 1) K)
 unfolding home
 home-more q P K r =

@@ -1,4 +1,5 @@
--- The last step of a file: that the loop of `Shape::last_step` comes to it, and which keys it leaves at home.
+-- The last step of a file: that the loop of `Shape::last_step` comes to it, and which keys it
+-- leaves at home.
 --
 use mathlib.Core.Path.{_≡_, refl, sym, ap, _∙_}
 use mathlib.Core.Bool.{true, false, and-false}
@@ -11,23 +12,24 @@ use Rattle.homes.specs.declared.Params.{Params}
 use Rattle.homes.specs.declared.Shape.{Shape}
 use Rattle.homes.specs.declared.Stage.{Stage}
 use Rattle.homes.specs.Homes.{np, newPage, home, InRange, shapeOf}
-use Rattle.homes.specs.Stages.{stageAt, nextStep, After, Sound}
-use Rattle.homes.specs.Last.{lastFrom, lastStep, staysAt}
+use Rattle.homes.specs.steps.Stages.{stageAt, nextStep, After, Bounded}
+use Rattle.homes.specs.steps.Last.{lastFrom, lastStep, staysAt}
 use Rattle.homes.proofs.Steps.{OneMore, grows, last-later}
 use Rattle.homes.proofs.Homes.{home-more, home-grown}
 
--- Before step i + 1: that t is that step, and that the last step is that one or a later one, with enough steps left to come to it.
+-- Before step i + 1: that t is that step, and that the last step is that one or a later one, with
+-- enough steps left to come to it.
 pub record Seeking (n0 P : ℕ) (last t : Stage) : Type 0 where
   pub i : ℕ
   pub left : ℕ
   pub np-is : t .np ≡ np n0 (suc i)
-  pub sound : Sound n0 t
+  pub sound : Bounded n0 t
   pub below : t .f < P
   pub enough : P ≤ t .f + left
   pub rest : lastFrom n0 P left (suc i) t ≡ last
 
 -- It holds at the start.
-pub seek-starts : (n0 N P : ℕ) (t : Stage) → t ≡ stageAt n0 1 (n0 * N) N → Sound n0 t → n0 * N < P → Seeking n0 P (lastFrom n0 P (P - t .f) 1 t) t
+pub seek-starts : (n0 N P : ℕ) (t : Stage) → t ≡ stageAt n0 1 (n0 * N) N → Bounded n0 t → n0 * N < P → Seeking n0 P (lastFrom n0 P (P - t .f) 1 t) t
 seek-starts n0 N P t e sound h =
     let size : t .f ≡ n0 * N = ap (λ (u : Stage). u .f) e in
     record {
@@ -41,7 +43,7 @@ seek-starts n0 N P t e sound h =
     }
 
 -- A turn keeps it.
-pub seek-on : (n0 P : ℕ) (last t t′ : Stage) → Seeking n0 P last t → t .f + t .g < P → After n0 t t′ → Sound n0 t′ → Seeking n0 P last t′
+pub seek-on : (n0 P : ℕ) (last t t′ : Stage) → Seeking n0 P last t → t .f + t .g < P → After n0 t t′ → Bounded n0 t′ → Seeking n0 P last t′
 seek-on n0 P last t t′ b more after sound =
     let x = suc (b .i) in
     let next : t′ ≡ nextStep n0 x t = after x (omega arith) (b .np-is) in
@@ -62,7 +64,8 @@ leaves : (shape : Shape) (last : Stage) (a : ℕ) → newPage (shape .params .s)
 unfolding staysAt
 leaves shape last a e = rw (eq-eqb _ _ e) (and-false (ltb a (shape .p - 1)))
 
--- Where the group of a page doesn't grow into the new page P, a key that has its home on that page keeps it.
+-- Where the group of a page doesn't grow into the new page P, a key that has its home on that page
+-- keeps it.
 pub home-stays : (q : Params) (P K a : ℕ) → InRange q P → staysAt (shapeOf q (P + 1)) (lastStep (shapeOf q (P + 1))) a ≡ true → home q P K ≡ a → home q (P + 1) K ≡ a
 home-stays q P K a r stays here = go (home-more q P K r)
   where

@@ -1,4 +1,5 @@
--- A round of n0 steps: in each step but the last np is one more and the groups stay as many; by the last they double.
+-- A round of n0 steps: in each step but the last np is one more and the groups stay as many; by the
+-- last they double.
 --
 use mathlib.Core.Path.{_≡_, refl, sym, ap, _∙_}
 use mathlib.Core.Bool.{Bool, true, false, cond}
@@ -10,7 +11,7 @@ use lib.Dec.{eqb}
 use borrow.Author.Tests.{eq-eqb, ne-eqb}
 use Rattle.homes.specs.declared.Stage.{Stage}
 use Rattle.homes.specs.Homes.{np, nextGroups}
-use Rattle.homes.specs.Stages.{nextStep}
+use Rattle.homes.specs.steps.Stages.{nextStep}
 use Rattle.homes.proofs.New.{split}
 
 module _ (n0 x : ℕ) (t : Stage) (h : 1 ≤ x) (e : t .np ≡ np n0 x) where

@@ -7,7 +7,7 @@ use Prim.Native.Nat.{ℕ, _+_, _≤_, _<_}
 use native.Mathlib.Omega.{arith}
 use lib.ListN.{length, getD, set, length-set}
 use lib.Seq.{getD-set-same, getD-set-other}
-use Rattle.homes.specs.Lanes.{Lane}
+use Rattle.homes.specs.steps.Lanes.{Lane}
 use Rattle.homes.proofs.New.{split}
 
 -- the first i places of the row are those that `new` says

@@ -1,4 +1,5 @@
--- The laws of the steps, for any test of a mover and any way to a new page that leads into [F, F + G).
+-- The laws of the steps, for any test of a mover and any way to a new page that leads into [F, F +
+-- G).
 --
 use mathlib.Core.Path.{_≡_, refl, sym, ap, _∙_}
 use mathlib.Core.Bool.{Bool, true, false, cond, _&&_}
@@ -8,9 +9,9 @@ use native.Mathlib.Omega.{arith}
 use lib.Dec.{ltb, eqb}
 use borrow.Author.Tests.{ltb-true, ltb-false, lt-ltb, le-ltb}
 use Rattle.homes.specs.declared.Stage.{Stage}
-use Rattle.homes.specs.Homes.{np, moved, nextGroups, steps}
-use Rattle.homes.specs.Stages.{stageAt, nextStep, After}
-use Rattle.homes.specs.Last.{lastFrom}
+use Rattle.homes.specs.Homes.{np, movedTo, nextGroups, steps}
+use Rattle.homes.specs.steps.Stages.{stageAt, nextStep, After}
+use Rattle.homes.specs.steps.Last.{lastFrom}
 use Rattle.homes.proofs.New.{split}
 
 -- A way to a new page leads into the pages that a step adds.
@@ -19,17 +20,17 @@ pub record Into (goes : ℕ → ℕ → ℕ → ℕ) : Type 0 where
   pub high : (F G a : ℕ) → 0 < G → goes F G a < F + G
 
 -- Who is no mover stays.
-pub moved-off : (P : ℕ) (mv : Bool) (new a : ℕ) → mv ≡ false → moved P mv new a ≡ a
+pub moved-off : (P : ℕ) (mv : Bool) (new a : ℕ) → mv ≡ false → movedTo P mv new a ≡ a
 unfolding moved
 moved-off P mv new a e = rw e
 
 -- A mover goes to a new page that is below P.
-pub moved-on : (P : ℕ) (mv : Bool) (new a : ℕ) → mv ≡ true → new < P → moved P mv new a ≡ new
+pub moved-on : (P : ℕ) (mv : Bool) (new a : ℕ) → mv ≡ true → new < P → movedTo P mv new a ≡ new
 unfolding moved
 moved-on P mv new a e h = rw (e, lt-ltb new P h)
 
 -- Nobody goes to page P or a page past it.
-pub moved-past : (P : ℕ) (mv : Bool) (new a : ℕ) → P ≤ new → moved P mv new a ≡ a
+pub moved-past : (P : ℕ) (mv : Bool) (new a : ℕ) → P ≤ new → movedTo P mv new a ≡ a
 unfolding moved
 moved-past P mv new a h = rw (le-ltb new P h) (none mv)
   where
@@ -38,7 +39,7 @@ moved-past P mv new a h = rw (le-ltb new P h) (none mv)
     none false = refl
 
 -- A step from a page below P leads to a page below P.
-pub moved-below : (P : ℕ) (mv : Bool) (new a : ℕ) → a < P → moved P mv new a < P
+pub moved-below : (P : ℕ) (mv : Bool) (new a : ℕ) → a < P → movedTo P mv new a < P
 unfolding moved
 moved-below P mv new a h = go mv (ltb new P) refl
   where
@@ -48,7 +49,7 @@ moved-below P mv new a h = go mv (ltb new P) refl
     go true true e = ltb-true new P e
 
 -- With one page more a step does the same, or leads to that page.
-pub moved-grown : (P : ℕ) (mv : Bool) (new a : ℕ) → (moved (P + 1) mv new a ≡ moved P mv new a) ⊎ ((moved (P + 1) mv new a ≡ P) × (new ≡ P))
+pub moved-grown : (P : ℕ) (mv : Bool) (new a : ℕ) → (movedTo (P + 1) mv new a ≡ movedTo P mv new a) ⊎ ((movedTo (P + 1) mv new a ≡ P) × (new ≡ P))
 unfolding moved
 moved-grown P mv new a = go mv (ltb new P) (ltb new (P + 1)) refl refl
   where
@@ -91,7 +92,7 @@ module _ (moves : ℕ → ℕ → Bool) (goes : ℕ → ℕ → ℕ → ℕ) (n0
   stopped (suc left) x F G a h = rw (le-ltb F P h)
 
   -- Below size P a step is taken.
-  pub goes-on : (left x F G a : ℕ) → F < P → steps moves goes n0 P (suc left) x F G a ≡ steps moves goes n0 P left (suc x) (F + G) (nextGroups n0 x G) (moved P (moves x F) (goes F G a) a)
+  pub goes-on : (left x F G a : ℕ) → F < P → steps moves goes n0 P (suc left) x F G a ≡ steps moves goes n0 P left (suc x) (F + G) (nextGroups n0 x G) (movedTo P (moves x F) (goes F G a) a)
   unfolding steps
   goes-on left x F G a h = rw (lt-ltb F P h)
 
@@ -100,7 +101,7 @@ module _ (moves : ℕ → ℕ → Bool) (goes : ℕ → ℕ → ℕ → ℕ) (n0
   enough zero n x F G a hG hm hn = stopped zero x F G a (omega arith) ∙ sym (stopped n x F G a (omega arith))
   enough (suc m) zero x F G a hG hm hn = stopped (suc m) x F G a (omega arith) ∙ sym (stopped zero x F G a (omega arith))
   enough (suc m) (suc n) x F G a hG hm hn =
-      let a′ = moved P (moves x F) (goes F G a) a in
+      let a′ = movedTo P (moves x F) (goes F G a) a in
       let rest = enough m n (suc x) (F + G) (nextGroups n0 x G) a′ (groups-pos n0 x G hG) (omega arith) (omega arith) in
       ⊎-elim
       (λ lt. goes-on m x F G a lt ∙ rest ∙ sym (goes-on n x F G a lt))
@@ -108,9 +109,9 @@ module _ (moves : ℕ → ℕ → Bool) (goes : ℕ → ℕ → ℕ → ℕ) (n0
       (split F P)
 
   -- One turn, with just enough steps left before it and after it.
-  pub turn : (x F G a : ℕ) → F < P → 0 < G → steps moves goes n0 P (P - F) x F G a ≡ steps moves goes n0 P (P - (F + G)) (suc x) (F + G) (nextGroups n0 x G) (moved P (moves x F) (goes F G a) a)
+  pub turn : (x F G a : ℕ) → F < P → 0 < G → steps moves goes n0 P (P - F) x F G a ≡ steps moves goes n0 P (P - (F + G)) (suc x) (F + G) (nextGroups n0 x G) (movedTo P (moves x F) (goes F G a) a)
   turn x F G a h hG =
-      let a′ = moved P (moves x F) (goes F G a) a in
+      let a′ = movedTo P (moves x F) (goes F G a) a in
       enough (P - F) (suc (P - F)) x F G a hG (omega arith) (omega arith)
       ∙ goes-on (P - F) x F G a h
       ∙ enough (P - F) (P - (F + G)) (suc x) (F + G) (nextGroups n0 x G) a′ (groups-pos n0 x G hG) (omega arith) (omega arith)
@@ -126,7 +127,8 @@ module _ (moves : ℕ → ℕ → Bool) (goes : ℕ → ℕ → ℕ → ℕ) (n0
       go true l = l
       go false l = h
 
--- What one page more, page P, does to a page: it stays, or becomes P, where the last step leads there from it.
+-- What one page more, page P, does to a page: it stays, or becomes P, where the last step leads
+-- there from it.
 abbrev pub OneMore : (goes : ℕ → ℕ → ℕ → ℕ) (P : ℕ) (last : Stage) (a b : ℕ) → Type 0
 OneMore goes P last a b = (b ≡ a) ⊎ ((b ≡ P) × (goes (last .f) (last .g) a ≡ P))
 
@@ -137,7 +139,7 @@ module _ (moves : ℕ → ℕ → Bool) (goes : ℕ → ℕ → ℕ → ℕ) (in
       OneMore goes P (lastFrom n0 (P + 1) left x (stageAt n0 x F G)) (steps moves goes n0 P left x F G a) (steps moves goes n0 (P + 1) left x F G a)
 
   -- one step, where `rest` shows it of the steps after
-  grown-step : (left x F G a : ℕ) → 0 < G → Grown left (suc x) (F + G) (nextGroups n0 x G) (moved P (moves x F) (goes F G a) a) → Grown (suc left) x F G a
+  grown-step : (left x F G a : ℕ) → 0 < G → Grown left (suc x) (F + G) (nextGroups n0 x G) (movedTo P (moves x F) (goes F G a) a) → Grown (suc left) x F G a
   grown-step left x F G a hG rest =
       ⊎-elim
       (λ lt. ⊎-elim (same lt) (to (omega arith)) step)
@@ -148,10 +150,10 @@ module _ (moves : ℕ → ℕ → Bool) (goes : ℕ → ℕ → ℕ → ℕ) (in
       new = goes F G a
 
       a′ : ℕ
-      a′ = moved P (moves x F) new a
+      a′ = movedTo P (moves x F) new a
 
       b′ : ℕ
-      b′ = moved (P + 1) (moves x F) new a
+      b′ = movedTo (P + 1) (moves x F) new a
 
       step : (b′ ≡ a′) ⊎ ((b′ ≡ P) × (new ≡ P))
       step = moved-grown P (moves x F) new a
@@ -212,7 +214,7 @@ module _ (moves : ℕ → ℕ → Bool) (goes : ℕ → ℕ → ℕ → ℕ) (in
   steps-grown zero x F G a hG = inl refl
   steps-grown (suc left) x F G a hG =
       grown-step left x F G a hG
-      (steps-grown left (suc x) (F + G) (nextGroups n0 x G) (moved P (moves x F) (goes F G a) a) (groups-pos n0 x G hG))
+      (steps-grown left (suc x) (F + G) (nextGroups n0 x G) (movedTo P (moves x F) (goes F G a) a) (groups-pos n0 x G hG))
 
   -- The same with just enough steps left in both.
   pub grown : (x F G a : ℕ) → 0 < G → OneMore goes P (lastFrom n0 (P + 1) (P + 1 - F) x (stageAt n0 x F G)) (steps moves goes n0 P (P - F) x F G a) (steps moves goes n0 (P + 1) (P + 1 - F) x F G a)

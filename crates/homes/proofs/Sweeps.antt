@@ -1,4 +1,5 @@
--- The new pages of one step's groups are all different, and fill [F, F + G): each sweep has its own run of pages, and the next starts where it ends.
+-- The new pages of one step's groups are all different, and fill [F, F + G): each sweep has its own
+-- run of pages, and the next starts where it ends.
 --
 use mathlib.Core.Path.{_≡_, ap}
 use mathlib.Core.Logic.{⊎-elim}

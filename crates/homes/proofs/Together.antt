@@ -1,4 +1,5 @@
--- What the loop of `lanes::homes` holds of each lane before a step, and that a turn keeps it. On plain numbers.
+-- What the loop of `lanes::homes` holds of each lane before a step, and that a turn keeps it. On
+-- plain numbers.
 --
 use mathlib.Core.Path.{_≡_, refl, sym, ap, subst, _∙_}
 use mathlib.Core.Bool.{Bool, true, false, cond, _&&_}
@@ -9,9 +10,9 @@ use native.Mathlib.Omega.{arith}
 use lib.ListN.{length, getD}
 use lib.Dec.{leb, ltb}
 use Rattle.homes.specs.declared.Stage.{Stage}
-use Rattle.homes.specs.Homes.{swept, newPage, moved, np, mover, params, home, nextGroups, InRange}
-use Rattle.homes.specs.Stages.{stageAt, nextStep, After, Sound}
-use Rattle.homes.specs.Lanes.{Lane, startsAt, addressOf, stepped, regrouped}
+use Rattle.homes.specs.Homes.{swept, newPage, movedTo, np, mover, params, home, nextGroups, InRange}
+use Rattle.homes.specs.steps.Stages.{stageAt, nextStep, After, Bounded}
+use Rattle.homes.specs.steps.Lanes.{Lane, startsAt, addressOf, stepped, regrouped}
 use Rattle.homes.proofs.Round.{even-kept, groups-kept, groups-doubled}
 use Rattle.homes.proofs.Steps.{stopped}
 use Rattle.homes.proofs.Turn.{Before, starts, turned}
@@ -36,7 +37,8 @@ new-of : (s F G turn group : ℕ) → group < G → newPage s F G (turn * G + gr
 new-of s F G turn group h = rw (group-of G turn group h) (swept-from s F G (G - 1 - group))
 
 module _ (s P : ℕ) (t : Stage) (l : Lane) where
-  -- the draw of a step, how far behind F its new page is, whether the key goes there, and the lane after it if it does and if not
+  -- the draw of a step, how far behind F its new page is, whether the key goes there, and the lane
+  -- after it if it does and if not
   abbrev next : ℕ
   next = 16807 * l .draw % 2147483647
 
@@ -59,7 +61,7 @@ module _ (s P : ℕ) (t : Stage) (l : Lane) where
       go false = refl
 
   -- A step of a lane is a step of its address.
-  step-address : t .f ≡ t .np * t .g → l .group < t .g → addressOf (t .g) (stepped s P t l) ≡ moved P (leb (next * (t .np + 1)) 2147483647) (newPage s (t .f) (t .g) (addressOf (t .g) l)) (addressOf (t .g) l)
+  step-address : t .f ≡ t .np * t .g → l .group < t .g → addressOf (t .g) (stepped s P t l) ≡ movedTo P (leb (next * (t .np + 1)) 2147483647) (newPage s (t .f) (t .g) (addressOf (t .g) l)) (addressOf (t .g) l)
   unfolding stepped moved
   step-address even h = rw (new-of s (t .f) (t .g) (l .turn) (l .group) h) (go goes)
     where
@@ -78,7 +80,7 @@ np-first : (n0 : ℕ) → np n0 1 ≡ n0
 np-first n0 = omega (arith, zero-mod n0)
 
 -- It holds at the start.
-pub begins : (n0 N s P K : ℕ) (t : Stage) (l : Lane) → InRange (params n0 N s) P → t ≡ stageAt n0 1 (n0 * N) N → Sound n0 t → l ≡ startsAt (t .f) (t .g) K → Going n0 (t .g) s P K t l
+pub begins : (n0 N s P K : ℕ) (t : Stage) (l : Lane) → InRange (params n0 N s) P → t ≡ stageAt n0 1 (n0 * N) N → Bounded n0 t → l ≡ startsAt (t .f) (t .g) K → Going n0 (t .g) s P K t l
 begins n0 N s P K t l ranges first sound e =
     let size : t .f ≡ n0 * t .g = rw first in
     let each : t .np ≡ n0 = rw first (np-first n0) in
@@ -108,7 +110,7 @@ module _ (n0 M N s P K : ℕ) (ranges : InRange (params n0 M s) P) (t t′ : Sta
   pub twice : t .g < t′ .g → t′ .g ≡ 2 * t .g
   twice h = groups-next ∙ groups-doubled n0 x (t .g) (omega (arith, groups-next))
 
-  module _ (inside : l .group < t .g) (below : t .f < P) (sound : Sound n0 t′) where
+  module _ (inside : l .group < t .g) (below : t .f < P) (sound : Bounded n0 t′) where
     -- the step of the key alone
     moves : Before n0 N s P K t′ (addressOf (t .g) (stepped s P t l)) (stepped s P t l .draw)
     moves =

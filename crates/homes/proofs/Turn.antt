@@ -5,8 +5,8 @@ use Prim.Native.Nat.{ℕ, zero, suc, _+_, _-_, _*_, _%_, _<_}
 use native.Mathlib.Omega.{arith}
 use lib.Dec.{leb}
 use Rattle.homes.specs.declared.Stage.{Stage}
-use Rattle.homes.specs.Homes.{seedOf, draw, np, mover, newPage, moved, steps, params, home}
-use Rattle.homes.specs.Stages.{stageAt, nextStep, After, Sound}
+use Rattle.homes.specs.Homes.{seedOf, draw, np, mover, newPage, movedTo, steps, params, home}
+use Rattle.homes.specs.steps.Stages.{stageAt, nextStep, After, Bounded}
 use Rattle.homes.proofs.Steps.{turn}
 
 -- Before step i + 1: the last draw, that t is that step, and that what is left to do leads home.
@@ -14,11 +14,11 @@ pub record Before (n0 N s P K : ℕ) (t : Stage) (a d : ℕ) : Type 0 where
   pub i : ℕ
   pub draw-is : d ≡ draw (seedOf K) i
   pub np-is : t .np ≡ np n0 (suc i)
-  pub sound : Sound n0 t
+  pub sound : Bounded n0 t
   pub rest : steps (λ x F. mover n0 K x) (newPage s) n0 P (P - t .f) (suc i) (t .f) (t .g) a ≡ home (params n0 N s) P K
 
 -- It holds at the start.
-pub starts : (n0 N s P K : ℕ) (t : Stage) → t ≡ stageAt n0 1 (n0 * N) N → Sound n0 t → Before n0 (t .g) s P K t (K % t .f) (seedOf K)
+pub starts : (n0 N s P K : ℕ) (t : Stage) → t ≡ stageAt n0 1 (n0 * N) N → Bounded n0 t → Before n0 (t .g) s P K t (K % t .f) (seedOf K)
 unfolding home draw
 starts n0 N s P K t e sound =
     record { i = zero; draw-is = refl; np-is = ap (λ (u : Stage). u .np) e; sound = sound; rest = rw e }
@@ -34,7 +34,7 @@ unfolding mover
 mover-is n0 K x d m e f = rw (e, f)
 
 -- A turn keeps it.
-pub turned : (n0 N s P K : ℕ) (t t′ : Stage) (a a′ d d′ : ℕ) → Before n0 N s P K t a d → t .f < P → d′ ≡ 16807 * d % 2147483647 → a′ ≡ moved P (leb (d′ * (t .np + 1)) 2147483647) (newPage s (t .f) (t .g) a) a → After n0 t t′ → Sound n0 t′ → Before n0 N s P K t′ a′ d′
+pub turned : (n0 N s P K : ℕ) (t t′ : Stage) (a a′ d d′ : ℕ) → Before n0 N s P K t a d → t .f < P → d′ ≡ 16807 * d % 2147483647 → a′ ≡ movedTo P (leb (d′ * (t .np + 1)) 2147483647) (newPage s (t .f) (t .g) a) a → After n0 t t′ → Bounded n0 t′ → Before n0 N s P K t′ a′ d′
 turned n0 N s P K t t′ a a′ d d′ b below drawn stepped after sound =
     let x = suc (b .i) in
     let draws : d′ ≡ draw (seedOf K) x = draw-next K (b .i) d d′ (b .draw-is) drawn in

@@ -1,4 +1,5 @@
--- Where a key lives: the section of that name of document 01, in its words and its order. What is quoted is 01's.
+-- Where a key lives: the section of that name of document 01, in its words and its order. What is
+-- quoted is 01's.
 use Prim.Native.Nat.{ℕ, zero, suc, _+_, _-_, _*_, _/_, _%_, _≤_, min}
 use mathlib.Core.Bool.{Bool, cond, _&&_}
 use lib.Dec.{leb, ltb, eqb}
@@ -9,7 +10,8 @@ use Rattle.homes.specs.declared.Shape.{Shape}
 abbrev pub seedOf : ℕ → ℕ
 seedOf K = K % 2147483646 + 1
 
--- "draw 1 = 16807 x seed mod 2147483647, each next draw 16807 times the last, same modulus"; draw 0 is the seed
+-- "draw 1 = 16807 x seed mod 2147483647, each next draw 16807 times the last, same modulus"; draw 0
+-- is the seed
 unfoldable pub draw : ℕ → ℕ → ℕ
 draw seed zero = seed
 draw seed (suc x) = 16807 * draw seed x % 2147483647
@@ -31,20 +33,22 @@ abbrev pub newPage : (s F G address : ℕ) → ℕ
 newPage s F G address = swept s F G (G - 1 - address % G)
 
 -- "For a mover: .. If new < P, the address becomes new."
-unfoldable pub moved : (P : ℕ) → Bool → (new address : ℕ) → ℕ
-moved P moves new address = cond (moves && ltb new P) new address
+unfoldable pub movedTo : (P : ℕ) → Bool → (new address : ℕ) → ℕ
+movedTo P moves new address = cond (moves && ltb new P) new address
 
 -- "if (x - 1) mod n0 = n0 - 1, G doubles"
 unfoldable pub nextGroups : (n0 x G : ℕ) → ℕ
 nextGroups n0 x G = cond (eqb ((x - 1) % n0) (n0 - 1)) (2 * G) G
 
--- The steps, over any test for a mover (of x and F) and any way to the new page (of F, G and the address).
+-- The steps, over any test for a mover (of x and F) and any way to the new page (of F, G and the
+-- address).
 module _ (moves : ℕ → ℕ → Bool) (goes : ℕ → ℕ → ℕ → ℕ) (n0 P : ℕ) where
-  -- "For x = 1, 2, .. while F < P", from step x on; "F grows by G" in each. At most `left` steps, of which there are always enough.
+  -- "For x = 1, 2, .. while F < P", from step x on; "F grows by G" in each. At most `left` steps,
+  -- of which there are always enough.
   unfoldable pub steps : (left x F G address : ℕ) → ℕ
   steps zero x F G a = a
   steps (suc left) x F G a =
-      let on = steps left (suc x) (F + G) (nextGroups n0 x G) (moved P (moves x F) (goes F G a) a) in
+      let on = steps left (suc x) (F + G) (nextGroups n0 x G) (movedTo P (moves x F) (goes F G a) a) in
       cond (ltb F P) on a
 
 -- the parameters of a file, from their numbers
@@ -55,7 +59,8 @@ params n0 N s = record { n0 = n0; n = N; s = s }
 abbrev pub firstPages : Params → ℕ
 firstPages q = q .n0 * q .n
 
--- "Start with address K mod (n0 x N), size F = n0 x N, groups G = N.": where at most `left` steps are taken
+-- "Start with address K mod (n0 x N), size F = n0 x N, groups G = N.": where at most `left` steps
+-- are taken
 abbrev pub homeWithin : (left : ℕ) → (q : Params) → (P K : ℕ) → ℕ
 homeWithin left q P K =
     steps (λ x F. mover (q .n0) K x) (newPage (q .s)) (q .n0) P left 1 (firstPages q) (q .n) (K % firstPages q)
@@ -64,7 +69,8 @@ homeWithin left q P K =
 unfoldable pub home : (q : Params) → (P K : ℕ) → ℕ
 home q P K = homeWithin (P - firstPages q) q P K
 
--- 01, 'The register': "Ranges: n0 1 to 4, N 1 to 64, s 1 to 8, cap 1 to 4,096, n0 x N <= P <= cap", as far as a home depends on them
+-- 01, 'The register': "Ranges: n0 1 to 4, N 1 to 64, s 1 to 8, cap 1 to 4,096, n0 x N <= P <= cap",
+-- as far as a home depends on them
 pub record InRange (q : Params) (P : ℕ) : Type 0 where
   pub n0-low : 1 ≤ q .n0
   pub n0-high : q .n0 ≤ 4

@@ -1,5 +1,3 @@
 pub mod Homes
-pub mod Stages
-pub mod Last
-pub mod Lanes
 pub mod Promises
+pub mod steps

@@ -1,4 +1,5 @@
--- What is promised of the homes (01, 'Where a key lives'), for all numbers in range and every key. What is quoted is 01's.
+-- What is promised of the homes (01, 'Where a key lives'), for all numbers in range and every key.
+-- What is quoted is 01's.
 use Prim.Native.Nat.{ℕ, _+_, _-_, _%_, _≤_, _<_}
 use mathlib.Core.Path.{_≡_}
 use mathlib.Core.Logic.{_⊎_}
@@ -6,7 +7,8 @@ use Rattle.homes.specs.declared.Params.{Params}
 use Rattle.homes.specs.Homes.{newPage, firstPages, homeWithin, home, InRange}
 
 pub record HomesPromises : Type 0 where
-  -- "while F < P": the bound on the steps never cuts them short; any other that is no lower leads to the same page
+  -- "while F < P": the bound on the steps never cuts them short; any other that is no lower leads
+  -- to the same page
   pub whole-loop : (left : ℕ) (q : Params) (P K : ℕ) → InRange q P → P - firstPages q ≤ left → home q P K ≡ homeWithin left q P K
   -- and in range forty of them are enough
   pub forty : (q : Params) (P K : ℕ) → InRange q P → home q P K ≡ homeWithin 40 q P K
@@ -18,5 +20,6 @@ pub record HomesPromises : Type 0 where
   pub new-range : (s F G address : ℕ) → 1 ≤ s → 1 ≤ G → (F ≤ newPage s F G address) × (newPage s F G address < F + G)
   -- "groups grow in the order .. into pages ..": each group into a page of its own
   pub new-differ : (s F G address other : ℕ) → 1 ≤ s → 1 ≤ G → newPage s F G address ≡ newPage s F G other → address % G ≡ other % G
-  -- and the G groups into all of them, so that each of these pages is the new page of exactly one group
+  -- and the G groups into all of them, so that each of these pages is the new page of exactly one
+  -- group
   pub new-fill : (s F G page : ℕ) → 1 ≤ s → F ≤ page → page < F + G → (group : ℕ) × (group < G) × (newPage s F G group ≡ page)

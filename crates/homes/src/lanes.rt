@@ -1,4 +1,7 @@
-// The homes of twelve keys at a time. Their steps are taken together, so that no key waits for its own draws, and nothing is divided for one key alone: an address is kept as its group, and its turn among the pages of the group. Sixteen places of two bytes fill whole registers; the last four are idle.
+// The homes of twelve keys at a time. Their steps are taken together, so that no key waits for its
+// own draws, and nothing is divided for one key alone: an address is kept as its group, and its
+// turn among the pages of the group. Sixteen places of two bytes fill whole registers; the last
+// four are idle.
 use crate::Shape;
 use crate::Stage;
 ghost use mathlib.Core.Path.{_≡_};
@@ -8,7 +11,7 @@ ghost use Prim.Native.Nat.{ℕ, _+_, _-_, _*_, _/_, _%_, _≤_, _<_};
 ghost use lib.ListN.{length, getD};
 ghost use lib.Dec.{leb};
 ghost use Rattle.homes.specs.Homes.{Ready, homeIn, swept};
-ghost use Rattle.homes.specs.Lanes.{laneOf, startsAt, Fits, stepped, regrouped, addressOf};
+ghost use Rattle.homes.specs.steps.Lanes.{laneOf, startsAt, InGroup, stepped, regrouped, addressOf};
 
 // What is kept of each key: its last draw, and its address.
 pub struct Lanes {
@@ -17,7 +20,8 @@ pub struct Lanes {
     pub groups: [u16; 16],
 }
 
-// An address by the number of groups, of which it holds fewer than four times as many. It is compared and not divided.
+// An address by the number of groups, of which it holds fewer than four times as many. It is
+// compared and not divided.
 fn turn_of(address: u64, g: u64) -> u64
     requires { ⌜ (1 ≤ g) × (g ≤ 4096) × (address < 4 * g) ⌝ }
     ensures { λ r. ⌜ r ≡ address / g ⌝ }
@@ -29,7 +33,7 @@ fn turn_of(address: u64, g: u64) -> u64
 fn start(keys: [u64; 12], f: u64, g: u64) -> Lanes
     requires { ⌜ (1 ≤ g) × (g ≤ f) × (f ≤ 4 * g) × (f ≤ 4096) ⌝ }
     ensures { λ r. ⌜ ((i : ℕ) → i < 12 → laneOf r i ≡ startsAt f g (getD keys i 0)) ⌝ }
-    ensures fit { λ r. ⌜ ((i : ℕ) → i < 16 → Fits g (laneOf r i)) ⌝ }
+    ensures fit { λ r. ⌜ ((i : ℕ) → i < 16 → InGroup g (laneOf r i)) ⌝ }
 {
     let mut draws = [0; 12];
     let mut turns = [0; 16];
@@ -51,7 +55,8 @@ fn start(keys: [u64; 12], f: u64, g: u64) -> Lanes
     }
 }
 
-// How far behind the first new page the new page of a group is. By s is divided with `share`, which is exact for so few groups.
+// How far behind the first new page the new page of a group is. By s is divided with `share`, which
+// is exact for so few groups.
 fn target(s: u16, share: u16, g: u16, each: u16, more: u16, group: u16) -> u16
     requires { ⌜ (1 ≤ s) × (s ≤ 8) × (share ≡ 32768 / s + 1) × (group < g) × (g ≤ 4096) × (each ≡ g / s) × (more ≡ g % s) ⌝ }
     ensures { λ r. ⌜ r ≡ swept s 0 g (g - 1 - group) ⌝ }
@@ -96,9 +101,9 @@ fn movers(draws: [u32; 12], np: u64) -> [u16; 16]
 // One step of all keys.
 fn step_all(lanes: Lanes, stage: Stage, sweeps: u64, p: u64) -> Lanes
     requires { ⌜ (1 ≤ sweeps) × (sweeps ≤ 8) × (1 ≤ stage .g) × (stage .g ≤ stage .f) × (stage .f < p) ⌝ }
-    requires { ⌜ (p ≤ 4096) × (stage .np < 8) × ((i : ℕ) → i < 16 → Fits (stage .g) (laneOf lanes i)) ⌝ }
+    requires { ⌜ (p ≤ 4096) × (stage .np < 8) × ((i : ℕ) → i < 16 → InGroup (stage .g) (laneOf lanes i)) ⌝ }
     ensures { λ r. ⌜ ((i : ℕ) → i < 12 → laneOf r i ≡ stepped sweeps p stage (laneOf lanes i)) ⌝ }
-    ensures fit { λ r. ⌜ ((i : ℕ) → i < 16 → Fits (stage .g) (laneOf r i)) ⌝ }
+    ensures fit { λ r. ⌜ ((i : ℕ) → i < 16 → InGroup (stage .g) (laneOf r i)) ⌝ }
 {
     let s = sweeps as u16;
     let g = stage.g as u16;
@@ -133,9 +138,9 @@ fn step_all(lanes: Lanes, stage: Stage, sweeps: u64, p: u64) -> Lanes
 
 // The same addresses with twice as many groups as g.
 fn regroup(lanes: Lanes, g: u64) -> Lanes
-    requires { ⌜ (g ≤ 4096) × ((i : ℕ) → i < 16 → Fits g (laneOf lanes i)) ⌝ }
+    requires { ⌜ (g ≤ 4096) × ((i : ℕ) → i < 16 → InGroup g (laneOf lanes i)) ⌝ }
     ensures { λ r. ⌜ ((i : ℕ) → i < 12 → laneOf r i ≡ regrouped g (laneOf lanes i)) ⌝ }
-    ensures fit { λ r. ⌜ ((i : ℕ) → i < 16 → Fits (2 * g) (laneOf r i)) ⌝ }
+    ensures fit { λ r. ⌜ ((i : ℕ) → i < 16 → InGroup (2 * g) (laneOf r i)) ⌝ }
 {
     let half = g as u16;
     let draws = lanes.draws;
@@ -159,7 +164,7 @@ fn regroup(lanes: Lanes, g: u64) -> Lanes
 
 // The addresses with g groups.
 fn pages_of(lanes: Lanes, g: u64) -> [u64; 12]
-    requires { ⌜ (g ≤ 8192) × ((i : ℕ) → i < 16 → Fits g (laneOf lanes i)) ⌝ }
+    requires { ⌜ (g ≤ 8192) × ((i : ℕ) → i < 16 → InGroup g (laneOf lanes i)) ⌝ }
     ensures { λ r. ⌜ ((i : ℕ) → i < 12 → getD r i 0 ≡ addressOf g (laneOf lanes i)) ⌝ }
     ensures long { λ r. ⌜ length r ≡ 12 ⌝ }
 {

@@ -3,9 +3,9 @@ pub mod lanes;
 
 ghost use mathlib.Core.Path.{_≡_};
 ghost use Prim.Native.Nat.{_*_, _%_, _≤_, _<_, min};
-ghost use Rattle.homes.specs.Homes.{InRange, Ready, shapeOf, homeIn, newPage, moved};
-ghost use Rattle.homes.specs.Stages.{firstStep, After, Sound};
-ghost use Rattle.homes.specs.Last.{Within, lastStep, staysAt};
+ghost use Rattle.homes.specs.Homes.{InRange, Ready, shapeOf, homeIn, newPage, movedTo};
+ghost use Rattle.homes.specs.steps.Stages.{firstStep, After, Bounded};
+ghost use Rattle.homes.specs.steps.Last.{Within, lastStep, staysAt};
 
 // The parameters of a file: pages a group and groups at the start, and sweeps.
 pub struct Params {
@@ -27,7 +27,8 @@ pub struct Stage {
     pub np: u64,
 }
 
-// The draw after a draw; after the seed, the first. The modulus is 2^31 - 1, so 2^31 counts as 1: the high bits are added to the low ones, and nothing is divided.
+// The draw after a draw; after the seed, the first. The modulus is 2^31 - 1, so 2^31 counts as 1:
+// the high bits are added to the low ones, and nothing is divided.
 pub fn next_draw(draw: u32) -> u32
     requires { ⌜ draw < 2147483647 ⌝ }
     ensures { λ r. ⌜ r ≡ 16807 * draw % 2147483647 ⌝ }
@@ -61,7 +62,7 @@ fn new_page(s: u64, f: u64, g: u64, address: u64) -> u64
 // The address after a step. Where a mover goes is worked out only for a mover.
 fn step(s: u64, f: u64, g: u64, p: u64, moves: bool, address: u64) -> u64
     requires { ⌜ (1 ≤ s) × (1 ≤ g) × (g ≤ f) × (f < 4096) ⌝ }
-    ensures { λ r. ⌜ r ≡ moved p moves (newPage s f g address) address ⌝ }
+    ensures { λ r. ⌜ r ≡ movedTo p moves (newPage s f g address) address ⌝ }
 {
     if !moves {
         return address;
@@ -73,9 +74,9 @@ fn step(s: u64, f: u64, g: u64, p: u64, moves: bool, address: u64) -> u64
 impl Stage {
     // The step after a step.
     fn next(mut self, n0: u64) -> Self
-        requires { ⌜ Sound n0 self × (n0 ≤ 4) × (self .f < 4096) ⌝ }
+        requires { ⌜ Bounded n0 self × (n0 ≤ 4) × (self .f < 4096) ⌝ }
         ensures { λ r. ⌜ After n0 self r ⌝ }
-        ensures sound { λ r. ⌜ Sound n0 r ⌝ }
+        ensures sound { λ r. ⌜ Bounded n0 r ⌝ }
     {
         self.f += self.g;
         self.np += 1;
@@ -101,7 +102,7 @@ impl Shape {
     fn first(self) -> Stage
         requires { ⌜ Ready self ⌝ }
         ensures { λ r. ⌜ r ≡ firstStep self ⌝ }
-        ensures sound { λ r. ⌜ Sound (self .params .n0) r ⌝ }
+        ensures sound { λ r. ⌜ Bounded (self .params .n0) r ⌝ }
     {
         let n0 = self.params.n0 as u64;
         let n = self.params.n as u64;
@@ -147,7 +148,8 @@ impl Shape {
         stage
     }
 
-    // Whether all keys that had their home on a page before the last page was added have it there still. It tells so by the page's group alone, and may say no where all stay.
+    // Whether all keys that had their home on a page before the last page was added have it there
+    // still. It tells so by the page's group alone, and may say no where all stay.
     pub fn stays(self, last: Stage, page: u64) -> bool
         requires { ⌜ Ready self × Within last ⌝ }
         ensures { λ r. ⌜ r ≡ staysAt self last page ⌝ }

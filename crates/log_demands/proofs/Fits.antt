@@ -19,7 +19,7 @@ use Rattle.commands.specs.declared.Command.{Command}
 use Rattle.commands.specs.declared.Item.{Item}
 use Rattle.commands.specs.declared.Item.the-variants.{Asks, Unknown, Cut}
 use Rattle.commands.specs.Records.{lengthOf, formOf, commandOf, formed, firstOf}
-use Rattle.commands.specs.Carry.{callOf}
+use Rattle.commands.specs.Execute.{callOf}
 use Rattle.commands.proofs.Reading.{of-number}
 use Rattle.log_demands.specs.LogDemands.{onFirst, asked}
 

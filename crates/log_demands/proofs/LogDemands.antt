@@ -10,7 +10,7 @@ use lib.ListN.{length, drop}
 use borrow.Author.Tests.{eqb-true}
 use Rattle.placing.specs.Image.{All}
 use Rattle.state.specs.State.{all, inRange}
-use Rattle.register.specs.Gates.{gateOf, growGate}
+use Rattle.gates.specs.Gates.{gateOf, growGate}
 use Rattle.register.specs.Files.{left}
 use Rattle.demands.specs.Histories.{Kept}
 use Rattle.demands.specs.Demands.{Fresh}
@@ -20,7 +20,7 @@ use Rattle.commands.specs.declared.Command.the-variants.{Format, Put, Find, Rem
 use Rattle.commands.specs.declared.Item.{Item}
 use Rattle.commands.specs.declared.Item.the-variants.{Asks, Unknown, Cut}
 use Rattle.commands.specs.Records.{firstOf}
-use Rattle.commands.specs.Carry.{Site, carried}
+use Rattle.commands.specs.Execute.{Site, executed}
 use Rattle.commands.specs.Log.{waits, stops, onItem, turn, onTurn, log}
 use Rattle.commands.proofs.Reading.{head-cut}
 use Rattle.log_demands.specs.LogDemands.{onFirst, asked, keptBy, fileAt, AsCalled, AnswersOne, After, LogDemands}
@@ -30,14 +30,14 @@ use Rattle.log_demands.proofs.OneCommand.{Holds, command-keeps}
 -- the site that commands leave
 unfoldable afterAll : Site → List Command → Site
 afterAll d [] = d
-afterAll d (c ∷ cs) = afterAll (carried d c .site) cs
+afterAll d (c ∷ cs) = afterAll (executed d c .site) cs
 
 -- what commands keep is of the file after them
 commands-keep : (o : Option Kept) (d : Site) (cs : List Command) → All Fit cs → Holds o (d .state) (d .space)
     → Holds (keptBy o d cs) (afterAll d cs .state) (afterAll d cs .space)
 unfolding keptBy afterAll
 commands-keep o d [] w h = h
-commands-keep o d (c ∷ cs) w h = commands-keep _ (carried d c .site) cs (w .1) (command-keeps o d c (w .0) h)
+commands-keep o d (c ∷ cs) w h = commands-keep _ (executed d c .site) cs (w .1) (command-keeps o d c (w .0) h)
 
 -- a log leaves the site that the commands of its input leave
 log-site : (last : Bool) (room : ℕ) (d : Site) (l : List ℕ) → log last room d l .site ≡ afterAll d (asked room l)
@@ -55,7 +55,7 @@ log-site last (suc room) d l = go (eqb (length l) 0) refl (firstOf l) refl (λ e
     go true e i q k =
         let c : i ≡ Cut = sym q ∙ sym (head-cut l (omega (arith, eqb-true (length l) 0 e))) in
         rw c
-    go false e (Asks c n) q k = k (carried d c .site) n
+    go false e (Asks c n) q k = k (executed d c .site) n
     go false e Unknown q k = refl
     go false e Cut q k = cut last
 
@@ -68,7 +68,7 @@ fresh m d w =
 
 -- a command is called on the file at the site
 called : (d : Site) (c : Command) → AsCalled d c
-unfolding carried
+unfolding executed
 called d (Format q cap) = tt
 called d (Put x) = refl
 called d (Find k) = refl
@@ -78,7 +78,7 @@ called d Check = refl
 
 -- no call but a format takes a state that is all zero
 before : (space row : List ℕ) (c : Command) → AnswersOne space row c
-unfolding carried left gateOf growGate inRange all
+unfolding executed left gateOf growGate inRange all
 before space row (Format q cap) = tt
 before space row (Put x) = refl
 before space row (Find k) = refl
@@ -87,5 +87,5 @@ before space row Grow = refl
 before space row Check = refl
 
 pub log-demands : LogDemands
-unfolding carried
+unfolding executed
 log-demands = record { before = before; fresh = fresh; called = called; found = λ m d w. demands .found m (fileAt d) (fresh m d w) }

@@ -14,12 +14,12 @@ use Rattle.numbers.specs.Little.{written}
 use Rattle.numbers.proofs.Laws.{written-front, written-length}
 use Rattle.state.specs.declared.State.{State}
 use Rattle.register.specs.Files.{Call, format, find, put, remove, grow, check, File, Left, left, numbersOf}
-use Rattle.demands.specs.Histories.{Fits, refusal, Kept, without, holding, paged, begun, keeps}
+use Rattle.demands.specs.Histories.{Fits, refusal, Kept, without, holding, paged, begun, makes}
 use Rattle.demands.specs.Demands.{Fresh}
 use Rattle.demands.proofs.Demands.{demands}
 use Rattle.commands.specs.declared.Command.{Command}
 use Rattle.commands.specs.declared.Command.the-variants.{Format, Put, Find, Remove, Grow, Check}
-use Rattle.commands.specs.Carry.{Site, callOf, Carried, carries, refusedBy, calledWith, carried}
+use Rattle.commands.specs.Execute.{Site, callOf, Executed, carries, refusedBy, calledWith, executed}
 use Rattle.commands.proofs.Lending.{written-first}
 use Rattle.log_demands.proofs.Fits.{Fit}
 use Rattle.log_demands.proofs.OneMore.{fresh-more, fresh-format, format-lent, fresh-cap, fresh-length}
@@ -53,17 +53,18 @@ back-fresh m space l w h =
 
 -- what is kept after a call is of the file that it left
 abbrev KeepsBack : Option Kept → Call → List ℕ → Left → Type 0
-KeepsBack o c space l = HoldsBack (cond (eqb (numbersOf (l .said) .refusal) 0) (keeps o c) o) space l
+KeepsBack o c space l = HoldsBack (cond (eqb (numbersOf (l .said) .refusal) 0) (makes o c) o) space l
 
--- it is so of every call, since a refused one leaves the file, if it is so where the call is accepted
+-- it is so of every call, since a refused one leaves the file, if it is so where the call is
+-- accepted
 by-refusal : (o : Option Kept) (s : State) (space : List ℕ) (n : ℕ) (c : Call) → Holds o s space
-    → (refusal (firstOn s space n) c ≡ 0 → HoldsBack (keeps o c) space (left (firstOn s space n) c)) → KeepsBack o c space (left (firstOn s space n) c)
+    → (refusal (firstOn s space n) c ≡ 0 → HoldsBack (makes o c) space (left (firstOn s space n) c)) → KeepsBack o c space (left (firstOn s space n) c)
 by-refusal o s space n c h k = go (eqb (refusal f c) 0) refl
   where
     f : File
     f = firstOn s space n
 
-    go : (u : Bool) → eqb (refusal f c) 0 ≡ u → HoldsBack (cond u (keeps o c) o) space (left f c)
+    go : (u : Bool) → eqb (refusal f c) 0 ≡ u → HoldsBack (cond u (makes o c) o) space (left f c)
     go true e = k (eqb-true (refusal f c) 0 e)
     go false e = back-same o s space n (left f c) (demands .total f c (eqb-false (refusal f c) 0 e) .0) h
 
@@ -75,12 +76,13 @@ format-keeps o s space q cap h =
     (λ z. back-fresh (begun q cap) space (left (firstOn s space cap) (format q cap)) (fresh-format (firstOn s space cap) q cap z)
     (omega (arith, format-lent (firstOn s space cap) q cap z, length-take (256 * cap) space)))
 
--- of any other call: it goes on with the file on as many pages, and where nothing is kept it keeps nothing
+-- of any other call: it goes on with the file on as many pages, and where nothing is kept it keeps
+-- nothing
 module _ (c : Call) (fits : Fits c) (nothing : keeps none c ≡ none)
     (something : (m : Kept) → (new : Kept) × (keeps (some m) c ≡ some new) × (new .cap ≡ m .cap)) where
   -- where it is accepted
   accepted-keeps : (o : Option Kept) (s : State) (space : List ℕ) → Holds o s space → refusal (firstOn s space (s .cap)) c ≡ 0
-      → HoldsBack (keeps o c) space (left (firstOn s space (s .cap)) c)
+      → HoldsBack (makes o c) space (left (firstOn s space (s .cap)) c)
   accepted-keeps none s space h z = rw nothing tt
   accepted-keeps (some m) s space h z =
       let t = something m in
@@ -92,12 +94,12 @@ module _ (c : Call) (fits : Fits c) (nothing : keeps none c ≡ none)
   call-keeps o s space h = by-refusal o s space (s .cap) c h (accepted-keeps o s space h)
 
 -- what is kept after a command is of the file that it left
-abbrev Keeps : Option Kept → Command → Carried → Type 0
-Keeps o c r = Holds (cond (eqb (r .numbers .refusal) 0) (keeps o (callOf c [])) o) (r .site .state) (r .site .space)
+abbrev Keeps : Option Kept → Command → Executed → Type 0
+Keeps o c r = Holds (cond (eqb (r .numbers .refusal) 0) (makes o (callOf c [])) o) (r .site .state) (r .site .space)
 
 -- and it is so of every command
-pub command-keeps : (o : Option Kept) (d : Site) (c : Command) → Fit c → Holds o (d .state) (d .space) → Keeps o c (carried d c)
-unfolding carried
+pub command-keeps : (o : Option Kept) (d : Site) (c : Command) → Fit c → Holds o (d .state) (d .space) → Keeps o c (executed d c)
+unfolding executed
 command-keeps o d (Format q cap) w h = go (ltb 128 cap)
   where
     go : (u : Bool) → Keeps o (Format q cap) (cond u (carries (refusedBy 12) d) (calledWith d (Format q cap) cap))

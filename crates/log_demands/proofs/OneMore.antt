@@ -15,11 +15,11 @@ use Rattle.pages.proofs.Areas.{area-length}
 use Rattle.state.specs.declared.State.{State}
 use Rattle.state.specs.declared.Answer.the-variants.{Accepted, OutOfRange, WrongArea}
 use Rattle.state.specs.State.{inRange, fresh}
-use Rattle.register.specs.declared.Gate.the-variants.{Open, Shut}
-use Rattle.register.specs.Gates.{onGate, gateOf}
+use Rattle.gates.specs.declared.Gate.the-variants.{Open, Shut}
+use Rattle.gates.specs.Gates.{onGate, gateOf}
 use Rattle.register.specs.Calls.{done, Outcome, refused}
-use Rattle.register.specs.Files.{Call, format, File, wrote, left, numbersOf}
-use Rattle.demands.specs.Histories.{Fits, after, refusal, Kept, begun, keeps, kept}
+use Rattle.register.specs.Files.{Call, format, File, ofOutcome, left, numbersOf}
+use Rattle.demands.specs.Histories.{Fits, after, refusal, Kept, begun, makes, kept}
 use Rattle.demands.specs.Demands.{Fresh}
 use Rattle.demands.proofs.Demands.{demands}
 
@@ -62,7 +62,7 @@ format-lent f q cap = go (inRange (fresh q cap)) (eqb (length (f .area)) (256 * 
     new = record { done = done (fresh q cap) (Accepted 0 0 0); area = areaFrom 0 (replicate cap []) }
 
     go : (u v : Bool) → eqb (length (f .area)) (256 * cap) ≡ v
-        → numbersOf (wrote (onGate (cond u (cond v Open (Shut WrongArea)) (Shut OutOfRange)) (refused (f .state) (f .area)) new) .said) .refusal ≡ 0
+        → numbersOf (ofOutcome (onGate (cond u (cond v Open (Shut WrongArea)) (Shut OutOfRange)) (refused (f .state) (f .area)) new) .said) .refusal ≡ 0
         → length (f .area) ≡ 256 * cap
     go true true e z = eqb-true (length (f .area)) (256 * cap) e
     go true false e z = absurd (omega arith)

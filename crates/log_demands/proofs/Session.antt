@@ -1,4 +1,5 @@
--- 01's whole session, worked out by the definitions: bytes in, bytes out, and the file that it leaves. So the demands of a log speak of something.
+-- 01's whole session, worked out by the definitions: bytes in, bytes out, and the file that it
+-- leaves. So the demands of a log speak of something.
 use mathlib.Core.Path.{_≡_, refl}
 use mathlib.Core.Bool.{true}
 use mathlib.Core.List.{List, [], _∷_, _++_}
@@ -11,16 +12,16 @@ use Rattle.numbers.proofs.Laws.{bytes-append}
 use Rattle.numbers.proofs.Records.{bytes-encode}
 use Rattle.homes.specs.Homes.{draw, mover, swept, moved, nextGroups, steps, home}
 use Rattle.pages.specs.Page.{recordWith, pageBytes, recordsIn, wellFormed, readPage}
-use Rattle.pages.specs.Slots.{closed}
+use Rattle.pages.specs.Places.{closed}
 use Rattle.pages.specs.Area.{partAt}
 use Rattle.state.specs.State.{all, inRange}
 use Rattle.walks.specs.Walks.{walk, putWalk, removeWalk}
-use Rattle.register.specs.Gates.{gateOf}
+use Rattle.gates.specs.Gates.{gateOf}
 use Rattle.register.specs.Files.{left}
 use Rattle.demands.specs.Histories.{Kept}
 use Rattle.commands.specs.declared.Command.the-variants.{Format, Put, Find}
 use Rattle.commands.specs.Records.{formOf, firstOf, layoutOf}
-use Rattle.commands.specs.Carry.{Site, site, carried}
+use Rattle.commands.specs.Execute.{Site, site, executed}
 use Rattle.commands.specs.Log.{turn, log, wholeLog, bytesOfAll}
 use Rattle.log_demands.specs.LogDemands.{asked, keptBy, noFile, After}
 
@@ -45,7 +46,7 @@ output =
     ∷ []
 
 pub session : bytesOfAll (wholeLog start input .replies) ≡ output
-unfolding draw mover swept moved nextGroups steps home little bytesOf numberAt written encode pageBytes recordsIn wellFormed readPage partAt closed all inRange walk putWalk removeWalk gateOf left formOf firstOf carried turn log bytesOfAll
+unfolding draw mover swept moved nextGroups steps home little bytesOf numberAt written encode pageBytes recordsIn wellFormed readPage partAt closed all inRange walk putWalk removeWalk gateOf left formOf firstOf executed turn log bytesOfAll
 session = refl
 
 -- what it keeps: one record on one of two pages
@@ -60,5 +61,5 @@ bytes =
     (bytes-append (encode (layoutOf (Put (recordWith 5 9)))) (encode (layoutOf (Find 5))) (bytes-encode (layoutOf (Put (recordWith 5 9)))) (bytes-encode (layoutOf (Find 5))))
 
 pub session-after : After outcome (wholeLog start input .site)
-unfolding draw mover swept moved nextGroups steps home little bytesOf numberAt written encode pageBytes recordsIn wellFormed readPage partAt closed all inRange walk putWalk removeWalk gateOf left formOf firstOf carried asked keptBy
+unfolding draw mover swept moved nextGroups steps home little bytesOf numberAt written encode pageBytes recordsIn wellFormed readPage partAt closed all inRange walk putWalk removeWalk gateOf left formOf firstOf executed asked keptBy
 session-after = record { last = true; room = 44; start = start; input = input; bytes = bytes; keeps = refl; leaves = refl }

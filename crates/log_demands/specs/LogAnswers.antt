@@ -1,4 +1,5 @@
--- What the contracts of the log's functions allow (commands/src): each takes anything and settles its answer and all that it leaves, as a definition says.
+-- What the contracts of the log's functions allow (commands/src): each takes anything and settles
+-- its answer and all that it leaves, as a definition says.
 use Prim.Native.Nat.{ℕ, _/_}
 use mathlib.Core.List.{List}
 use lib.ListN.{length}
@@ -6,14 +7,15 @@ use denote.Ref.{now}
 use Rattle.numbers.specs.Little.{written}
 use Rattle.demands.specs.Answers.{Settled}
 use Rattle.commands.proofs.records.first as First
-use Rattle.commands.proofs.carry.carry_out as CarryOut
+use Rattle.commands.proofs.execute.execute as Execute
 use Rattle.commands.proofs.log as Whole
 use Rattle.commands.specs.declared.Ran.{Ran}
 use Rattle.commands.specs.Records.{firstOf}
-use Rattle.commands.specs.Carry.{site, carries, carried}
+use Rattle.commands.specs.Execute.{site, carries, executed}
 use Rattle.commands.specs.Log.{Log, log, bytesOfAll, ranOf}
 
--- what the code of a log comes to: how far it went, the bytes of its pages, the row, and the bytes where its replies stand
+-- what the code of a log comes to: how far it went, the bytes of its pages, the row, and the bytes
+-- where its replies stand
 pub record Came : Type 0 where
   pub ran : Ran
   pub space : List ℕ
@@ -24,11 +26,12 @@ pub record Came : Type 0 where
 abbrev pub cameTo : Log → (replies : List ℕ) → Came
 cameTo g replies = record { ran = ranOf g; space = g .site .space; row = g .site .row; replies = written replies 0 (bytesOfAll (g .replies)) }
 
--- The arguments stand in the order of the signature: a .0 is the first, a .1 .0 the second, and so on; v has a place for each, and in it what is left of what was lent to be changed.
+-- The arguments stand in the order of the signature: a .0 is the first, a .1 .0 the second, and so
+-- on; v has a place for each, and in it what is left of what was lent to be changed.
 pub record LogAnswers : Type 0 where
   pub first : Settled First.ended First.Reads.Asked First.Reads.Learnt (λ κs a. firstOf (now (a .0))) (λ κs a y v. y)
-  pub carry-out : Settled CarryOut.ended CarryOut.Reads.Asked CarryOut.Reads.Learnt
-      (λ κs a. carried (site (a .0) (now (a .1 .0)) (now (a .1 .1 .0))) (a .1 .1 .1 .0))
+  pub execute : Settled Execute.ended Execute.Reads.Asked Execute.Reads.Learnt
+      (λ κs a. executed (site (a .0) (now (a .1 .0)) (now (a .1 .1 .0))) (a .1 .1 .1 .0))
       (λ κs a y v. carries (y .numbers) (site (y .state) (v .1 .0) (v .1 .1 .0)))
   pub whole-log : Settled Whole.ended Whole.Reads.Asked Whole.Reads.Learnt
       (λ κs a.

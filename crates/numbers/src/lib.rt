@@ -1,4 +1,5 @@
-// Little-endian numbers of two, four and eight bytes, read from and written to lent bytes at an offset.
+// Little-endian numbers of two, four and eight bytes, read from and written to lent bytes at an
+// offset.
 ghost use mathlib.Core.Path.{_≡_};
 ghost use Prim.Native.Nat.{_+_, _^_, _≤_, _<_};
 ghost use lib.ListN.{length};

@@ -1,4 +1,6 @@
-// Judges one good page, and the same page with one number of it changed, a case for each page rule. The page is written here number by number, as the scope lays it out, and not by the code under test.
+// Judges one good page, and the same page with one number of it changed, a case for each page rule.
+// The page is written here number by number, as the scope lays it out, and not by the code under
+// test.
 use homes::Params;
 use homes::Shape;
 use libc::STDOUT_FILENO;

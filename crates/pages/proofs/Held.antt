@@ -6,7 +6,8 @@ use native.Mathlib.Omega.{arith}
 use lib.ListN.{length, take, drop, getD, replicate, length-map, List·getD-eq-default}
 use lib.Seq.{take-all, take-at, getD-at}
 use Rattle.pages.specs.Page.{Record, key, value, recordWith, padded, inMemory}
-use Rattle.pages.specs.Slots.{opened, closed, recordsOf, pushed}
+use Rattle.pages.specs.Places.{closed}
+use Rattle.pages.specs.steps.Slots.{opened, recordsOf, pushed}
 use Rattle.pages.specs.declared.Page.{Page}
 use Rattle.pages.specs.declared.Pushed.{Pushed}
 use Rattle.pages.proofs.Rows.{row-at, opened-length, opened-count, closed-length, opened-after, map-take, map-opened, map-closed, padded-opened, padded-closed}

@@ -11,9 +11,9 @@ use lib.ListN.{drop, getD, set, replicate, length-map, drop-of-length-le}
 use lib.Seq.{sets, drop-cons}
 use Rattle.pages.specs.declared.Page.{Page}
 use Rattle.pages.specs.Page.{Record, vacant, homeFor, countIn, recordsIn, padded, inMemory}
-use Rattle.pages.specs.Slots.{paired, recordsOf}
+use Rattle.pages.specs.steps.Slots.{paired, recordsOf}
 use Rattle.pages.specs.Area.{partAt}
-use Rattle.pages.specs.Known.{AllHere, OnceHere, Known, fullBefore, KnownAt}
+use Rattle.pages.specs.steps.Known.{AllHere, OnceHere, Known, fullBefore, KnownAt}
 use Rattle.pages.proofs.Memory.{page-records}
 use Rattle.pages.proofs.Read.{row-starts, length-held}
 use Rattle.pages.proofs.Seeking.{paired-length, paired-key}

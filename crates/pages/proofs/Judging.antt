@@ -14,7 +14,7 @@ use Rattle.pages.specs.declared.Page.{Page}
 use Rattle.pages.specs.declared.Judged.{Judged}
 use Rattle.pages.specs.Page.{Record, key, vacant, rank, homesTo, rises, wellFormed, recordsIn, readPage, padded, inMemory, judged}
 use Rattle.placing.specs.Lay.{ranked}
-use Rattle.pages.specs.Slots.{recordsOf}
+use Rattle.pages.specs.steps.Slots.{recordsOf}
 use Rattle.pages.proofs.Memory.{memory}
 use Rattle.pages.proofs.Held.{Held, held}
 use Rattle.pages.proofs.Read.{row-starts}
@@ -34,18 +34,19 @@ swap false b c d = refl
 
 module _ (h : ℕ → ℕ) (address : ℕ) where
   -- whether records keep to the rules, the first of them after rank r unless it is the first of all
-  abbrev pub keeps : (first : Bool) → ℕ → List Record → Bool
-  keeps first r [] = true
-  keeps first r (x ∷ rs) = (leb (h (key x)) address && (first || ltb r (rank h x))) && keeps false (rank h x) rs
+  abbrev pub goesOn : (first : Bool) → ℕ → List Record → Bool
+  goesOn first r [] = true
+  goesOn first r (x ∷ rs) = (leb (h (key x)) address && (first || ltb r (rank h x))) && goesOn false (rank h x) rs
 
-  -- after a record the others keep to the rules where their homes, and the order from it on, are right
-  keeps-on : (x : Record) (rs : List Record) → keeps false (rank h x) rs ≡ (homesTo h address rs && rises h (x ∷ rs))
+  -- after a record the others keep to the rules where their homes, and the order from it on, are
+  -- right
+  keeps-on : (x : Record) (rs : List Record) → goesOn false (rank h x) rs ≡ (homesTo h address rs && rises h (x ∷ rs))
   keeps-on x [] = refl
   keeps-on x (y ∷ rs) =
       rw (keeps-on y rs) (swap (leb (h (key y)) address) (ltb (rank h x) (rank h y)) (homesTo h address rs) (rises h (y ∷ rs)))
 
   -- all records keep to the rules where homes and order are right
-  keeps-all : (r : ℕ) (rs : List Record) → keeps true r rs ≡ (homesTo h address rs && rises h rs)
+  keeps-all : (r : ℕ) (rs : List Record) → goesOn true r rs ≡ (homesTo h address rs && rises h rs)
   keeps-all r [] = refl
   keeps-all r (x ∷ rs) = rw (keeps-on x rs) (swap (leb (h (key x)) address) true (homesTo h address rs) (rises h (x ∷ rs)))
 
@@ -69,8 +70,8 @@ module _ (h : ℕ → ℕ) (address : ℕ) (p : Page) where
   kept = homesTo h address rs && rises h rs
 
   -- what is left to judge, and to store of homes, from record i on, after rank r
-  abbrev pub Left : (homes : List ℕ) (r i : ℕ) → Type 0
-  Left homes r i = (i ≤ p .count) × (keeps h address (eqb i 0) r (drop i rs) ≡ kept)
+  abbrev pub ToJudge : (homes : List ℕ) (r i : ℕ) → Type 0
+  ToJudge homes r i = (i ≤ p .count) × (goesOn h address (eqb i 0) r (drop i rs) ≡ kept)
       × (sets homes i (map (λ x. h (key x)) (drop i rs)) ≡ padded (map (λ x. h (key x)) rs))
 
   -- there are as many as the page says
@@ -88,14 +89,14 @@ module _ (h : ℕ → ℕ) (address : ℕ) (p : Page) where
   next-record i l = drop-cons rs i vacant (omega (arith, records-length))
 
   -- at the start all is left
-  pub judging-starts : (r : ℕ) → p .count ≤ 12 → Left (replicate 12 0) r 0
+  pub judging-starts : (r : ℕ) → p .count ≤ 12 → ToJudge (replicate 12 0) r 0
   judging-starts r few =
       (omega arith, keeps-all h address r rs, row-starts (map (λ x. h (key x)) rs) (rw length-map (omega (arith, records-length))))
 
   -- a turn judges record i, whose home is worked out; `next` is whether it stands after rank r
-  module _ (homes : List ℕ) (r i home : ℕ) (next : Bool) (l : i < p .count) (e : home ≡ h (getD (p .keys) i 0)) (n : next ≡ ltb r (ranked home (getD (p .keys) i 0))) (left : Left homes r i) where
+  module _ (homes : List ℕ) (r i home : ℕ) (next : Bool) (l : i < p .count) (e : home ≡ h (getD (p .keys) i 0)) (n : next ≡ ltb r (ranked home (getD (p .keys) i 0))) (left : ToJudge homes r i) where
     -- what is judged then
-    judges : ((leb home address && (eqb i 0 || next)) && keeps h address false (ranked home (getD (p .keys) i 0)) (drop (suc i) rs)) ≡ kept
+    judges : ((leb home address && (eqb i 0 || next)) && goesOn h address false (ranked home (getD (p .keys) i 0)) (drop (suc i) rs)) ≡ kept
     judges = rw (next-record i l, next-key i l, ← e, ← n) at (left .1)
 
     -- what is stored then
@@ -109,13 +110,13 @@ module _ (h : ℕ → ℕ) (address : ℕ) (p : Page) where
         o ∙ judged-none (λ k. k) h ∙ rw no
 
     -- after one that keeps to them the others are left
-    pub judging-goes-on : (leb home address && (eqb i 0 || next)) ≡ true → Left (set homes i home) (ranked home (getD (p .keys) i 0)) (i + 1)
+    pub judging-goes-on : (leb home address && (eqb i 0 || next)) ≡ true → ToJudge (set homes i home) (ranked home (getD (p .keys) i 0)) (i + 1)
     judging-goes-on t =
         let later : eqb (suc i) 0 ≡ false = ne-eqb (suc i) 0 (λ z. omega arith) in
         (omega arith, rw (add-one, later) (rw t at judges), rw add-one stores)
 
   -- at the end the page is good
-  pub judging-ends : (homes : List ℕ) (r i : ℕ) → p .count ≤ i → p ≡ inMemory rs → Left homes r i
+  pub judging-ends : (homes : List ℕ) (r i : ℕ) → p .count ≤ i → p ≡ inMemory rs → ToJudge homes r i
       → _≡_ {A = Judged} (record { good = true; page = p; homes = homes }) (judged h (cond kept (some rs) none))
   unfolding judged
   judging-ends homes r i l m left =

@@ -5,7 +5,7 @@ use Prim.Native.Nat.{ℕ, _-_}
 use lib.ListN.{length, replicate}
 use Rattle.pages.specs.declared.Page.{Page}
 use Rattle.pages.specs.Page.{Record, key, value, inMemory}
-use Rattle.pages.specs.Slots.{paired, recordsOf}
+use Rattle.pages.specs.steps.Slots.{paired, recordsOf}
 
 paired-rows : (rs : List Record) (ks vs : List ℕ) → paired (length rs) (map key rs ++ ks) (map value rs ++ vs) ≡ rs
 paired-rows [] ks vs = refl

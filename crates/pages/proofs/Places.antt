@@ -14,7 +14,8 @@ use Rattle.placing.specs.Walks.{seek, lastAfter}
 use Rattle.placing.proofs.Lists.{all-map}
 use Rattle.placing.proofs.Order.{Sorted}
 use Rattle.placing.proofs.Seek.{seek-ne}
-use Rattle.pages.specs.Slots.{opened, ahead, upToBack}
+use Rattle.pages.specs.Places.{ahead}
+use Rattle.pages.specs.steps.Slots.{opened, upToBack}
 
 all-at : {R : Type 0} (P : R → Type 0) (n : ℕ) (s : List R) (d : R) → n < length s → All P s → P (getD s n d)
 all-at P n [] d l h = absurd (omega arith)

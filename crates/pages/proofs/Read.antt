@@ -1,4 +1,5 @@
--- What is read of a page's bytes: the records that they hold, and whether they are those of the records.
+-- What is read of a page's bytes: the records that they hold, and whether they are those of the
+-- records.
 use mathlib.Core.Path.{_≡_, refl, sym, ap, _∙_}
 use mathlib.Core.Bool.{Bool, true, false, cond, _&&_, and-true}
 use mathlib.Core.List.{List, [], map}
@@ -15,7 +16,7 @@ use Rattle.numbers.specs.Fields.{matches}
 use Rattle.numbers.proofs.Records.{matches-append}
 use Rattle.pages.specs.declared.Page.{Page}
 use Rattle.pages.specs.Page.{Record, key, value, recordWith, head, full, empty, slots, recordAt, recordsFrom, countIn, recordsIn, wellFormed, padded, inMemory}
-use Rattle.pages.specs.Slots.{recordsOf}
+use Rattle.pages.specs.steps.Slots.{recordsOf}
 use Rattle.pages.proofs.Memory.{memory}
 
 -- n equal numbers from place m on

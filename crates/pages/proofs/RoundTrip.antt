@@ -1,4 +1,5 @@
--- What is written is read back, and the bytes of a good page are those that its records are written as.
+-- What is written is read back, and the bytes of a good page are those that its records are written
+-- as.
 use mathlib.Core.Path.{_≡_, refl, sym, _∙_}
 use mathlib.Core.Bool.{Bool, true, false, cond, _&&_}
 use mathlib.Core.Option.{none, some}

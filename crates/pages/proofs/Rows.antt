@@ -8,7 +8,8 @@ use native.Mathlib.Omega.{arith}
 use lib.ListN.{length, take, drop, getD, set, replicate, length-take, drop-of-length-le, replicate-append-replicate}
 use lib.Seq.{take-nil, set-split}
 use Rattle.pages.specs.Page.{padded}
-use Rattle.pages.specs.Slots.{opened, closed}
+use Rattle.pages.specs.Places.{closed}
+use Rattle.pages.specs.steps.Slots.{opened}
 
 module _ {A : Type 0} where
   -- a number of an element stands in the row of these numbers at the element's place

@@ -6,21 +6,21 @@ use Prim.Native.Nat.{ℕ, _≤_, _<_}
 use lib.Dec.{leb, ltb}
 use borrow.Author.Tests.{leb-true, ltb-true, le-leb, lt-ltb}
 use Rattle.numbers.proofs.Records.{and-left, and-right}
-use Rattle.placing.specs.Image.{All, home}
+use Rattle.placing.specs.Image.{All, homeOf}
 use Rattle.placing.specs.Lay.{rankIn}
 use Rattle.placing.proofs.Order.{Sorted, lower}
 use Rattle.pages.specs.Page.{Record, key, rank, homesTo, rises}
 
 module _ (h : ℕ → ℕ) where
   -- homes at an address or lower
-  pub homes-all : (a : ℕ) (rs : List Record) → homesTo h a rs ≡ true → All (λ x. home key h x ≤ a) rs
+  pub homes-all : (a : ℕ) (rs : List Record) → homesTo h a rs ≡ true → All (λ x. homeOf key h x ≤ a) rs
   homes-all a [] e = tt
   homes-all a (x ∷ rs) e = (
     leb-true (h (key x)) a (and-left (leb (h (key x)) a) (homesTo h a rs) e),
     homes-all a rs (and-right (leb (h (key x)) a) (homesTo h a rs) e),
   )
 
-  pub all-homes : (a : ℕ) (rs : List Record) → All (λ x. home key h x ≤ a) rs → homesTo h a rs ≡ true
+  pub all-homes : (a : ℕ) (rs : List Record) → All (λ x. homeOf key h x ≤ a) rs → homesTo h a rs ≡ true
   all-homes a [] k = refl
   all-homes a (x ∷ rs) k = rw (le-leb (h (key x)) a (k .0)) (all-homes a rs (k .1))
 

@@ -12,7 +12,8 @@ use lib.ListN.{length, drop, getD}
 use Rattle.pages.specs.declared.Page.{Page}
 use Rattle.pages.specs.Page.{Record, key, vacant, homeFor, rank, padded}
 use Rattle.placing.specs.Lay.{ranked}
-use Rattle.pages.specs.Slots.{ahead, upToBack, paired, recordsOf}
+use Rattle.pages.specs.Places.{ahead}
+use Rattle.pages.specs.steps.Slots.{upToBack, paired, recordsOf}
 use Rattle.pages.proofs.Rows.{row-at}
 
 -- the order of (home, key) is that of the ranks

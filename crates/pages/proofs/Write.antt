@@ -58,7 +58,8 @@ slot-empty [] a b (suc i) n h = rw (zeros a, zeros b)
 slot-empty (x ∷ rs) a b zero n h = absurd (omega arith)
 slot-empty (x ∷ rs) a b (suc i) n h = slot-empty rs a b i n (omega arith)
 
--- what is left to write at place i is a slot of this kind with what stands in both rows, and then what is left at the next place
+-- what is left to write at place i is a slot of this kind with what stands in both rows, and then
+-- what is left at the next place
 abbrev pub Next : ℕ → ℕ → List ℕ → List ℕ → List Record → Type 0
 Next i kind ks vs rs = slots (12 - i) (drop i rs) ≡ slot kind (recordWith (getD ks i 0) (getD vs i 0)) ++ slots (12 - (i + 1)) (drop (i + 1) rs)
 

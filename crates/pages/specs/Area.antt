@@ -15,7 +15,8 @@ abbrev pub pagesFrom : (ℕ → ℕ) → List ℕ → (n a : ℕ) → List (Opti
 pagesFrom h area zero a = []
 pagesFrom h area (suc n) a = readPage h a (partAt area a) ∷ pagesFrom h area n (suc a)
 
--- what stands at the places of the records of n pages from address a on, whether or not they are broken
+-- what stands at the places of the records of n pages from address a on, whether or not they are
+-- broken
 abbrev pub heldFrom : List ℕ → (n a : ℕ) → List (List Record)
 heldFrom area zero a = []
 heldFrom area (suc n) a = recordsIn (partAt area a) ∷ heldFrom area n (suc a)

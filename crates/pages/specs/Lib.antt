@@ -1,4 +1,4 @@
 pub mod Page
-pub mod Slots
+pub mod Places
 pub mod Area
-pub mod Known
+pub mod steps

@@ -37,7 +37,8 @@ homeFor h x = h (key x)
 abbrev pub rank : (ℕ → ℕ) → Record → ℕ
 rank h x = ranked (homeFor h x) (key x)
 
--- "Head, 16 bytes: length 256 (2), kind 0x0011 (2), page address (4), records used (2), six zero bytes."
+-- "Head, 16 bytes: length 256 (2), kind 0x0011 (2), page address (4), records used (2), six zero
+-- bytes."
 abbrev pub head : (address used : ℕ) → List Field
 head address used = (2, 256) ∷ (2, 17) ∷ (4, address) ∷ (2, used) ∷ (2, 0) ∷ (4, 0) ∷ []
 
@@ -46,18 +47,18 @@ abbrev pub slot : (kind : ℕ) → Record → List Field
 slot kind x = (2, 20) ∷ (2, kind) ∷ (8, key x) ∷ (8, value x) ∷ []
 
 -- "Kind 1 is a record."
-abbrev pub full : Record → List Field
-full x = slot 1 x
+abbrev pub recordSlot : Record → List Field
+recordSlot x = slot 1 x
 
 -- "Kind 0 is empty, with key and value zero."
-abbrev pub empty : List Field
-empty = slot 0 vacant
+abbrev pub emptySlot : List Field
+emptySlot = slot 0 vacant
 
 -- n slots: "Records stand first, empty slots after."
 abbrev pub slots : ℕ → List Record → List Field
 slots zero rs = []
-slots (suc n) [] = empty ++ slots n []
-slots (suc n) (x ∷ rs) = full x ++ slots n rs
+slots (suc n) [] = emptySlot ++ slots n []
+slots (suc n) (x ∷ rs) = recordSlot x ++ slots n rs
 
 -- the head, "Then 12 slots of 20 bytes"
 abbrev pub fields : ℕ → List Record → List Field
@@ -84,7 +85,8 @@ countIn l = min 12 (numberAt 2 l 8)
 unfoldable pub recordsIn : List ℕ → List Record
 recordsIn l = recordsFrom (countIn l) 0 l
 
--- "the head is exact; slots are well formed; the count is right": the bytes are those of the records that they hold
+-- "the head is exact; slots are well formed; the count is right": the bytes are those of the
+-- records that they hold
 unfoldable pub wellFormed : (address : ℕ) → List ℕ → Bool
 wellFormed address l = matches l 0 (fields address (recordsIn l))
 

@@ -1,4 +1,5 @@
-// The homes of a page's records where most of them are known: after a check, a growth leaves nearly all records at home on the page where they lie.
+// The homes of a page's records where most of them are known: after a check, a growth leaves nearly
+// all records at home on the page where they lie.
 use crate::Page;
 use homes::Shape;
 use homes::Stage;
@@ -7,13 +8,14 @@ ghost use mathlib.Core.List.{map};
 ghost use Prim.Native.Nat.{_+_, _*_, _≤_, _<_};
 ghost use lib.ListN.{length};
 ghost use Rattle.homes.specs.Homes.{Ready, homeIn};
-ghost use Rattle.homes.specs.Last.{Within, staysAt};
+ghost use Rattle.homes.specs.steps.Last.{Within, staysAt};
 ghost use Rattle.pages.specs.Page.{homeFor, recordsIn, inMemory, padded};
-ghost use Rattle.pages.specs.Slots.{recordsOf};
+ghost use Rattle.pages.specs.steps.Slots.{recordsOf};
 ghost use Rattle.pages.specs.Area.{partAt};
-ghost use Rattle.pages.specs.Known.{Known, KnownAt, fullBefore};
+ghost use Rattle.pages.specs.steps.Known.{Known, KnownAt, fullBefore};
 
-// The homes of the records of page a. `all` says that each is at home there, `once` that each after one that is; any other home is worked out.
+// The homes of the records of page a. `all` says that each is at home there, `once` that each after
+// one that is; any other home is worked out.
 fn homes_on(page: Page, a: u64, shape: Shape, all: bool, once: bool) -> [u64; 12]
     requires { ⌜ (page .count ≤ 12) × Ready shape × Known (homeIn shape) a all once (recordsOf page) ⌝ }
     ensures { λ r. ⌜ r ≡ padded (map (homeFor (homeIn shape)) (recordsOf page)) ⌝ }

@@ -15,7 +15,7 @@ ghost use Rattle.numbers.specs.Little.{numberAt, written};
 ghost use Rattle.homes.specs.Homes.{Ready, homeIn};
 ghost use Rattle.pages.specs.Page.{recordWith, head, slot, full, empty, slots, pageBytes, countIn, recordsIn, recordsFrom, wellFormed, homesTo, rises, readPage, inMemory, judged};
 ghost use Rattle.placing.specs.Lay.{ranked};
-ghost use Rattle.pages.specs.Slots.{recordsOf};
+ghost use Rattle.pages.specs.steps.Slots.{recordsOf};
 ghost use Rattle.pages.specs.Area.{partAt, withPage};
 
 // The key is a request number, the value the commit that it became.

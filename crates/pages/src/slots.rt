@@ -10,9 +10,11 @@ ghost use lib.ListN.{take};
 ghost use Rattle.homes.specs.Homes.{Ready, homeIn};
 ghost use Rattle.pages.specs.Page.{vacant, rank, inMemory};
 ghost use Rattle.placing.specs.Lay.{ranked};
-ghost use Rattle.pages.specs.Slots.{opened, closed, ahead, upToBack, recordsOf, pushed};
+ghost use Rattle.pages.specs.Places.{closed, ahead};
+ghost use Rattle.pages.specs.steps.Slots.{opened, upToBack, recordsOf, pushed};
 
-// How many records of a page stand before (home, key), from the front. Their homes are worked out as they are met.
+// How many records of a page stand before (home, key), from the front. Their homes are worked out
+// as they are met.
 pub fn place_ahead(page: Page, shape: Shape, home: u64, key: u64) -> usize
     requires { ⌜ (page .count ≤ 12) × Ready shape ⌝ }
     ensures { λ r. ⌜ r ≡ ahead (rank (homeIn shape)) (ranked home key) (recordsOf page) ⌝ }
@@ -77,7 +79,8 @@ fn close_row(row: [u64; 12], at: usize) -> [u64; 12]
     out
 }
 
-// A page with one record more at a place. Of thirteen the last comes back; where there are no thirteen, the record itself does.
+// A page with one record more at a place. Of thirteen the last comes back; where there are no
+// thirteen, the record itself does.
 pub fn push(page: Page, at: usize, new: Record) -> Pushed
     requires { ⌜ (page .count ≤ 12) × (at ≤ page .count) × (page ≡ inMemory (recordsOf page)) ⌝ }
     ensures { λ r. ⌜ r ≡ pushed at new (recordsOf page) ⌝ }

@@ -5,7 +5,7 @@ use Prim.Native.Nat.{ℕ, zero, suc, _+_, _≤_, _<_}
 use native.Mathlib.Omega.{arith}
 use native.Mathlib.Decide.{decLt}
 use lib.ListN.{length, take, length-append, List·getD-eq-default}
-use Rattle.placing.specs.Image.{cat, page, home, Arrangement, NoGap}
+use Rattle.placing.specs.Image.{cat, page, homeOf, Arrangement, NoGap}
 use Rattle.placing.specs.Lay.{taken}
 use Rattle.placing.proofs.Taken.{packed-below, taken-cong}
 use Rattle.placing.proofs.Perms.{perm-upTo}
@@ -22,10 +22,10 @@ module _ {R : Type 0} where
 module _ {R : Type 0} (key : R → ℕ) (h : ℕ → ℕ) (b : ℕ) where
   -- the pages below a hold what they can take
   below : {n : ℕ} {s : List R} {ps : List (List R)} → Arrangement key h b n s ps → NoGap key h b ps → (a : ℕ) → a ≤ n
-      → length (cat (take a ps) []) ≡ taken (home key h) b s a
+      → length (cat (take a ps) []) ≡ taken (homeOf key h) b s a
   below {s = s} {ps = ps} i full a l =
-      sym (packed-below (home key h) b ps [] a (omega (arith, i .many)) (arranged-packed key h b i full))
-      ∙ taken-cong (home key h) b (cat ps []) s (λ j. perm-upTo (home key h) j (i .holds)) a
+      sym (packed-below (homeOf key h) b ps [] a (omega (arith, i .many)) (arranged-packed key h b i full))
+      ∙ taken-cong (homeOf key h) b (cat ps []) s (λ j. perm-upTo (homeOf key h) j (i .holds)) a
 
   -- "The number of records on each page is the same either way."
   pub page-counts : {n : ℕ} {s t : List R} {ps qs : List (List R)} → List·Permᴰ s t → Arrangement key h b n s ps → NoGap key h b ps
@@ -33,7 +33,7 @@ module _ {R : Type 0} (key : R → ℕ) (h : ℕ → ℕ) (b : ℕ) where
   page-counts {n} {s} {t} {ps} {qs} p i full j full′ a = go (decLt a n)
     where
       same : (c : ℕ) → c ≤ n → length (cat (take c ps) []) ≡ length (cat (take c qs) [])
-      same c l = below i full c l ∙ taken-cong (home key h) b s t (λ k. perm-upTo (home key h) k p) c ∙ sym (below j full′ c l)
+      same c l = below i full c l ∙ taken-cong (homeOf key h) b s t (λ k. perm-upTo (homeOf key h) k p) c ∙ sym (below j full′ c l)
 
       go : Dec (a < n) → length (page ps a) ≡ length (page qs a)
       go (yes l) = omega (arith, next-page ps a, next-page qs a, same a (omega arith), same (suc a) (omega arith))

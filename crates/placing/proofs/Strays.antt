@@ -1,4 +1,5 @@
--- Records that lie on another page than before: none where a page is left as it is, and one for each time that a put's walk hands one on.
+-- Records that lie on another page than before: none where a page is left as it is, and one for
+-- each time that a put's walk hands one on.
 use mathlib.Core.Path.{_≡_, refl, sym, ap, _∙_}
 use mathlib.Core.Bool.{Bool, true, false, cond, not}
 use mathlib.Core.Option.{Option, none, some}

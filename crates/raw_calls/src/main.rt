@@ -1,4 +1,5 @@
-// Single calls on any bytes: each record brings its own state, area and row, and the reply gives them back as the call left them.
+// Single calls on any bytes: each record brings its own state, area and row, and the reply gives
+// them back as the call left them.
 mod records;
 
 use homes::Params;
@@ -23,7 +24,8 @@ fn format(state: State, area: &mut [u8], a: u64) -> Done {
     register::format(state, params, cap, area)
 }
 
-// Whether growth is due is told with every reply: asked for alone, it is an accepted call that does nothing.
+// Whether growth is due is told with every reply: asked for alone, it is an accepted call that does
+// nothing.
 fn due(state: State) -> Done {
     let answer = Answer::Accepted {
         value: 0,
@@ -86,7 +88,8 @@ fn answer_next(body: &mut [u8], row: &mut [u32]) -> bool
     answer(asked, &mut body[..end], &mut row[..counts])
 }
 
-// A proved loop has to end, and nothing says that an input does: it counts its turns down, from a number that no run uses up.
+// A proved loop has to end, and nothing says that an input does: it counts its turns down, from a
+// number that no run uses up.
 fn main() {
     let mut body = [0u8; 16896];
     let mut row = [0u32; 128];

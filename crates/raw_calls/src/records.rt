@@ -1,4 +1,5 @@
-// The records of raw calls: 44 bytes of numbers, then the area and the row; a reply has 50 bytes of numbers before them.
+// The records of raw calls: 44 bytes of numbers, then the area and the row; a reply has 50 bytes of
+// numbers before them.
 use homes::Params;
 use state::Done;
 use state::Numbers;

@@ -17,10 +17,11 @@ use Rattle.pages.proofs.Areas.{held-length}
 use Rattle.pages.specs.Page.{Record, key, homeFor}
 use Rattle.pages.specs.Area.{heldFrom, areaFrom}
 use Rattle.entries.specs.declared.Entry.{Entry}
-use Rattle.entries.specs.Entries.{entriesIn, rowBytes, rank, home}
+use Rattle.entries.specs.steps.Entries.{entriesIn, rowBytes, rank, home}
 use Rattle.entries.proofs.Entries.{Fits}
 use Rattle.entries.proofs.Rows.{row-length, entries-row}
-use Rattle.rebuild.specs.Rebuild.{packed, recordIn, hopsFrom, relaid}
+use Rattle.rebuild.specs.Relaid.{relaid}
+use Rattle.rebuild.specs.steps.Rebuild.{packed, recordIn, hopsFrom}
 use Rattle.rebuild.proofs.Tags.{entries-few}
 use Rattle.rebuild.proofs.Fitting.{held-fit}
 use Rattle.rebuild.proofs.Commuting.{all-sort, pages-relaid, pages-distinct, pages-sorted, pages-room}

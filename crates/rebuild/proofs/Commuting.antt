@@ -15,9 +15,10 @@ use Rattle.placing.proofs.Taken.{taken-cong}
 use Rattle.placing.proofs.Rank.{distinct-rank}
 use Rattle.pages.specs.Page.{Record, key, homeFor}
 use Rattle.entries.specs.declared.Entry.{Entry}
-use Rattle.entries.specs.Entries.{rank, home}
+use Rattle.entries.specs.steps.Entries.{rank, home}
 use Rattle.pages.proofs.Rows.{map-take}
-use Rattle.rebuild.specs.Rebuild.{tagged, taggedFrom, recordIn, relaid}
+use Rattle.rebuild.specs.Relaid.{relaid}
+use Rattle.rebuild.specs.steps.Rebuild.{tagged, taggedFrom, recordIn}
 
 module _ {A B : Type 0} (f : A → B) where
   map-drop : (n : ℕ) (s : List A) → map f (drop n s) ≡ drop n (map f s)

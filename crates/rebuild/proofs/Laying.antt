@@ -1,4 +1,5 @@
--- Sorted entries laid on the pages from below: a page ends at or below the first entry that is not yet read.
+-- Sorted entries laid on the pages from below: a page ends at or below the first entry that is not
+-- yet read.
 use mathlib.Core.Path.{_≡_, refl, sym, ap, _∙_}
 use mathlib.Core.Bool.{Bool, true, false, cond, not}
 use mathlib.Core.List.{List, [], _∷_, _++_, map, append-assoc, append-nil}
@@ -18,15 +19,15 @@ use Rattle.placing.proofs.Order.{Sorted, sorted-drop}
 use Rattle.placing.proofs.Laid.{over, laid}
 use Rattle.placing.proofs.Taken.{packed-taken}
 use Rattle.pages.specs.Page.{Record, pageBytes, inMemory}
-use Rattle.pages.specs.Slots.{recordsOf}
+use Rattle.pages.specs.steps.Slots.{recordsOf}
 use Rattle.pages.specs.Area.{areaFrom, withPage}
 use Rattle.pages.proofs.Memory.{memory}
 use Rattle.pages.proofs.Write.{page-length}
 use Rattle.pages.proofs.Read.{ready}
 use Rattle.entries.specs.declared.Entry.{Entry}
-use Rattle.entries.specs.Entries.{entriesIn, rank, home}
+use Rattle.entries.specs.steps.Entries.{entriesIn, rank, home}
 use Rattle.rebuild.specs.declared.Took.{Took}
-use Rattle.rebuild.specs.Rebuild.{recordIn, fitting, hops, hopsFrom, took}
+use Rattle.rebuild.specs.steps.Rebuild.{recordIn, fitting, hops, hopsFrom, took}
 use Rattle.rebuild.proofs.Reading.{Whole, left-length, left-behind}
 use Rattle.rebuild.proofs.Take.{fitting-few, fitting-length}
 

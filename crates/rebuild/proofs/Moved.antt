@@ -1,4 +1,5 @@
--- An entry comes from another page than the one on which it is laid exactly where that page did not hold its key.
+-- An entry comes from another page than the one on which it is laid exactly where that page did not
+-- hold its key.
 use mathlib.Core.Path.{_≡_, refl, sym, ap, _∙_}
 use mathlib.Core.Bool.{Bool, true, false, cond}
 use mathlib.Core.Option.{Option, some}
@@ -16,8 +17,9 @@ use Rattle.placing.proofs.Lists.{all-map, all-map₂, all-append, all-right, al
 use Rattle.placing.proofs.Seek.{ne-seek}
 use Rattle.pages.specs.Page.{Record, key}
 use Rattle.entries.specs.declared.Entry.{Entry}
-use Rattle.entries.specs.Entries.{rank, home}
-use Rattle.rebuild.specs.Rebuild.{tagged, taggedFrom, recordIn, hops, hopsFrom, relaid}
+use Rattle.entries.specs.steps.Entries.{rank, home}
+use Rattle.rebuild.specs.Relaid.{relaid}
+use Rattle.rebuild.specs.steps.Rebuild.{tagged, taggedFrom, recordIn, hops, hopsFrom}
 use Rattle.rebuild.proofs.Commuting.{all-drop, all-sort, all-records, pages-records, pages-relaid}
 
 module _ {R : Type 0} (key : R → ℕ) where

@@ -1,4 +1,5 @@
--- The turns of packing: a page's records downward from its last, and the pages downward from the last.
+-- The turns of packing: a page's records downward from its last, and the pages downward from the
+-- last.
 use mathlib.Core.Path.{_≡_, refl, sym, ap, _∙_}
 use mathlib.Core.Bool.{Bool}
 use mathlib.Core.List.{List, [], _∷_, _++_, append-assoc, append-nil}
@@ -11,16 +12,16 @@ use Rattle.numbers.specs.Little.{written}
 use Rattle.numbers.proofs.Laws.{written-nil}
 use Rattle.pages.specs.declared.Page.{Page}
 use Rattle.pages.specs.Page.{Record, recordWith, recordsIn, inMemory}
-use Rattle.pages.specs.Slots.{paired, recordsOf}
+use Rattle.pages.specs.steps.Slots.{paired, recordsOf}
 use Rattle.pages.specs.Area.{partAt, heldFrom}
-use Rattle.pages.specs.Known.{KnownAt}
+use Rattle.pages.specs.steps.Known.{KnownAt}
 use Rattle.pages.proofs.Memory.{page-count, page-records}
 use Rattle.pages.proofs.Read.{held-few}
 use Rattle.pages.proofs.Seeking.{paired-length}
 use Rattle.entries.specs.declared.Entry.{Entry}
-use Rattle.entries.specs.Entries.{entryBytes, rowBytes}
+use Rattle.entries.specs.steps.Entries.{entryBytes, rowBytes}
 use Rattle.entries.proofs.Rows.{row-length, row-append}
-use Rattle.rebuild.specs.Rebuild.{tagged, taggedFrom, packed}
+use Rattle.rebuild.specs.steps.Rebuild.{tagged, taggedFrom, packed}
 use Rattle.rebuild.proofs.Tags.{tagged-append, tagged-length, entries-few}
 
 -- two writes, the second where it ends at the first, are one

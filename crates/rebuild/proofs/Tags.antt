@@ -12,7 +12,7 @@ use Rattle.pages.specs.Page.{Record, inMemory, recordsIn}
 use Rattle.pages.specs.Area.{partAt, heldFrom}
 use Rattle.pages.proofs.Memory.{page-count}
 use Rattle.pages.proofs.Read.{held-few}
-use Rattle.rebuild.specs.Rebuild.{tagged, taggedFrom}
+use Rattle.rebuild.specs.steps.Rebuild.{tagged, taggedFrom}
 
 pub tagged-append : (h : ℕ → ℕ) (a : ℕ) (p q : List Record) → tagged h a (p ++ q) ≡ tagged h a p ++ tagged h a q
 tagged-append h a [] q = refl

@@ -14,9 +14,9 @@ use Rattle.placing.specs.Lay.{one}
 use Rattle.pages.specs.Page.{key, value, padded, inMemory}
 use Rattle.pages.proofs.Read.{row-starts}
 use Rattle.entries.specs.declared.Entry.{Entry}
-use Rattle.entries.specs.Entries.{home, entryAt, entriesIn}
+use Rattle.entries.specs.steps.Entries.{home, entryAt, entriesIn}
 use Rattle.rebuild.specs.declared.Took.{Took}
-use Rattle.rebuild.specs.Rebuild.{recordIn, fitting, hops, took}
+use Rattle.rebuild.specs.steps.Rebuild.{recordIn, fitting, hops, took}
 use Rattle.rebuild.proofs.Reading.{Whole, left-first, left-none}
 
 -- as many as fit are no more than there are slots

@@ -1,4 +1,5 @@
-// A file made anew in its own area: its records packed as entries at the top end, sorted by (home, key), and laid on the pages from below.
+// A file made anew in its own area: its records packed as entries at the top end, sorted by (home,
+// key), and laid on the pages from below.
 use entries::Entry;
 use homes::Shape;
 use homes::Stage;
@@ -12,17 +13,18 @@ ghost use lib.ListN.{length, take, drop};
 ghost use lib.Dec.{eqb};
 ghost use Rattle.numbers.specs.Little.{written};
 ghost use Rattle.homes.specs.Homes.{Ready, homeIn};
-ghost use Rattle.homes.specs.Last.{Within, staysAt};
+ghost use Rattle.homes.specs.steps.Last.{Within, staysAt};
 ghost use Rattle.placing.specs.Image.{RecordSet, cat};
 ghost use Rattle.placing.specs.Lay.{one, lay, taken};
 ghost use Rattle.placing.specs.Rows.{strayed};
 ghost use Rattle.placing.proofs.Order.{Sorted};
 ghost use Rattle.pages.specs.Page.{key, homeFor, padded};
-ghost use Rattle.pages.specs.Slots.{recordsOf};
+ghost use Rattle.pages.specs.steps.Slots.{recordsOf};
 ghost use Rattle.pages.specs.Area.{heldFrom, areaFrom};
-ghost use Rattle.pages.specs.Known.{KnownAt};
-ghost use Rattle.entries.specs.Entries.{entriesIn, rowBytes, rank, home};
-ghost use Rattle.rebuild.specs.Rebuild.{tagged, packed, recordIn, hopsFrom, took, relaid};
+ghost use Rattle.pages.specs.steps.Known.{KnownAt};
+ghost use Rattle.entries.specs.steps.Entries.{entriesIn, rowBytes, rank, home};
+ghost use Rattle.rebuild.specs.Relaid.{relaid};
+ghost use Rattle.rebuild.specs.steps.Rebuild.{tagged, packed, recordIn, hopsFrom, took};
 
 // A page filled from entries: where the next entry stands, and how many came from another page.
 pub struct Took {
@@ -31,7 +33,8 @@ pub struct Took {
     pub moved: u32,
 }
 
-// The records of page a with their homes as entries, the last first, downward from `top`; the answer is where they begin.
+// The records of page a with their homes as entries, the last first, downward from `top`; the
+// answer is where they begin.
 fn pack_page(
     area: &mut [u8],
     page: Page,
@@ -64,7 +67,8 @@ fn pack_page(
     at
 }
 
-// All records of an area as entries at its top end, in the order of the pages; the answer is where they begin. A page is read before entries may cover it.
+// All records of an area as entries at its top end, in the order of the pages; the answer is where
+// they begin. A page is read before entries may cover it.
 pub fn pack(area: &mut [u8], cap: usize, shape: Shape, last: Stage) -> usize
     requires { ⌜ (cap ≤ 4096) × (length (now area) ≡ 256 * cap) × Ready shape ⌝ }
     requires { ⌜ Within last × ((a : ℕ) → a < cap → KnownAt (homeIn shape) (staysAt shape last) (now area) a) ⌝ }
@@ -118,7 +122,8 @@ fn strange(from: u16, a: usize) -> u32
     if from as usize == a { 0 } else { 1 }
 }
 
-// Sorted entries at the top end of an area laid on its pages; the answer is how many came from another page. Where all have room, a page ends below the first entry that is not yet read.
+// Sorted entries at the top end of an area laid on its pages; the answer is how many came from
+// another page. Where all have room, a page ends below the first entry that is not yet read.
 pub fn unpack(area: &mut [u8], cap: usize, base: usize) -> u32
     requires { ⌜ (cap ≤ 4096) × (length (now area) ≡ 256 * cap) × (base ≤ 256 * cap) × (256 * cap ≡ base + 20 * ((256 * cap - base) / 20)) ⌝ }
     requires { ⌜ Sorted rank (entriesIn (drop base (now area))) × (taken home 12 (entriesIn (drop base (now area))) cap ≡ length (entriesIn (drop base (now area)))) ⌝ }
@@ -139,7 +144,8 @@ pub fn unpack(area: &mut [u8], cap: usize, base: usize) -> u32
     moved
 }
 
-// The records of an area laid anew, in a file that grew by the step `last`; the answer is how many lie on another page.
+// The records of an area laid anew, in a file that grew by the step `last`; the answer is how many
+// lie on another page.
 pub fn rebuild(area: &mut [u8], cap: usize, shape: Shape, last: Stage) -> u32
     requires { ⌜ (cap ≤ 4096) × (length (now area) ≡ 256 * cap) × Ready shape ⌝ }
     requires { ⌜ Within last × ((a : ℕ) → a < cap → KnownAt (homeIn shape) (staysAt shape last) (now area) a) ⌝ }

@@ -1,4 +1,5 @@
--- The slip: forty bytes by which a program in another language hands a call the state of its file, and is handed the state and the answer. What is quoted is 01's.
+-- The slip: forty bytes by which a program in another language hands a call the state of its file,
+-- and is handed the state and the answer. What is quoted is 01's.
 use Prim.Native.Nat.{ℕ}
 use mathlib.Core.Bool.{Bool, cond}
 use mathlib.Core.List.{List, [], _∷_, _++_}
@@ -15,7 +16,8 @@ use Rattle.register.specs.Files.{Call, grow, File, Left, left, numbersOf}
 abbrev pub isSlip : List ℕ → Bool
 isSlip l = eqb (length l) 40
 
--- the state that a slip brings: "n0 .., N .., s .., P .., cap .., r". Bytes 10 and 11 aren't looked at, nor are those of an answer.
+-- the state that a slip brings: "n0 .., N .., s .., P .., cap .., r". Bytes 10 and 11 aren't looked
+-- at, nor are those of an answer.
 abbrev pub stateIn : List ℕ → State
 stateIn l =
     record { params = params (numberAt 2 l 0) (numberAt 2 l 2) (numberAt 2 l 4); p = numberAt 2 l 6; cap = numberAt 2 l 8; r = numberAt 4 l 12 }
@@ -41,7 +43,8 @@ pub record Served : Type 0 where
   pub slip : List ℕ
   pub file : File
 
--- it returns the number of its refusal ("refusal 0 means accepted"); the state "comes back as a value"
+-- it returns the number of its refusal ("refusal 0 means accepted"); the state "comes back as a
+-- value"
 abbrev pub servedBy : Left → Served
 servedBy l = record { returned = numbersOf (l .said) .refusal; slip = slipOf (l .file .state) (numbersOf (l .said)); file = l .file }
 
@@ -49,7 +52,8 @@ servedBy l = record { returned = numbersOf (l .said) .refusal; slip = slipOf (l 
 abbrev pub unserved : (slip area : List ℕ) → Served
 unserved slip area = record { returned = 100; slip = slip; file = fileIn slip area }
 
--- a call by slip and area is the register's call on the file that they are; due, which leaves the slip as it is, is `dueOn`
+-- a call by slip and area is the register's call on the file that they are; due, which leaves the
+-- slip as it is, is `dueOn`
 unfoldable pub served : (slip area : List ℕ) → Call → Served
 served slip area c = cond (isSlip slip) (servedBy (left (fileIn slip area) c)) (unserved slip area)
 

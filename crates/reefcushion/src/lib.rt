@@ -1,4 +1,6 @@
-// The calls for programs in other languages. Each is the register's call on the state that a slip of forty bytes brings; the slip then holds the state after it and the answer. It takes any lengths and any bytes, and returns the number of its refusal.
+// The calls for programs in other languages. Each is the register's call on the state that a slip
+// of forty bytes brings; the slip then holds the state after it and the answer. It takes any
+// lengths and any bytes, and returns the number of its refusal.
 use homes::Params;
 use pages::Record;
 use state::Done;

@@ -15,12 +15,12 @@ use Rattle.state.specs.declared.Answer.the-variants.{Accepted, OutOfRange}
 use Rattle.state.specs.State.{inRange, fresh}
 use Rattle.state.specs.Promises.{Ranged}
 use Rattle.state.proofs.Ranges.{ranged}
-use Rattle.register.specs.declared.Gate.{Gate}
-use Rattle.register.specs.declared.Gate.the-variants.{Open, Shut}
-use Rattle.register.specs.Gates.{gateOf, imageGate, growEntry, growGate}
-use Rattle.register.specs.Past.{grewEntered}
+use Rattle.gates.specs.declared.Gate.{Gate}
+use Rattle.gates.specs.declared.Gate.the-variants.{Open, Shut}
+use Rattle.gates.specs.Gates.{gateOf, imageGate, growEntry, growGate}
+use Rattle.register.specs.steps.Past.{grewEntered}
 use Rattle.register.specs.Calls.{done, Outcome, formatted, checked, Growth, grownFile, grew}
-use Rattle.register.proofs.Gating.{range-shut}
+use Rattle.gates.proofs.Gating.{range-shut}
 
 -- the state and answer, and the area, of an outcome
 abbrev pub Comes : Done → List ℕ → Outcome → Type 0

@@ -15,18 +15,19 @@ use Rattle.pages.proofs.Areas.{area-pages, held-length}
 use Rattle.pages.specs.Page.{Record, key}
 use Rattle.pages.specs.Area.{pagesFrom, heldFrom}
 use Rattle.survey.specs.declared.Verdict.{Verdict}
-use Rattle.survey.specs.declared.Verdict.the-variants.{Sick, Whole}
+use Rattle.survey.specs.declared.Verdict.the-variants.{Whole}
+use Rattle.survey.specs.declared.Verdict.the-variants as verdicts
 use Rattle.survey.specs.Survey.{lowestBroken, surveyed}
 use Rattle.survey.proofs.ImageTest.{GoodFrom, image-set, image-test, none-broken, good-pages, all-pass}
 use Rattle.state.specs.declared.State.{State}
 use Rattle.state.specs.declared.Answer.the-variants.{Accepted, NotImage}
 use Rattle.state.specs.State.{inRange, homes}
-use Rattle.register.specs.declared.Gate.the-variants.{Open, Shut}
-use Rattle.register.specs.Gates.{onGate, gateOf, imageOf, imageGate}
+use Rattle.gates.specs.declared.Gate.the-variants.{Open, Shut}
+use Rattle.gates.specs.Gates.{onGate, gateOf, imageOf, imageGate}
 use Rattle.register.specs.OneImage.{AreaImage, ImageOfR}
 use Rattle.register.specs.Calls.{done, checked}
-use Rattle.register.proofs.Gating.{gate-open}
-use Rattle.register.proofs.Judging.{Sound, open-sound, sound-open}
+use Rattle.gates.proofs.Gating.{gate-open}
+use Rattle.gates.proofs.Judging.{GoodFile, open-good, good-open}
 
 -- an image of records is that of the records that stand on it
 of-own : {h : ℕ → ℕ} {n : ℕ} {rs : List Record} {ps : List (List Record)} → Image key h 12 n rs ps → Image key h 12 n (cat ps []) ps
@@ -45,7 +46,7 @@ only-open s area e = go (surveyed (homes s) area (s .cap)) e
     tests false k = absurd (let z : _≡_ {A = ℕ} 0 1 = cc in omega arith)
 
     go : (v : Verdict) → onGate (imageOf s v) (done s) (done s (Accepted 0 (s .cap) 0)) .answer ≡ Accepted 0 (s .cap) 0 → imageOf s v ≡ Open
-    go (Sick a) k = absurd (let z : _≡_ {A = ℕ} 0 1 = cc in omega arith)
+    go (verdicts.Broken a) k = absurd (let z : _≡_ {A = ℕ} 0 1 = cc in omega arith)
     go (Whole image records) k = tests (image && eqb records (s .r)) k
 
 module _ (s : State) (area : List ℕ) (b : Bytes area) (l : length area ≡ 256 * s .cap) where
@@ -53,8 +54,8 @@ module _ (s : State) (area : List ℕ) (b : Bytes area) (l : length area ≡ 256
   good e = good-pages (homes s) area b (s .cap) 0 (omega arith) e
 
   -- what opens the gate is 01's image, and the other way round
-  sound-image : Sound s area → ImageOfR s area
-  sound-image k =
+  good-image : GoodFile s area → ImageOfR s area
+  good-image k =
       let ps : List (List Record) = heldFrom area (s .cap) 0 in
       let g : GoodFrom (homes s) 0 ps = good (k .whole) in
       record {
@@ -69,8 +70,8 @@ module _ (s : State) (area : List ℕ) (b : Bytes area) (l : length area ≡ 256
         };
       }
 
-  pub image-sound : ImageOfR s area → Sound s area
-  image-sound w =
+  pub image-good : ImageOfR s area → GoodFile s area
+  image-good w =
       let ps : List (List Record) = heldFrom area (s .cap) 0 in
       let i : AreaImage s area (w .records) = w .is in
       let k = all-pass (homes s) area (s .cap) (i .pages) (i .pass) in
@@ -83,7 +84,7 @@ module _ (s : State) (area : List ℕ) (b : Bytes area) (l : length area ≡ 256
 
   -- "Check says yes exactly when the area is the image of r records."
   pub check-image : inRange s ≡ true → (checked s area .answer ≡ Accepted 0 (s .cap) 0) ↔ ImageOfR s area
-  check-image r = (λ e. sound-image (open-sound s area (yes e)), λ w. says (sound-open s area (image-sound w)))
+  check-image r = (λ e. good-image (open-good s area (yes e)), λ w. says (good-open s area (image-good w)))
     where
       gate : Open ≡ gateOf s (length area)
       gate = gate-open s (length area) r l

@@ -9,7 +9,7 @@ use lib.Seq.{take-all}
 use Rattle.numbers.proofs.Laws.{written-front}
 use Rattle.pages.specs.declared.Page.{Page}
 use Rattle.pages.specs.Page.{pageBytes, inMemory}
-use Rattle.pages.specs.Slots.{recordsOf}
+use Rattle.pages.specs.steps.Slots.{recordsOf}
 use Rattle.pages.specs.Area.{areaFrom, withPage}
 use Rattle.pages.proofs.Memory.{memory}
 use Rattle.pages.proofs.Write.{page-length}

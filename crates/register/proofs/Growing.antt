@@ -1,4 +1,5 @@
--- A growth past its gate: the records are a set, their homes are pages, and the row of counts tells whether they have room.
+-- A growth past its gate: the records are a set, their homes are pages, and the row of counts tells
+-- whether they have room.
 use mathlib.Core.Path.{_≡_, refl, sym, ap, _∙_}
 use mathlib.Core.Bool.{Bool, true, false}
 use mathlib.Core.Logic.{_↔_}
@@ -12,7 +13,7 @@ use Rattle.numbers.specs.Little.{Bytes}
 use Rattle.homes.specs.declared.Shape.{Shape}
 use Rattle.homes.specs.declared.Stage.{Stage}
 use Rattle.homes.specs.Homes.{firstPages, shapeOf, homeIn}
-use Rattle.homes.specs.Last.{staysAt}
+use Rattle.homes.specs.steps.Last.{staysAt}
 use Rattle.homes.proofs.Homes.{home-below}
 use Rattle.homes.proofs.Last.{home-stays, home-stayed}
 use Rattle.placing.specs.Image.{All, cat, RecordSet, Room}
@@ -22,11 +23,11 @@ use Rattle.placing.proofs.Images.{room-taken}
 use Rattle.placing.proofs.Rows.{counts-length, row-room}
 use Rattle.pages.specs.Page.{Record, key, homeFor}
 use Rattle.pages.specs.Area.{heldFrom, areaFrom}
-use Rattle.pages.specs.Known.{KnownAt}
-use Rattle.rebuild.specs.Rebuild.{relaid}
+use Rattle.pages.specs.steps.Known.{KnownAt}
+use Rattle.rebuild.specs.Relaid.{relaid}
 use Rattle.survey.specs.declared.Count.the-variants.{Homes}
 use Rattle.survey.specs.declared.Verdict.{Verdict}
-use Rattle.survey.specs.Counts.{Counts, Countable}
+use Rattle.survey.specs.steps.Counts.{Counts, Countable}
 use Rattle.survey.proofs.ImageTest.{image-set, good-pages}
 use Rattle.survey.proofs.Knowing.{image-known}
 use Rattle.state.specs.declared.State.{State}
@@ -34,18 +35,18 @@ use Rattle.state.specs.declared.Answer.the-variants.{Accepted, NoRoom}
 use Rattle.state.specs.State.{inRange, homes, grown}
 use Rattle.state.specs.Promises.{Ranged}
 use Rattle.state.proofs.Ranges.{ranged, in-shape, grown-range}
-use Rattle.register.specs.declared.Gate.the-variants.{Open}
-use Rattle.register.specs.Gates.{imageOf, imageGate}
-use Rattle.register.specs.Past.{OnePageMore}
+use Rattle.gates.specs.declared.Gate.the-variants.{Open}
+use Rattle.gates.specs.Gates.{imageOf, imageGate}
+use Rattle.register.specs.steps.Past.{OnePageMore}
 use Rattle.register.specs.Calls.{done, grownCounts, grownFile}
-use Rattle.register.proofs.Judging.{open-counted, Sound, open-sound}
+use Rattle.gates.proofs.Judging.{open-counted, GoodFile, open-good}
 use Rattle.register.proofs.Answers.{Grows}
 
 -- the records of an area that is an image are a set
 pub held-set : (s : State) (area : List ℕ) → Bytes area → length area ≡ 256 * s .cap → imageGate s area ≡ Open
     → RecordSet key (cat (heldFrom area (s .cap) 0) [])
 held-set s area b l e =
-    let k : Sound s area = open-sound s area e in
+    let k : GoodFile s area = open-good s area e in
     image-set (homes s) (heldFrom area (s .cap) 0) (k .image) (good-pages (homes s) area b (s .cap) 0 (omega arith) (k .whole))
 
 -- what holds of every record holds of all
@@ -100,7 +101,7 @@ module _ (s : State) (range : inRange s ≡ true) (low : s .p < s .cap) where
     -- what is known of the homes on its pages, if they are an image for the file as it was
     pub grown-known : (area : List ℕ) → Bytes area → length area ≡ 256 * s .cap → imageGate s area ≡ Open → (a : ℕ) → a < s .cap → KnownAt (homeIn shape) (staysAt shape last) area a
     grown-known area b l e =
-        let k : Sound s area = open-sound s area e in
+        let k : GoodFile s area = open-good s area e in
         image-known (homes s) (homeIn shape) (staysAt shape last) same-page area (s .cap) (good-pages (homes s) area b (s .cap) 0 (omega arith) (k .whole)) (k .image)
 
   -- all homes after are pages of the area

@@ -1,5 +1,3 @@
-pub mod Gating
-pub mod Judging
 pub mod Clearing
 pub mod Answers
 pub mod Settling

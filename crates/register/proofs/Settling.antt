@@ -10,7 +10,7 @@ use borrow.Author.Tests.{eq-eqb, ne-eqb}
 use Rattle.homes.specs.declared.Shape.{Shape}
 use Rattle.homes.specs.Homes.{shapeOf, homeIn}
 use Rattle.pages.specs.Page.{Record, key, rank}
-use Rattle.pages.specs.Slots.{ahead}
+use Rattle.pages.specs.Places.{ahead}
 use Rattle.state.specs.declared.State.{State}
 use Rattle.state.specs.declared.Done.{Done}
 use Rattle.state.specs.declared.Answer.{Answer}
@@ -19,23 +19,24 @@ use Rattle.state.specs.State.{inRange, homes, oneMore, oneLess}
 use Rattle.state.specs.Promises.{Ranged}
 use Rattle.state.proofs.Ranges.{ranged}
 use Rattle.walks.specs.declared.Met.{Met}
-use Rattle.walks.specs.declared.Met.the-variants.{Found, Sick, Ends, Past}
+use Rattle.walks.specs.declared.Met.the-variants.{Found, Ends}
+use Rattle.walks.specs.declared.Met.the-variants as mets
 use Rattle.walks.specs.declared.Plan.{Plan}
 use Rattle.walks.specs.declared.Plan.the-variants.{Go, Stop}
 use Rattle.walks.specs.Walks.{Pages, Walked, walk, findAnswer, putWalk, removeWalk, writes}
-use Rattle.walks.specs.Plans.{held, poured, drawn, planned, metIn, planIn, placedIn}
-use Rattle.register.specs.declared.Gate.{Gate}
-use Rattle.register.specs.declared.Gate.the-variants.{Open, Shut}
-use Rattle.register.specs.Gates.{gateOf}
+use Rattle.walks.specs.steps.Plans.{held, poured, drawn, planned, metIn, planIn, placedIn}
+use Rattle.gates.specs.declared.Gate.{Gate}
+use Rattle.gates.specs.declared.Gate.the-variants.{Open, Shut}
+use Rattle.gates.specs.Gates.{gateOf}
 use Rattle.register.specs.Calls.{done, found, settled, putOpen, stored, removeOpen, removed}
 use Rattle.register.proofs.Answers.{Comes}
 
 -- a walk that ends within the lent pages ends within the most that may be lent
 pub met-low : (lent : ℕ) (m : Met) → lent ≤ 4096 → metIn lent m → metIn 4096 m
 met-low lent (Found a i c v n) l w = (omega arith, w .1, w .2, w .3)
-met-low lent (Sick a n) l w = (omega arith, omega arith)
+met-low lent (mets.Broken a n) l w = (omega arith, omega arith)
 met-low lent (Ends a i c n) l w = (omega arith, w .1, w .2, w .3, w .4)
-met-low lent (Past n) l w = omega arith
+met-low lent (mets.AtEnd n) l w = omega arith
 
 -- the gate of a call
 module _ (s : State) (area : List ℕ) (g : Gate) (gate : g ≡ gateOf s (length area)) where

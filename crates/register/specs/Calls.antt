@@ -1,4 +1,5 @@
--- The calls of the register: what each answers, and the state, the area and the row that it leaves, for any numbers and any bytes. What is quoted is 01's.
+-- The calls of the register: what each answers, and the state, the area and the row that it leaves,
+-- for any numbers and any bytes. What is quoted is 01's.
 use Prim.Native.Nat.{ℕ, _*_}
 use mathlib.Core.Bool.{Bool, cond}
 use mathlib.Core.List.{List, []}
@@ -10,14 +11,14 @@ use Rattle.placing.specs.Lay.{taken}
 use Rattle.placing.specs.Rows.{counts, strayed}
 use Rattle.pages.specs.Page.{Record, key, homeFor}
 use Rattle.pages.specs.Area.{heldFrom, areaFrom}
-use Rattle.rebuild.specs.Rebuild.{relaid}
+use Rattle.rebuild.specs.Relaid.{relaid}
 use Rattle.state.specs.declared.State.{State}
 use Rattle.state.specs.State.{homes, fresh, oneMore, oneLess, grown}
 use Rattle.state.specs.declared.Done.{Done}
 use Rattle.state.specs.declared.Answer.{Answer}
 use Rattle.state.specs.declared.Answer.the-variants.{Accepted, NoRoom, NotImage}
 use Rattle.walks.specs.Walks.{Walked, went, stopped, walk, findAnswer, putWalk, removeWalk, writes}
-use Rattle.register.specs.Gates.{onGate, gateOf, imageGate, growGate}
+use Rattle.gates.specs.Gates.{onGate, gateOf, imageGate, growGate}
 
 -- what a call answers, with the state after it
 abbrev pub done : State → Answer → Done
@@ -32,7 +33,8 @@ pub record Outcome : Type 0 where
 abbrev pub refused : State → List ℕ → Answer → Outcome
 refused s area why = record { done = done s why; area = area }
 
--- Format: "empty file, P = n0 x N, r = 0"; "judged on the numbers it is asked for, not on the state before it"
+-- Format: "empty file, P = n0 x N, r = 0"; "judged on the numbers it is asked for, not on the state
+-- before it"
 abbrev pub formatted : State → Params → (cap : ℕ) → List ℕ → Outcome
 formatted old q cap area =
     onGate (gateOf (fresh q cap) (length area)) (refused old area)
@@ -42,7 +44,8 @@ formatted old q cap area =
 abbrev pub found : State → List ℕ → (k : ℕ) → Done
 found s area k = onGate (gateOf s (length area)) (done s) (done s (findAnswer (walk (homes s) area (s .cap) k)))
 
--- "Put and remove 1, 2, the walk (4, 5, 6 or 7 as met), then 9": where it went well, the state after it is `next`, unless the count is wrong
+-- "Put and remove 1, 2, the walk (4, 5, 6 or 7 as met), then 9": where it went well, the state
+-- after it is `next`, unless the count is wrong
 abbrev pub settled : State → List ℕ → (next : State) → (wrong : Bool) → Walked → Outcome
 settled s area next wrong (stopped why) = refused s area why
 settled s area next wrong (went pages read moved) =
@@ -76,7 +79,8 @@ pub record Growth : Type 0 where
 abbrev pub grownCounts : State → List ℕ → List ℕ
 grownCounts s area = counts (homeFor (homes (grown s))) (cat (heldFrom area (s .cap) 0) []) (s .cap) 0
 
--- Grow, where the file is the image of r records: it "makes the image for P + 1", or there is no room (7); the row is filled "after success or 7".
+-- Grow, where the file is the image of r records: it "makes the image for P + 1", or there is no
+-- room (7); the row is filled "after success or 7".
 unfoldable pub grownFile : State → List ℕ → Growth
 grownFile s area =
     let old = heldFrom area (s .cap) 0 in

@@ -1,4 +1,5 @@
--- A file, and a call on it by the definition that its contract names: what it says, and what it leaves. What is quoted is 01's.
+-- A file, and a call on it by the definition that its contract names: what it says, and what it
+-- leaves. What is quoted is 01's.
 use Prim.Native.Nat.{ℕ}
 use mathlib.Core.Bool.{Bool}
 use mathlib.Core.List.{List, []}
@@ -12,7 +13,8 @@ use Rattle.state.specs.State.{isDue}
 use Rattle.state.specs.Answer.{numbers}
 use Rattle.register.specs.Calls.{Outcome, Growth, formatted, found, stored, removed, checked, grew}
 
--- "Calls: format .., find, put, remove, grow .., check, due", each with what it is given beside state and area
+-- "Calls: format .., find, put, remove, grow .., check, due", each with what it is given beside
+-- state and area
 pub data Call : Type 0 where
   format : Params → (cap : ℕ) → Call
   find : (k : ℕ) → Call
@@ -32,7 +34,8 @@ pub data Said : Type 0 where
   answers : Answer → Said
   says : Bool → Said
 
--- what a call comes to: what it says, and the file and the row that it leaves. Only a growth is lent a row.
+-- what a call comes to: what it says, and the file and the row that it leaves. Only a growth is
+-- lent a row.
 pub record Left : Type 0 where
   pub said : Said
   pub file : File
@@ -42,19 +45,19 @@ pub record Left : Type 0 where
 abbrev pub leaves : Done → (area row : List ℕ) → Left
 leaves d area row = record { said = answers (d .answer); file = record { state = d .state; area = area }; row = row }
 
-abbrev pub wrote : Outcome → Left
-wrote o = leaves (o .done) (o .area) []
+abbrev pub ofOutcome : Outcome → Left
+ofOutcome o = leaves (o .done) (o .area) []
 
-abbrev pub grewTo : Growth → Left
-grewTo g = leaves (g .done) (g .area) (g .row)
+abbrev pub ofGrowth : Growth → Left
+ofGrowth g = leaves (g .done) (g .area) (g .row)
 
 -- a call on a file, by the definition that its contract names
 unfoldable pub left : File → Call → Left
-left f (format q cap) = wrote (formatted (f .state) q cap (f .area))
+left f (format q cap) = ofOutcome (formatted (f .state) q cap (f .area))
 left f (find k) = leaves (found (f .state) (f .area) k) (f .area) []
-left f (put x) = wrote (stored (f .state) (f .area) x)
-left f (remove k) = wrote (removed (f .state) (f .area) k)
-left f (grow row) = grewTo (grew (f .state) (f .area) row)
+left f (put x) = ofOutcome (stored (f .state) (f .area) x)
+left f (remove k) = ofOutcome (removed (f .state) (f .area) k)
+left f (grow row) = ofGrowth (grew (f .state) (f .area) row)
 left f check = leaves (checked (f .state) (f .area)) (f .area) []
 left f due = record { said = says (isDue (f .state)); file = f; row = [] }
 

@@ -10,7 +10,8 @@ use Rattle.pages.specs.Area.{pagesFrom, areaFrom}
 use Rattle.state.specs.declared.State.{State}
 use Rattle.state.specs.State.{homes}
 
--- "An area is the image of a record set when all pages pass the page rules", and the records lie as `Image` says; it is the bytes of the pages, and nothing else
+-- "An area is the image of a record set when all pages pass the page rules", and the records lie as
+-- `Image` says; it is the bytes of the pages, and nothing else
 pub record AreaImage (s : State) (area : List ℕ) (rs : List Record) : Type 0 where
   pub pages : List (List Record)
   pub bytes : area ≡ areaFrom 0 pages

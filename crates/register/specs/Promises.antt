@@ -1,4 +1,5 @@
--- What is promised of the calls on any bytes, beside what the definitions of the calls say. What is quoted is 01's.
+-- What is promised of the calls on any bytes, beside what the definitions of the calls say. What is
+-- quoted is 01's.
 use Prim.Native.Nat.{ℕ, _*_, _<_}
 use mathlib.Core.Path.{_≡_}
 use mathlib.Core.Bool.{true}
@@ -18,12 +19,14 @@ use Rattle.register.specs.OneImage.{AreaImage, ImageOfR}
 
 -- What is promised, and proved as `register-promises` (proofs/Promises.antt)
 pub record RegisterPromises : Type 0 where
-  -- "Check says yes exactly when the area is the image of r records.": of a state in range and an area of its length, and else it is refused with 1 or 2
+  -- "Check says yes exactly when the area is the image of r records.": of a state in range and an
+  -- area of its length, and else it is refused with 1 or 2
   pub check-yes : (s : State) (area : List ℕ) → Bytes area → length area ≡ 256 * s .cap → inRange s ≡ true
       → (checked s area .answer ≡ Accepted 0 (s .cap) 0) ↔ ImageOfR s area
   -- "At most one image exists.": to the byte, whatever order the records are told in
   pub one-image : (s : State) (a b : List ℕ) (rs ts : List Record) → RecordSet key rs → List·Permᴰ rs ts → AreaImage s a rs → AreaImage s b ts → a ≡ b
-  -- A "row of 32-bit counts .. used to decide whether growth has room": of a file that may grow, the counts leave no record over exactly when there is an arrangement at size P + 1
+  -- A "row of 32-bit counts .. used to decide whether growth has room": of a file that may grow,
+  -- the counts leave no record over exactly when there is an arrangement at size P + 1
   pub row-decides : (s : State) (area : List ℕ) → inRange s ≡ true → s .p < s .cap
       → let held = cat (heldFrom area (s .cap) 0) [] in
       RecordSet key held → (leftOver 12 (grownCounts s area) 0 ≡ 0) ↔ Room key (homes (grown s)) 12 (s .cap) held

@@ -1,5 +1,6 @@
-// A growth past its entry: the pages are judged and the homes counted, the counts decide, and the file is made anew.
-use crate::Gate;
+// A growth past its entry: the pages are judged and the homes counted, the counts decide, and the
+// file is made anew.
+use gates::Gate;
 use homes::Shape;
 use homes::Stage;
 use state::Answer;
@@ -8,8 +9,9 @@ use state::State;
 use survey::Count;
 ghost use mathlib.Core.Path.{_≡_};
 ghost use lib.ListN.{length};
-ghost use Rattle.register.specs.declared.Gate.the-variants.{Open};
-ghost use Rattle.register.specs.Past.{EnteredToGrow, OpenToGrow, OnePageMore, grewEntered};
+ghost use Rattle.gates.specs.declared.Gate.the-variants.{Open};
+ghost use Rattle.gates.specs.steps.Past.{EnteredToGrow};
+ghost use Rattle.register.specs.steps.Past.{OpenToGrow, OnePageMore, grewEntered};
 ghost use Rattle.register.specs.Calls.{grownCounts, grownFile};
 
 // The counts into the row.
@@ -24,7 +26,8 @@ fn fill_row(row: &mut [u32], counts: &[u32])
     }
 }
 
-// A growth of an image to a file of one page more, with the counts of its records' homes there: the row is filled and decides whether there is room; then the file is made anew in its own area.
+// A growth of an image to a file of one page more, with the counts of its records' homes there: the
+// row is filled and decides whether there is room; then the file is made anew in its own area.
 fn grow_image(
     state: State,
     next: State,
@@ -59,7 +62,8 @@ fn grow_image(
     }
 }
 
-// A growth that is not refused before it looks at a page. The homes after it are counted while the pages are judged.
+// A growth that is not refused before it looks at a page. The homes after it are counted while the
+// pages are judged.
 fn grow_counting(state: State, area: &mut [u8], row: &mut [u32], counts: &mut [u32]) -> Done
     requires { ⌜ EnteredToGrow state (length (now area)) (length (now row)) Open × (length (now counts) ≡ state .cap) ⌝ }
     ensures { λ r. ⌜ r ≡ grewEntered state (now (area .entry)) (now (row .entry)) .done ⌝ }
@@ -73,7 +77,7 @@ fn grow_counting(state: State, area: &mut [u8], row: &mut [u32], counts: &mut [u
     let last = shape.last_step();
     let count = Count::Homes { next: shape, last };
     let verdict = survey::survey(&area[..], cap, old, count, counts);
-    let gate = crate::gates::image_of(state, verdict);
+    let gate = gates::image_of(state, verdict);
     match gate {
         Gate::Shut { why } => Done { state, answer: why },
         Gate::Open => grow_image(state, next, shape, last, area, row, &counts[..]),

@@ -1,7 +1,8 @@
-// The register: request number -> the commit it became, in a lent area of pages. Every call takes any numbers and any bytes, and answers.
-mod gates;
+// The register: request number -> the commit it became, in a lent area of pages. Every call takes
+// any numbers and any bytes, and answers.
 mod growth;
 
+use gates::Gate;
 use homes::Params;
 use pages::Record;
 use state::Answer;
@@ -18,14 +19,8 @@ ghost use Rattle.pages.specs.Area.{areaFrom};
 ghost use Rattle.state.specs.State.{inRange};
 ghost use Rattle.state.specs.declared.Answer.the-variants.{Accepted};
 ghost use Rattle.walks.specs.Walks.{findAnswer};
-ghost use Rattle.walks.specs.Plans.{metIn};
+ghost use Rattle.walks.specs.steps.Plans.{metIn};
 ghost use Rattle.register.specs.Calls.{done, formatted, found, putOpen, stored, removeOpen, removed, checked, grew};
-
-// Whether a call may go on, or why not.
-pub enum Gate {
-    Open,
-    Shut { why: Answer },
-}
 
 // All pages empty.
 fn clear_pages(area: &mut [u8], cap: usize)
@@ -40,7 +35,8 @@ fn clear_pages(area: &mut [u8], cap: usize)
     }
 }
 
-// An empty file, whatever was held before. It is judged on the numbers that are asked for; a refused one leaves the old file and its state.
+// An empty file, whatever was held before. It is judged on the numbers that are asked for; a
+// refused one leaves the old file and its state.
 pub fn format(state: State, params: Params, cap: u16, area: &mut [u8]) -> Done
     ensures { λ r. ⌜ r ≡ formatted state params cap (now (area .entry)) .done ⌝ }
     ensures { λ _. ⌜ now (area .exit) ≡ formatted state params cap (now (area .entry)) .area ⌝ }
@@ -87,7 +83,7 @@ fn find_answer(met: Met) -> Answer
             read,
             moved: 0,
         },
-        Met::Sick { page, read } => Answer::Broken {
+        Met::Broken { page, read } => Answer::Broken {
             page: page as u16,
             read,
         },
@@ -97,7 +93,7 @@ fn find_answer(met: Met) -> Answer
             count: _,
             read,
         } => Answer::Absent { read },
-        Met::Past { read } => Answer::Absent { read },
+        Met::AtEnd { read } => Answer::Absent { read },
     }
 }
 
@@ -117,7 +113,8 @@ pub fn find(state: State, area: &[u8], key: u64) -> Done
     }
 }
 
-// What a put or a remove answers that wrote the pages from the first to the last: a record moved from each of them to its neighbour, but for one.
+// What a put or a remove answers that wrote the pages from the first to the last: a record moved
+// from each of them to its neighbour, but for one.
 fn wrote(next: State, first: usize, last: usize, read: u32) -> Done
     requires { ⌜ (first ≤ last) × (last < 4096) ⌝ }
     ensures { λ r. ⌜ r ≡ done next (Accepted 0 read (last - first)) ⌝ }

@@ -23,7 +23,8 @@ fn keep(input: &mut [u8], taken: usize, have: usize) -> usize
     kept
 }
 
-// One read into the free end of the input: how many bytes came, none where the input ends. A read that fails is told on standard error and ends it too.
+// One read into the free end of the input: how many bytes came, none where the input ends. A read
+// that fails is told on standard error and ends it too.
 fn read_more(free: &mut [u8]) -> usize
     ensures { λ r. ⌜ r ≤ length (now (free .entry)) ⌝ }
 {
@@ -45,7 +46,9 @@ fn send(replies: &[u8], ran: Ran) -> bool
     is_out & !ran.stopped
 }
 
-// A turn answers what is there, or else reads more: so every reply is out before the program waits. A proved loop has to end, and nothing says that an input does: it counts its turns down, from a number that no run uses up.
+// A turn answers what is there, or else reads more: so every reply is out before the program waits.
+// A proved loop has to end, and nothing says that an input does: it counts its turns down, from a
+// number that no run uses up.
 fn main() {
     let mut space = [0u8; 32768];
     let mut row = [0u32; 128];

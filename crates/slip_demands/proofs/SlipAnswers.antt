@@ -1,4 +1,5 @@
--- Each call by slip takes whatever it is given, and its contract allows one number to be returned, and one slip, one area and one row afterwards.
+-- Each call by slip takes whatever it is given, and its contract allows one number to be returned,
+-- and one slip, one area and one row afterwards.
 use mathlib.Core.Path.{refl, sym, _∙⁻¹_}
 use denote.Ref.{now}
 use Rattle.slip_demands.specs.SlipAnswers.{SlipAnswers}

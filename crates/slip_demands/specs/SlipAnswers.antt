@@ -1,4 +1,5 @@
--- What the contracts of the calls by slip allow (reefcushion/src/lib.rt): each takes anything, and settles what it returns and all that it leaves, as `served` says.
+-- What the contracts of the calls by slip allow (reefcushion/src/lib.rt): each takes anything, and
+-- settles what it returns and all that it leaves, as `served` says.
 use Prim.Native.Nat.{ℕ}
 use mathlib.Core.List.{List}
 use denote.Ref.{now}
@@ -15,11 +16,13 @@ use Rattle.reefcushion.proofs.reefcushion_check as Check
 use Rattle.reefcushion.proofs.reefcushion_due as Due
 use Rattle.reefcushion.specs.Slip.{Served, fileIn, served, servedRow, dueOn}
 
--- what the code of a call comes to: the file that it leaves is the one that its slip and its area are
+-- what the code of a call comes to: the file that it leaves is the one that its slip and its area
+-- are
 abbrev pub came : ℕ → (slip area : List ℕ) → Served
 came returned slip area = record { returned = returned; slip = slip; file = fileIn slip area }
 
--- The arguments stand in the order of the signature: a .0 is the slip, a .1 .0 the area, and so on; v has a place for each, and in it what is left of what was lent to be changed.
+-- The arguments stand in the order of the signature: a .0 is the slip, a .1 .0 the area, and so on;
+-- v has a place for each, and in it what is left of what was lent to be changed.
 pub record SlipAnswers : Type 0 where
   pub format : Settled Format.ended Format.Reads.Asked Format.Reads.Learnt
       (λ κs a. served (now (a .0)) (now (a .1 .0)) (format (params (a .1 .1 .0) (a .1 .1 .1 .0) (a .1 .1 .1 .1 .0)) (a .1 .1 .1 .1 .1 .0)))

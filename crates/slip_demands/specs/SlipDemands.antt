@@ -1,4 +1,5 @@
--- What the demands come to for a program that calls by slips: `SlipDemands`, at the end. What is quoted is the demands'.
+-- What the demands come to for a program that calls by slips: `SlipDemands`, at the end. What is
+-- quoted is the demands'.
 use mathlib.Core.Path.{_≡_}
 use mathlib.Core.Option.{none, some}
 use mathlib.Core.List.{List, [], _∷_}
@@ -10,7 +11,9 @@ use Rattle.demands.specs.Histories.{Fits, after, Kept, kept}
 use Rattle.demands.specs.Demands.{Fresh}
 use Rattle.reefcushion.specs.Slip.{fileIn, served}
 
--- calls by slip, "each call given the pages and state that the last one left": from one slip and area to another. What a call leaves of them is what `slip-answers` says (due leaves both as they are, and is none of these).
+-- calls by slip, "each call given the pages and state that the last one left": from one slip and
+-- area to another. What a call leaves of them is what `slip-answers` says (due leaves both as they
+-- are, and is none of these).
 pub data Handed : List Call → (slip area slip' area' : List ℕ) → Type 0 where
   no-call : {slip area : List ℕ} → Handed [] slip area slip area
   one-call : {c : Call} {cs : List Call} {slip area slip' area' slip'' area'' : List ℕ} → slip' ≡ served slip area c .slip → fileIn slip' area' ≡ served slip area c .file
@@ -21,6 +24,7 @@ pub record SlipDemands : Type 0 where
   -- the last slip and area are the file that the same calls leave as a history
   pub histories : {cs : List Call} {slip area slip' area' : List ℕ} → Handed cs slip area slip' area' → length slip ≡ 40
       → fileIn slip' area' ≡ after (fileIn slip area) cs
-  -- so once a format was accepted they are a file after a fresh history, and all of `Demands` is of it
+  -- so once a format was accepted they are a file after a fresh history, and all of `Demands` is of
+  -- it
   pub fresh : {cs : List Call} {slip area slip' area' : List ℕ} → Handed cs slip area slip' area' → length slip ≡ 40 → All Fits cs
       → (m : Kept) → kept none (fileIn slip area) cs ≡ some m → Fresh m (fileIn slip' area')

@@ -7,7 +7,8 @@ use Rattle.state.specs.declared.Numbers.{Numbers}
 abbrev pub told : (refusal page value read moved : ℕ) → Numbers
 told refusal page value read moved = record { refusal = refusal; page = page; value = value; read = read; moved = moved }
 
--- "page is 0 except for 4, value 0 except for 6, moved 0. For accepted calls page is 0"; "refusals 1, 2, 3, 8 .. read 0"
+-- "page is 0 except for 4, value 0 except for 6, moved 0. For accepted calls page is 0"; "refusals
+-- 1, 2, 3, 8 .. read 0"
 abbrev pub numbers : Answer → Numbers
 numbers (Accepted value read moved) = told 0 0 value read moved
 numbers OutOfRange = told 1 0 0 0 0

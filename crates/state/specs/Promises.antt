@@ -1,4 +1,5 @@
--- What is promised of a state's tests (01, 'The register'): each says the inequalities that 01 writes. What is quoted is 01's.
+-- What is promised of a state's tests (01, 'The register'): each says the inequalities that 01
+-- writes. What is quoted is 01's.
 use Prim.Native.Nat.{_*_, _≤_, _<_}
 use mathlib.Core.Path.{_≡_}
 use mathlib.Core.Bool.{true}

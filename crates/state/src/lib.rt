@@ -1,4 +1,5 @@
-// The state of a file, which goes into each call as a value and comes back as a value, and the answers of the calls.
+// The state of a file, which goes into each call as a value and comes back as a value, and the
+// answers of the calls.
 use homes::Params;
 use homes::Shape;
 ghost use mathlib.Core.Path.{_≡_};
@@ -16,7 +17,8 @@ pub struct State {
     pub r: u32,
 }
 
-// What a call answers: accepted, or why not. `read` counts the pages judged, `moved` the records that went to another page.
+// What a call answers: accepted, or why not. `read` counts the pages judged, `moved` the records
+// that went to another page.
 pub enum Answer {
     Accepted { value: u64, read: u32, moved: u32 },
     OutOfRange,

@@ -1,4 +1,5 @@
--- The records counted by home: one by one on a page, page by page in an area; and what the counts leave over.
+-- The records counted by home: one by one on a page, page by page in an area; and what the counts
+-- leave over.
 use mathlib.Core.Path.{_≡_, refl, sym, ap, _∙_}
 use mathlib.Core.Bool.{Bool, true, false, cond}
 use mathlib.Core.Option.{some}
@@ -15,7 +16,7 @@ use borrow.Author.Fill.{fill-more}
 use Rattle.homes.specs.declared.Shape.{Shape}
 use Rattle.homes.specs.declared.Stage.{Stage}
 use Rattle.homes.specs.Homes.{homeIn}
-use Rattle.homes.specs.Last.{staysAt}
+use Rattle.homes.specs.steps.Last.{staysAt}
 use Rattle.placing.specs.Image.{cat}
 use Rattle.placing.specs.Lay.{one}
 use Rattle.placing.specs.Rows.{atHome, counts, leftOver}
@@ -24,7 +25,7 @@ use Rattle.placing.proofs.Lists.{count-le}
 use Rattle.pages.specs.declared.Page.{Page}
 use Rattle.pages.specs.declared.Judged.{Judged}
 use Rattle.pages.specs.Page.{Record, key, vacant, homeFor, recordsIn, inMemory, judged}
-use Rattle.pages.specs.Slots.{recordsOf}
+use Rattle.pages.specs.steps.Slots.{recordsOf}
 use Rattle.pages.specs.Area.{partAt, heldFrom}
 use Rattle.pages.proofs.Rows.{row-at}
 use Rattle.pages.proofs.Read.{held-few}
@@ -32,8 +33,8 @@ use Rattle.pages.proofs.Write.{zeros}
 use Rattle.survey.specs.declared.Count.{Count}
 use Rattle.survey.specs.declared.Count.the-variants.{Nothing, Homes}
 use Rattle.survey.specs.declared.Verdict.the-variants.{Whole}
-use Rattle.survey.specs.Looks.{tallied}
-use Rattle.survey.specs.Counts.{homesOf, Counts, Countable, Stands}
+use Rattle.survey.specs.steps.Looks.{tallied}
+use Rattle.survey.specs.steps.Counts.{homesOf, Counts, Countable, Stands}
 
 -- a row cleared up to i is as long as before
 pub cleared-length : (row₀ row : List ℕ) (i : ℕ) → i ≤ length row₀ → row ≡ replicate i 0 ++ drop i row₀ → length row ≡ length row₀
@@ -174,22 +175,22 @@ homes-few Nothing rs = omega arith
 homes-few (Homes next last) rs = omega (arith, length-map rs (homeFor (homeIn next)))
 
 -- the pages below a are counted, and those from a on are left to tally
-pub record Counted (count : Count) (area : List ℕ) (cap n : ℕ) (row : List ℕ) (a : ℕ) : Type 0 where
+pub record ToCount (count : Count) (area : List ℕ) (cap n : ℕ) (row : List ℕ) (a : ℕ) : Type 0 where
   pub long : length row ≡ n
   pub small : (k : ℕ) → getD row k 0 ≤ 12 * a
   pub rest : tallied (homesOf count (cat (heldFrom area (cap - a) a) [])) row ≡ tallied (homesOf count (cat (heldFrom area cap 0) [])) (replicate n 0)
 
 -- a row of zeros is where they start
-pub count-starts : (count : Count) (area : List ℕ) (cap m : ℕ) (row : List ℕ) → row ≡ replicate m 0 → Counted count area cap (length row) row 0
+pub count-starts : (count : Count) (area : List ℕ) (cap m : ℕ) (row : List ℕ) → row ≡ replicate m 0 → ToCount count area cap (length row) row 0
 count-starts count area cap m row e =
     let l : length row ≡ m = ap length e ∙ length-replicate m 0 in
     let z : cap - 0 ≡ cap = omega arith in
     record { long = refl; small = λ k. rw e (omega (arith, zeros m k)); rest = rw (z, l, e) }
 
-module _ {count : Count} {area : List ℕ} {cap n : ℕ} {row : List ℕ} {a : ℕ} (c : Counted count area cap n row a) where
+module _ {count : Count} {area : List ℕ} {cap n : ℕ} {row : List ℕ} {a : ℕ} (c : ToCount count area cap n row a) where
   -- the records of page a counted
   pub count-goes-on : {row′ : List ℕ} (rs : List Record) → rs ≡ recordsIn (partAt area a) → a < cap → row′ ≡ tallied (homesOf count rs) row
-      → Counted count area cap n row′ (a + 1)
+      → ToCount count area cap n row′ (a + 1)
   count-goes-on {row′} rs is l e =
       let js : List ℕ = homesOf count rs in
       let m : cap - a ≡ suc (cap - suc a) = omega arith in

@@ -11,7 +11,7 @@ use lib.ListN.{length}
 use borrow.Author.Tests.{leb-true, le-leb}
 use Rattle.numbers.specs.Little.{Bytes}
 use Rattle.numbers.proofs.Records.{and-left, and-right}
-use Rattle.placing.specs.Image.{All, cat, Distinct, RecordSet, home, Image}
+use Rattle.placing.specs.Image.{All, cat, Distinct, RecordSet, homeOf, Image}
 use Rattle.placing.specs.Lay.{rankOf, rankIn}
 use Rattle.placing.proofs.Lists.{all-map, all-append, all-right}
 use Rattle.placing.proofs.Order.{Sorted, sorted-right, lower}
@@ -75,12 +75,12 @@ module _ (h : ℕ → ℕ) where
   low-starts low (x ∷ p) t b = le-leb low (rank x) (b .0)
 
   -- the test of the first home is that of the page by page form
-  starts-first : (full : Bool) (a : ℕ) (p : List Record) → startsAtHome h full a p ≡ true → FirstHome (home key h) 12 full a p
+  starts-first : (full : Bool) (a : ℕ) (p : List Record) → startsAtHome h full a p ≡ true → FirstHome (homeOf key h) 12 full a p
   starts-first true a p e = tt
   starts-first false a [] e = tt
   starts-first false a (x ∷ p) e = leb-true a (h (key x)) e
 
-  first-starts : (full : Bool) (a : ℕ) (p : List Record) → FirstHome (home key h) 12 full a p → startsAtHome h full a p ≡ true
+  first-starts : (full : Bool) (a : ℕ) (p : List Record) → FirstHome (homeOf key h) 12 full a p → startsAtHome h full a p ≡ true
   first-starts true a p f = refl
   first-starts false a [] f = refl
   first-starts false a (x ∷ p) f = le-leb a (h (key x)) f
@@ -104,7 +104,7 @@ module _ (h : ℕ → ℕ) where
       (s, starts-low low p (cat ps []) (t .1) s (on .1))
 
   -- and rightly placed, each judged with what was seen of the page before it
-  test-local : (full : Bool) (low a : ℕ) (ps : List (List Record)) → GoodFrom a ps → imageFrom h full low a ps ≡ true → Local (home key h) 12 full a ps
+  test-local : (full : Bool) (low a : ℕ) (ps : List (List Record)) → GoodFrom a ps → imageFrom h full low a ps ≡ true → Local (homeOf key h) 12 full a ps
   test-local full low a [] g e = tt
   test-local full low a (p ∷ ps) g e =
       let t = three full low a p ps e in (
@@ -115,7 +115,7 @@ module _ (h : ℕ → ℕ) where
       )
 
   -- pages that are both pass
-  local-test : (full : Bool) (low a : ℕ) (ps : List (List Record)) → Local (home key h) 12 full a ps → Sorted rank (cat ps []) → All (λ y. low ≤ rank y) (cat ps [])
+  local-test : (full : Bool) (low a : ℕ) (ps : List (List Record)) → Local (homeOf key h) 12 full a ps → Sorted rank (cat ps []) → All (λ y. low ≤ rank y) (cat ps [])
       → imageFrom h full low a ps ≡ true
   local-test full low a [] l s b = refl
   local-test full low a (p ∷ ps) l s b =
@@ -153,7 +153,7 @@ module _ (h : ℕ → ℕ) where
         passes e =
             let s : Sorted rank (cat ps []) = image-sorted e g in
             tidy-image key h 12 (image-set e g) (record {
-              packed = local-packed rank (home key h) 12 (omega arith) (mono key h) true 0 ps s (test-local true 0 0 ps g e);
+              packed = local-packed rank (homeOf key h) 12 (omega arith) (mono key h) true 0 ps s (test-local true 0 0 ps g e);
               sorted = s;
               holds = Permᴰ·refl (cat ps []);
               many = m;
@@ -163,7 +163,7 @@ module _ (h : ℕ → ℕ) where
         passed i =
             let s : Sorted rank (cat ps []) = rising-sorted key h (cat ps []) (good-keys 0 ps g) (i .rising) in
             let t : Tidy key h 12 n (cat ps []) ps = image-tidy key h 12 (sorted-set ps g s) i in
-            local-test true 0 0 ps (packed-local rank (home key h) 12 (omega arith) (mono key h) true 0 ps (t .packed) (λ e. absurd (let z : _≡_ {A = ℕ} 0 1 = cc in omega arith))) s
+            local-test true 0 0 ps (packed-local rank (homeOf key h) 12 (omega arith) (mono key h) true 0 ps (t .packed) (λ e. absurd (let z : _≡_ {A = ℕ} 0 1 = cc in omega arith))) s
             (all-map (λ x. key x < 2 ^ 64) (λ y. 0 ≤ rank y) (λ y k. omega arith) (cat ps []) (good-keys 0 ps g))
 
 module _ (h : ℕ → ℕ) (area : List ℕ) where

@@ -15,7 +15,7 @@ use Rattle.placing.proofs.Rank.{mono}
 use Rattle.numbers.proofs.Records.{and-left, and-right}
 use Rattle.pages.specs.Page.{Record, key, recordsIn}
 use Rattle.pages.specs.Area.{partAt, heldFrom}
-use Rattle.pages.specs.Known.{AllHere, OnceHere, Known, fullBefore, KnownAt}
+use Rattle.pages.specs.steps.Known.{AllHere, OnceHere, Known, fullBefore, KnownAt}
 use Rattle.pages.proofs.Rules.{homes-all, rises-sorted}
 use Rattle.survey.specs.Survey.{startsAtHome, nextLow, imageFrom, isImage}
 use Rattle.survey.proofs.ImageTest.{GoodPage, GoodFrom, three}
@@ -37,7 +37,8 @@ module _ (h : ℕ → ℕ) (a : ℕ) where
       let l : a ≤ h (key x) = leb-true a (h (key x)) e in
       (omega (arith, t .0), all-after x p l s (t .1))
 
--- h are the homes before, g those after; on a page that stays, a record has its home before exactly where it has it after
+-- h are the homes before, g those after; on a page that stays, a record has its home before exactly
+-- where it has it after
 module _ (h g : ℕ → ℕ) (stays : ℕ → Bool) (same : (k a : ℕ) → stays a ≡ true → (h k ≡ a → g k ≡ a) × (g k ≡ a → h k ≡ a)) where
   module _ (a : ℕ) (on : stays a ≡ true) where
     all-still : (p : List Record) → AllHere h a p → AllHere g a p

@@ -1,4 +1,5 @@
--- One page of a survey, and the survey page by page: what is left to look at decides with what was seen.
+-- One page of a survey, and the survey page by page: what is left to look at decides with what was
+-- seen.
 use mathlib.Core.Path.{_≡_, refl, sym, ap, _∙_}
 use mathlib.Core.Bool.{Bool, true, false, cond, not, _&&_, _||_, and-assoc, and-true}
 use mathlib.Core.Option.{Option, none, some}
@@ -16,9 +17,10 @@ use Rattle.pages.specs.Page.{Record, key, recordsIn, readPage, padded, inMemory
 use Rattle.pages.specs.Area.{partAt, pagesFrom, heldFrom}
 use Rattle.pages.proofs.RoundTrip.{Good, read-good}
 use Rattle.survey.specs.declared.Seen.{Seen}
-use Rattle.survey.specs.declared.Verdict.the-variants.{Sick, Whole}
+use Rattle.survey.specs.declared.Verdict.the-variants.{Whole}
+use Rattle.survey.specs.declared.Verdict.the-variants as verdicts
 use Rattle.survey.specs.Survey.{lowestBroken, startsAtHome, startsAt, nextLow, imageFrom, isImage, surveyed}
-use Rattle.survey.specs.Looks.{unseen, looked}
+use Rattle.survey.specs.steps.Looks.{unseen, looked}
 
 module _ (s : Seen) (a n : ℕ) (hs ks : List ℕ) where
   -- a page of no record tells only that it isn't full
@@ -100,16 +102,17 @@ module _ (h : ℕ → ℕ) (area : List ℕ) (cap : ℕ) where
   abbrev pub pageAt : ℕ → Option (List Record)
   pageAt a = readPage h a (partAt area a)
 
-  -- what is left of a survey from page a on, all pages below being good: the lowest broken page, the records and the image are there to be told
-  abbrev pub Left : Seen → ℕ → Type 0
-  Left s a =
+  -- what is left of a survey from page a on, all pages below being good: the lowest broken page,
+  -- the records and the image are there to be told
+  abbrev pub ToSurvey : Seen → ℕ → Type 0
+  ToSurvey s a =
       (lowestBroken a (pagesFrom h area (cap - a) a) ≡ lowestBroken 0 (pagesFrom h area cap 0))
       × (decides h s a (heldFrom area (cap - a) a) ≡ isImage h (heldFrom area cap 0))
       × (s .records + length (cat (heldFrom area (cap - a) a) []) ≡ length (cat (heldFrom area cap 0) []))
       × (s .records ≤ 12 * a)
 
   -- at the start all is left
-  pub survey-starts : (s : Seen) → s ≡ unseen → Left s 0
+  pub survey-starts : (s : Seen) → s ≡ unseen → ToSurvey s 0
   unfolding isImage
   survey-starts s u =
       let e : cap - 0 ≡ cap = omega arith in
@@ -124,27 +127,27 @@ module _ (h : ℕ → ℕ) (area : List ℕ) (cap : ℕ) where
       go none q k = absurd (let z : _≡_ {A = ℕ} 0 1 = cc in omega arith)
       go (some rs) q k = k ∙ ap (λ (s : List Record). judged h (some s)) (read-good h a (partAt area a) rs q .records)
 
-  module _ (s : Seen) (a : ℕ) (l : a < cap) (left : Left s a) (j : Judged) (e : j ≡ judged h (pageAt a)) where
+  module _ (s : Seen) (a : ℕ) (l : a < cap) (left : ToSurvey s a) (j : Judged) (e : j ≡ judged h (pageAt a)) where
     more : cap - a ≡ suc (cap - suc a)
     more = omega arith
 
     -- a broken page is the lowest one
-    pub survey-breaks : j .good ≡ false → Sick a ≡ surveyed h area cap
+    pub survey-breaks : j .good ≡ false → verdicts.Broken a ≡ surveyed h area cap
     unfolding surveyed judged
     survey-breaks b = go (pageAt a) refl e
       where
-        go : (o : Option (List Record)) → pageAt a ≡ o → j ≡ judged h o → Sick a ≡ surveyed h area cap
+        go : (o : Option (List Record)) → pageAt a ≡ o → j ≡ judged h o → verdicts.Broken a ≡ surveyed h area cap
         go none q k =
             let w : some a ≡ lowestBroken 0 (pagesFrom h area cap 0) = rw (more, q) at (left .0) in
             rw (← w)
         go (some rs) q k = absurd (let z : _≡_ {A = ℕ} 0 1 = cc in omega arith)
 
     -- a good one leaves those after it
-    pub survey-goes-on : j .good ≡ true → (t : Seen) → t ≡ looked s a (j .page .count) (j .homes) (j .page .keys) → Left t (a + 1)
+    pub survey-goes-on : j .good ≡ true → (t : Seen) → t ≡ looked s a (j .page .count) (j .homes) (j .page .keys) → ToSurvey t (a + 1)
     unfolding judged inMemory
     survey-goes-on b t n = go (pageAt a) refl e
       where
-        go : (o : Option (List Record)) → pageAt a ≡ o → j ≡ judged h o → Left t (a + 1)
+        go : (o : Option (List Record)) → pageAt a ≡ o → j ≡ judged h o → ToSurvey t (a + 1)
         go none q k = absurd (let z : _≡_ {A = ℕ} 0 1 = cc in omega arith)
         go (some rs) q k =
             let g : Good h a (partAt area a) rs = read-good h a (partAt area a) rs q in
@@ -157,7 +160,7 @@ module _ (h : ℕ → ℕ) (area : List ℕ) (cap : ℕ) where
             rw (add-one, m) (w, look-decides h s a rs rest (g .few) ∙ i, omega (arith, length-append rs (cat rest [])), omega (arith, g .few))
 
   -- with no page left the pages are whole
-  pub survey-ends : (s : Seen) (a : ℕ) → cap ≤ a → Left s a → Whole (s .image) (s .records) ≡ surveyed h area cap
+  pub survey-ends : (s : Seen) (a : ℕ) → cap ≤ a → ToSurvey s a → Whole (s .image) (s .records) ≡ surveyed h area cap
   unfolding surveyed
   survey-ends s a l left =
       let z : cap - a ≡ 0 = omega arith in

@@ -1,4 +1,3 @@
 pub mod Survey
-pub mod Looks
-pub mod Counts
 pub mod Promises
+pub mod steps

@@ -14,6 +14,9 @@ use Rattle.survey.specs.Survey.{isImage}
 
 -- What is promised, and proved as `survey-promises` (proofs/Promises.antt), for any home h of a key
 pub record SurveyPromises : Type 0 where
-  -- "An area is the image of a record set when all pages pass the page rules, each record lies at its home or higher with every page from its home up to the one before it full, and reading the pages upward gives rising (home, key), never equal.": where all pages pass, the test page by page says yes exactly when they are the image of the records that stand on them
+  -- "An area is the image of a record set when all pages pass the page rules, each record lies at
+  -- its home or higher with every page from its home up to the one before it full, and reading the
+  -- pages upward gives rising (home, key), never equal.": where all pages pass, the test page by
+  -- page says yes exactly when they are the image of the records that stand on them
   pub image-test : (h : ℕ → ℕ) (area : List ℕ) (n : ℕ) (ps : List (List Record)) → Bytes area → 256 * n ≤ length area → pagesFrom h area n 0 ≡ map some ps
       → (isImage h ps ≡ true) ↔ Image key h 12 n (cat ps []) ps

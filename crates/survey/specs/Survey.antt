@@ -1,4 +1,5 @@
--- What a look at all pages tells (01, 'The walks': check). What is quoted is 01's. h is the home of a key.
+-- What a look at all pages tells (01, 'The walks': check). What is quoted is 01's. h is the home of
+-- a key.
 use Prim.Native.Nat.{ℕ, suc}
 use mathlib.Core.Bool.{Bool, true, false, _&&_}
 use mathlib.Core.Option.{Option, none, some}
@@ -10,16 +11,18 @@ use Rattle.placing.specs.Lay.{rankIn}
 use Rattle.pages.specs.Page.{Record, key}
 use Rattle.pages.specs.Area.{pagesFrom, heldFrom}
 use Rattle.survey.specs.declared.Verdict.{Verdict}
-use Rattle.survey.specs.declared.Verdict.the-variants.{Sick, Whole}
+use Rattle.survey.specs.declared.Verdict.the-variants.{Whole}
+use Rattle.survey.specs.declared.Verdict.the-variants as verdicts
 
--- "judge pages from 0 upward and stop at the first broken one": its address, the first page being at a
+-- "judge pages from 0 upward and stop at the first broken one": its address, the first page being
+-- at a
 abbrev pub lowestBroken : ℕ → List (Option (List Record)) → Option ℕ
 lowestBroken a [] = none
 lowestBroken a (none ∷ ps) = some a
 lowestBroken a (some p ∷ ps) = lowestBroken (suc a) ps
 
 abbrev pub onBroken : Option ℕ → Verdict → Verdict
-onBroken (some a) whole = Sick a
+onBroken (some a) whole = verdicts.Broken a
 onBroken none whole = whole
 
 module _ (h : ℕ → ℕ) where
@@ -40,7 +43,9 @@ module _ (h : ℕ → ℕ) where
   nextLow low (x ∷ []) = suc (rankIn key h x)
   nextLow low (x ∷ (y ∷ p)) = nextLow low (y ∷ p)
 
-  -- Whether pages that pass their rules are an image, page by page: `full` tells whether the page before is full, `low` what stands after all records so far. Proved to be 01's sentence (`SurveyPromises`).
+  -- Whether pages that pass their rules are an image, page by page: `full` tells whether the page
+  -- before is full, `low` what stands after all records so far. Proved to be 01's sentence
+  -- (`SurveyPromises`).
   abbrev pub imageFrom : (full : Bool) → (low a : ℕ) → List (List Record) → Bool
   imageFrom full low a [] = true
   imageFrom full low a (p ∷ ps) = startsAtHome full a p && (startsAt low p && imageFrom (leb 12 (length p)) (nextLow low p) (suc a) ps)
@@ -48,7 +53,8 @@ module _ (h : ℕ → ℕ) where
   unfoldable pub isImage : List (List Record) → Bool
   isImage ps = imageFrom true 0 0 ps
 
-  -- the lowest broken page; with none broken, whether the pages are an image, and of how many records
+  -- the lowest broken page; with none broken, whether the pages are an image, and of how many
+  -- records
   unfoldable pub surveyed : List ℕ → (cap : ℕ) → Verdict
   surveyed area cap =
       onBroken (lowestBroken 0 (pagesFrom h area cap 0)) (Whole (isImage (heldFrom area cap 0)) (length (cat (heldFrom area cap 0) [])))

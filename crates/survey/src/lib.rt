@@ -1,4 +1,5 @@
-// Looks at all pages of an area: whether they are an image, and how many records there are of each home.
+// Looks at all pages of an area: whether they are an image, and how many records there are of each
+// home.
 use homes::Shape;
 use homes::Stage;
 use pages::Judged;
@@ -11,25 +12,28 @@ ghost use Rattle.homes.specs.Homes.{Ready, homeIn};
 ghost use Rattle.placing.specs.Image.{cat};
 ghost use Rattle.placing.specs.Rows.{leftOver};
 ghost use Rattle.pages.specs.Page.{inMemory};
-ghost use Rattle.pages.specs.Slots.{recordsOf};
+ghost use Rattle.pages.specs.steps.Slots.{recordsOf};
 ghost use Rattle.pages.specs.Area.{heldFrom};
 ghost use Rattle.survey.specs.Survey.{surveyed};
-ghost use Rattle.survey.specs.Looks.{unseen, looked, tallied};
-ghost use Rattle.survey.specs.Counts.{Stands, Countable, homesOf, Counts};
+ghost use Rattle.survey.specs.steps.Looks.{unseen, looked, tallied};
+ghost use Rattle.survey.specs.steps.Counts.{Stands, Countable, homesOf, Counts};
 
-// The lowest broken page; or, with none broken, whether the pages are an image, and of how many records.
+// The lowest broken page; or, with none broken, whether the pages are an image, and of how many
+// records.
 pub enum Verdict {
-    Sick { page: usize },
+    Broken { page: usize },
     Whole { image: bool, records: u32 },
 }
 
-// What is counted while the pages are judged: nothing, or the records of each home in the file as it grew by the step `last`.
+// What is counted while the pages are judged: nothing, or the records of each home in the file as
+// it grew by the step `last`.
 pub enum Count {
     Nothing,
     Homes { next: Shape, last: Stage },
 }
 
-// What has been seen of the pages so far: whether they may be an image, whether the last of them is full, and (home, key) of the last record, if there is any.
+// What has been seen of the pages so far: whether they may be an image, whether the last of them is
+// full, and (home, key) of the last record, if there is any.
 pub struct Seen {
     pub image: bool,
     pub full: bool,
@@ -97,7 +101,8 @@ fn clear(row: &mut [u32])
     }
 }
 
-// The records of a judged page, counted by their homes in the file as it grew, if that is wanted. A home whose page stays is kept, and what that page says is asked for once; others are worked out.
+// The records of a judged page, counted by their homes in the file as it grew, if that is wanted. A
+// home whose page stays is kept, and what that page says is asked for once; others are worked out.
 fn tally(judged: Judged, count: Count, row: &mut [u32])
     requires { ⌜ (judged .page .count ≤ 12) × (judged .page ≡ inMemory (recordsOf (judged .page))) × ((k : ℕ) → getD (now row) k 0 ≤ 49152) ⌝ }
     requires { ⌜ Countable count (Stands judged) (length (now row)) ⌝ }
@@ -126,7 +131,8 @@ fn tally(judged: Judged, count: Count, row: &mut [u32])
     }
 }
 
-// Judges the pages from 0 upward, and stops at the first broken one. Where none is broken, all records are counted whose homes are wanted.
+// Judges the pages from 0 upward, and stops at the first broken one. Where none is broken, all
+// records are counted whose homes are wanted.
 pub fn survey(area: &[u8], cap: usize, shape: Shape, count: Count, row: &mut [u32]) -> Verdict
     requires { ⌜ (cap ≤ 4096) × (length (now area) ≡ 256 * cap) × Ready shape × Countable count (λ k a. homeIn shape k ≡ a) (length (now row)) ⌝ }
     ensures { λ r. ⌜ r ≡ surveyed (homeIn shape) (now (area .entry)) cap ⌝ }
@@ -138,7 +144,7 @@ pub fn survey(area: &[u8], cap: usize, shape: Shape, count: Count, row: &mut [u3
     while a < cap {
         let judged = pages::judge_at(area, a, shape);
         if !judged.good {
-            return Verdict::Sick { page: a };
+            return Verdict::Broken { page: a };
         }
         seen = look(seen, judged, a);
         tally(judged, count, row);
@@ -150,7 +156,8 @@ pub fn survey(area: &[u8], cap: usize, shape: Shape, count: Count, row: &mut [u3
     }
 }
 
-// Whether records of these homes find room, twelve to a page, each at its home or higher: what does not fit on a page goes on to the next.
+// Whether records of these homes find room, twelve to a page, each at its home or higher: what does
+// not fit on a page goes on to the next.
 pub fn has_room(row: &[u32]) -> bool
     requires { ⌜ length (now row) ≤ 4096 ⌝ }
     ensures { λ r. ⌜ r ≡ eqb (leftOver 12 (now (row .entry)) 0) 0 ⌝ }

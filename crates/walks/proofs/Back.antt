@@ -1,4 +1,5 @@
--- The first phase of a remove, page by page: the page after page a as it was judged, and how the plan goes on.
+-- The first phase of a remove, page by page: the page after page a as it was judged, and how the
+-- plan goes on.
 use mathlib.Core.Path.{_≡_, refl, sym, _∙_}
 use mathlib.Core.Bool.{Bool, true, false, not, _||_}
 use mathlib.Core.Option.{Option, none, some}
@@ -15,7 +16,7 @@ use Rattle.pages.specs.Area.{partAt, pagesFrom}
 use Rattle.state.specs.declared.Answer.the-variants.{Broken}
 use Rattle.walks.specs.declared.Plan.{Plan}
 use Rattle.walks.specs.declared.Plan.the-variants.{Go, Stop}
-use Rattle.walks.specs.Plans.{reachedBack}
+use Rattle.walks.specs.steps.Plans.{reachedBack}
 
 -- true is not false
 differ : true ≡ false → ⊥

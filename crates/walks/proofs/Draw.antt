@@ -1,4 +1,5 @@
--- The second phase of a remove: pages closed up and filled in memory, and the area that they are written to.
+-- The second phase of a remove: pages closed up and filled in memory, and the area that they are
+-- written to.
 use mathlib.Core.Path.{_≡_, refl, sym, ap, _∙_}
 use mathlib.Core.Bool.{Bool, true, false, cond}
 use mathlib.Core.List.{List, [], _∷_, append-nil}
@@ -11,13 +12,14 @@ use Rattle.placing.specs.Lay.{ranked, rankIn}
 use Rattle.pages.specs.declared.Page.{Page}
 use Rattle.pages.specs.declared.Pushed.{Pushed}
 use Rattle.pages.specs.Page.{Record, key, recordWith, vacant, rank, recordsIn, inMemory}
-use Rattle.pages.specs.Slots.{opened, closed, upToBack, recordsOf, pushed}
+use Rattle.pages.specs.Places.{closed}
+use Rattle.pages.specs.steps.Slots.{opened, upToBack, recordsOf, pushed}
 use Rattle.pages.specs.Area.{partAt, withPage}
 use Rattle.pages.proofs.Memory.{page-count, page-records}
 use Rattle.pages.proofs.Read.{held-few, ready}
 use Rattle.pages.proofs.Areas.{with-length, part-other}
 use Rattle.walks.specs.Walks.{writes}
-use Rattle.walks.specs.Plans.{held, firstOf, backed, drawn}
+use Rattle.walks.specs.steps.Plans.{held, firstOf, backed, drawn}
 
 -- closing up a slot that holds no record changes nothing
 closed-past : (slot : ℕ) (rs : List Record) → length rs ≤ slot → closed slot rs ≡ rs

@@ -1,4 +1,5 @@
--- The walk to a key: what is known of a page that was judged, its slots one by one, and each way out.
+-- The walk to a key: what is known of a page that was judged, its slots one by one, and each way
+-- out.
 use mathlib.Core.Path.{_≡_, refl, sym, ap, _∙_}
 use mathlib.Core.Bool.{Bool, true, false, cond, _||_}
 use mathlib.Core.Option.{Option, none, some}
@@ -19,7 +20,8 @@ use Rattle.placing.proofs.Rank.{seek-key}
 use Rattle.placing.proofs.Seek.{clash}
 use Rattle.pages.specs.declared.Judged.{Judged}
 use Rattle.pages.specs.Page.{Record, key, value, readPage, judged}
-use Rattle.pages.specs.Slots.{ahead, recordsOf}
+use Rattle.pages.specs.Places.{ahead}
+use Rattle.pages.specs.steps.Slots.{recordsOf}
 use Rattle.pages.specs.Area.{partAt, pagesFrom}
 use Rattle.pages.proofs.Memory.{memory}
 use Rattle.pages.proofs.RoundTrip.{Good, read-good}
@@ -28,7 +30,8 @@ use Rattle.pages.proofs.Places.{ahead-le, ahead-all}
 use Rattle.pages.proofs.Seeking.{homes-key}
 use Rattle.pages.proofs.Bounds.{keys-small}
 use Rattle.walks.specs.declared.Met.{Met}
-use Rattle.walks.specs.declared.Met.the-variants.{Found, Sick, Ends, Past}
+use Rattle.walks.specs.declared.Met.the-variants.{Found, Ends}
+use Rattle.walks.specs.declared.Met.the-variants as mets
 use Rattle.walks.specs.Walks.{heldAt, onHeld, endsOn, meets, walk}
 use Rattle.walks.proofs.Scanning.{no, records-count, After, Left, left-away, left-place, Rows}
 
@@ -119,14 +122,14 @@ module _ (h : ℕ → ℕ) (area : List ℕ) (cap k a n : ℕ) where
   walk-starts e z = rw (e, z)
 
   -- the end of the area ends it
-  pub walk-past : cap ≤ a → Past n ≡ walkLeft h area cap k a n
+  pub walk-past : cap ≤ a → mets.AtEnd n ≡ walkLeft h area cap k a n
   walk-past l =
       let e : cap - a ≡ 0 = omega arith in
       rw e
 
 module _ {h : ℕ → ℕ} {area : List ℕ} {cap a : ℕ} {j : Judged} (seen : Seen h area cap a j) (k n : ℕ) where
   -- a broken page ends it
-  pub walk-sick : j .good ≡ false → Sick a (n + 1) ≡ walkLeft h area cap k a n
+  pub walk-sick : j .good ≡ false → mets.Broken a (n + 1) ≡ walkLeft h area cap k a n
   walk-sick g = rw (pages-next seen, page-broken seen g, add-one)
 
   module _ (g : j .good ≡ true) where

@@ -12,14 +12,15 @@ use Rattle.placing.specs.Lay.{rankIn, ins, ranked}
 use Rattle.pages.specs.declared.Page.{Page}
 use Rattle.pages.specs.declared.Pushed.{Pushed}
 use Rattle.pages.specs.Page.{Record, key, rank, recordsIn, inMemory}
-use Rattle.pages.specs.Slots.{opened, ahead, recordsOf, pushed}
+use Rattle.pages.specs.Places.{ahead}
+use Rattle.pages.specs.steps.Slots.{opened, recordsOf, pushed}
 use Rattle.pages.specs.Area.{partAt, withPage}
 use Rattle.pages.proofs.Memory.{memory}
 use Rattle.pages.proofs.Read.{held-few, ready}
 use Rattle.pages.proofs.Places.{ins-opened, ahead-le}
 use Rattle.pages.proofs.Areas.{with-length, part-other}
 use Rattle.walks.specs.Walks.{writes}
-use Rattle.walks.specs.Plans.{held, poured}
+use Rattle.walks.specs.steps.Plans.{held, poured}
 use Rattle.walks.proofs.Scanning.{records-count}
 
 -- the place on a page after the first is sought

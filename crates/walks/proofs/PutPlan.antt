@@ -15,16 +15,17 @@ use Rattle.placing.specs.Lay.{rankOf, rankIn, ins}
 use Rattle.placing.proofs.Order.{ins-length}
 use Rattle.pages.specs.declared.Judged.{Judged}
 use Rattle.pages.specs.Page.{Record, key, readPage}
-use Rattle.pages.specs.Slots.{ahead}
+use Rattle.pages.specs.Places.{ahead}
 use Rattle.pages.specs.Area.{partAt, pagesFrom}
 use Rattle.pages.proofs.RoundTrip.{read-good}
 use Rattle.state.specs.declared.Answer.the-variants.{Broken, NoRoom, Held}
 use Rattle.walks.specs.declared.Met.{Met}
-use Rattle.walks.specs.declared.Met.the-variants.{Found, Sick, Ends, Past}
+use Rattle.walks.specs.declared.Met.the-variants.{Found, Ends}
+use Rattle.walks.specs.declared.Met.the-variants as mets
 use Rattle.walks.specs.declared.Plan.{Plan}
 use Rattle.walks.specs.declared.Plan.the-variants.{Go, Stop}
-use Rattle.walks.specs.Walks.{Pages, went, stopped, wrote, heldAt, onHeld, endsOn, meets, walk, carry, putMet, putWalk}
-use Rattle.walks.specs.Plans.{held, poured, reached, planned, placedIn}
+use Rattle.walks.specs.Walks.{Pages, went, stopped, andPage, heldAt, onHeld, endsOn, meets, walk, carry, putMet, putWalk}
+use Rattle.walks.specs.steps.Plans.{held, poured, reached, planned, placedIn}
 use Rattle.walks.proofs.Scanning.{records-count}
 use Rattle.walks.proofs.Meeting.{Seen, pages-next, page-broken, page-read}
 
@@ -80,7 +81,7 @@ module _ (h : ℕ → ℕ) (area : List ℕ) (f at : ℕ) where
 
   -- a full page before those that are left
   wrote-on : (m a : ℕ) (x : Record) (p : Plan) → f + m ≡ a → LastFrom (suc a) p
-      → wrote a (take 12 (ins (rankIn key h) x (held area a))) (planned (pouredOn (suc m) (suc a) (getD (ins (rankIn key h) x (held area a)) 12 x)) p)
+      → andPage a (take 12 (ins (rankIn key h) x (held area a))) (planned (pouredOn (suc m) (suc a) (getD (ins (rankIn key h) x (held area a)) 12 x)) p)
       ≡ planned (pouredOn m a x) p
   wrote-on m a x (Stop why) e l = refl
   wrote-on m a x (Go g i last read) e l =
@@ -91,7 +92,7 @@ module _ (h : ℕ → ℕ) (area : List ℕ) (f at : ℕ) where
       (on : (y : Record) → carry h (suc a) (suc n) (suc m) y ps ≡ planned (pouredOn (suc m) (suc a) y) (reached h f at (suc a) (suc n) ps)) where
     good-page : (p : List Record) → p ≡ held area a → (u : Bool) → ltb (length p) 12 ≡ u
         → cond u (went ((a, ins (rankIn key h) x p) ∷ []) (suc n) m)
-        (wrote a (take 12 (ins (rankIn key h) x p)) (carry h (suc a) (suc n) (suc m) (getD (ins (rankIn key h) x p) 12 x) ps))
+        (andPage a (take 12 (ins (rankIn key h) x p)) (carry h (suc a) (suc n) (suc m) (getD (ins (rankIn key h) x p) 12 x) ps))
         ≡ planned (pouredOn m a x) (cond u (Go f at a (suc n)) (reached h f at (suc a) (suc n) ps))
     good-page p q true t =
         let k : a - f ≡ m = omega arith in
@@ -180,11 +181,11 @@ module _ (h : ℕ → ℕ) (area : List ℕ) (x : Record) where
     pub put-found : (a i c old n : ℕ) → m ≡ Found a i c old n → stopped (Held old n) ≡ putWalk h area cap x
     put-found a i c old n e = put-met (Found a i c old n) e
 
-    pub put-sick : (a n : ℕ) → m ≡ Sick a n → stopped (Broken a n) ≡ putWalk h area cap x
-    put-sick a n e = put-met (Sick a n) e
+    pub put-sick : (a n : ℕ) → m ≡ mets.Broken a n → stopped (Broken a n) ≡ putWalk h area cap x
+    put-sick a n e = put-met (mets.Broken a n) e
 
-    pub put-past : (n : ℕ) → m ≡ Past n → stopped (NoRoom n) ≡ putWalk h area cap x
-    put-past n e = put-met (Past n) e
+    pub put-past : (n : ℕ) → m ≡ mets.AtEnd n → stopped (NoRoom n) ≡ putWalk h area cap x
+    put-past n e = put-met (mets.AtEnd n) e
 
     module _ (a i c n : ℕ) (e : m ≡ Ends a i c n) where
       pub put-at : EndsAt a i c

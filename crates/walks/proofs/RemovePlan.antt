@@ -13,7 +13,7 @@ use Rattle.placing.specs.Image.{All}
 use Rattle.placing.specs.Lay.{rankIn, ins}
 use Rattle.placing.proofs.Order.{Sorted, ins-length}
 use Rattle.pages.specs.Page.{Record, key, vacant, rises, readPage}
-use Rattle.pages.specs.Slots.{closed}
+use Rattle.pages.specs.Places.{closed}
 use Rattle.pages.proofs.Rows.{closed-length}
 use Rattle.pages.specs.Area.{partAt, pagesFrom}
 use Rattle.pages.proofs.RoundTrip.{Good, read-good}
@@ -21,8 +21,8 @@ use Rattle.pages.proofs.Rules.{rises-sorted}
 use Rattle.pages.proofs.Places.{back-ahead, ins-opened}
 use Rattle.walks.specs.declared.Plan.{Plan}
 use Rattle.walks.specs.declared.Plan.the-variants.{Go, Stop}
-use Rattle.walks.specs.Walks.{Walked, went, stopped, wrote, pullBack}
-use Rattle.walks.specs.Plans.{held, firstOf, backed, drawn, reachedBack, planned}
+use Rattle.walks.specs.Walks.{Walked, went, stopped, andPage, pullBack}
+use Rattle.walks.specs.steps.Plans.{held, firstOf, backed, drawn, reachedBack, planned}
 
 -- a record at its place from the back, where there is room for it
 back-ins : (h : ℕ → ℕ) (y : Record) (s : List Record) → Sorted (rankIn key h) s → length s < 12 → backed h y s ≡ ins (rankIn key h) y s
@@ -84,7 +84,7 @@ module _ (h : ℕ → ℕ) (area : List ℕ) where
 
   -- page a is filled, and the plan goes on from the next page
   from-next : (f at a slot m : ℕ) (p : Plan) → Begins f at (suc a) p
-      → from a slot m p ≡ wrote a (backed h (firstOf (held area (suc a))) (closed slot (held area a))) (from (suc a) 0 (suc m) p)
+      → from a slot m p ≡ andPage a (backed h (firstOf (held area (suc a))) (closed slot (held area a))) (from (suc a) 0 (suc m) p)
   from-next f at a slot m (Go f′ at′ last read) b =
       let e : last - a ≡ suc (last - suc a) = omega arith in
       let k : m + suc (last - suc a) ≡ suc m + (last - suc a) = omega arith in
@@ -114,12 +114,12 @@ module _ (h : ℕ → ℕ) (area : List ℕ) where
       on : (u v : Bool) (y : Record) (q : List Record) → held area (suc a) ≡ y ∷ q
           → from (suc a) 0 (suc m) (reachedBack h f at (suc a) (suc n) ps) ≡ pullBack h (suc a) (suc n) (suc m) (closed 0 (held area (suc a))) ps
           → from a slot m (cond u (cond v (Go f at (suc a) (suc n)) (reachedBack h f at (suc a) (suc n) ps)) (Go f at a (suc n)))
-          ≡ cond u (wrote a (ins (rankIn key h) y p) (cond v (went ((suc a, q) ∷ []) (suc n) (suc m)) (pullBack h (suc a) (suc n) (suc m) q ps)))
+          ≡ cond u (andPage a (ins (rankIn key h) y p) (cond v (went ((suc a, q) ∷ []) (suc n) (suc m)) (pullBack h (suc a) (suc n) (suc m) q ps)))
           (went ((a, p) ∷ []) (suc n) m)
       on false v y q e ih = from-last f at a slot (suc n) m
       on true true y q e ih =
           from-next f at a slot m (Go f at (suc a) (suc n)) (refl, refl, omega arith)
-          ∙ ap (wrote a (backed h (firstOf (held area (suc a))) p)) (from-last f at (suc a) 0 (suc n) (suc m))
+          ∙ ap (andPage a (backed h (firstOf (held area (suc a))) p)) (from-last f at (suc a) 0 (suc n) (suc m))
           ∙ rw (e, back-ins h y p s l, closed-first y q)
       on true false y q e ih =
           from-next f at a slot m (reachedBack h f at (suc a) (suc n) ps) (begins f at (suc a) (suc n) ps)

@@ -18,7 +18,8 @@ use Rattle.placing.proofs.Lists.{all-getD}
 use Rattle.placing.proofs.Order.{Sorted, sorted-drop, lower}
 use Rattle.pages.specs.declared.Page.{Page}
 use Rattle.pages.specs.Page.{Record, key, recordWith, vacant}
-use Rattle.pages.specs.Slots.{ahead, paired, recordsOf}
+use Rattle.pages.specs.Places.{ahead}
+use Rattle.pages.specs.steps.Slots.{paired, recordsOf}
 use Rattle.pages.proofs.Seeking.{paired-length, paired-key}
 use Rattle.walks.specs.Walks.{heldAt}
 
@@ -74,18 +75,18 @@ module _ (h : ℕ → ℕ) (k : ℕ) where
 
   -- from slot i on, what is left of a page's records tells where the key is held, and where its
   -- place is
-  pub record Left (p : Page) (i : ℕ) : Type 0 where
+  pub record ToScan (p : Page) (i : ℕ) : Type 0 where
     pub upto : i ≤ p .count
     pub held : heldAt k i (drop i (recordsOf p)) ≡ heldAt k 0 (recordsOf p)
     pub place : i + ahead (rankIn key h) (rankOf h k) (drop i (recordsOf p)) ≡ ahead (rankIn key h) (rankOf h k) (recordsOf p)
 
   -- at the first slot all are left
-  pub left-all : (p : Page) → Left p 0
+  pub left-all : (p : Page) → ToScan p 0
   left-all p = record { upto = omega arith; held = refl; place = omega arith }
 
-  module _ {p : Page} {i : ℕ} (w : Left p i) where
+  module _ {p : Page} {i : ℕ} (w : ToScan p i) where
     -- a slot that stands before the sought is passed
-    pub left-on : i < p .count → rankOf h (getD (p .keys) i 0) < rankOf h k → Left p (i + 1)
+    pub left-on : i < p .count → rankOf h (getD (p .keys) i 0) < rankOf h k → ToScan p (i + 1)
     left-on l b =
         let rest = slot-first p i l in
         let other = ne-eqb (getD (p .keys) i 0) k (λ e. omega (arith, ap (rankOf h) e)) in
@@ -129,7 +130,7 @@ after-last h k p i l =
 -- stands after the sought
 pub record Tested (h : ℕ → ℕ) (p : Page) (hs : List ℕ) (k home i : ℕ) (t : Bool) : Type 0 where
   pub rows : Rows h p hs
-  pub left : Left h k p i
+  pub left : ToScan h k p i
   pub small : k < 2 ^ 64
   pub lives : home ≡ h k
   pub told : t ≡ ltb (ranked home k) (ranked (getD hs i 0) (getD (p .keys) i 0))
@@ -166,7 +167,7 @@ module _ {h : ℕ → ℕ} {p : Page} {hs : List ℕ} {k home i : ℕ} {t : Bool
   slot-hit q e = left-hit h k (w .left) (slot-used q) e
 
   -- with another it stands before the sought, and is passed
-  pub slot-on : (eqb i (p .count) || t) ≡ false → (getD (p .keys) i 0 ≡ k → ⊥) → Left h k p (i + 1)
+  pub slot-on : (eqb i (p .count) || t) ≡ false → (getD (p .keys) i 0 ≡ k → ⊥) → ToScan h k p (i + 1)
   slot-on q n =
       let l : i < p .count = slot-used q in
       let low = ltb-false (rankOf h k) (rankOf h (getD (p .keys) i 0)) (sym (told-rank l) ∙ go (eqb i (p .count)) t q) in

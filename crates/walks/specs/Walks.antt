@@ -1,4 +1,5 @@
--- The walks of find, put and remove on any bytes (01, 'The walks'). What is quoted is 01's. A page is none where it is broken; h is the home of a key; n counts the pages read.
+-- The walks of find, put and remove on any bytes (01, 'The walks'). What is quoted is 01's. A page
+-- is none where it is broken; h is the home of a key; n counts the pages read.
 use Prim.Native.Nat.{ℕ, suc, _-_}
 use mathlib.Core.Bool.{Bool, cond, _||_}
 use mathlib.Core.Option.{Option, none, some}
@@ -8,12 +9,13 @@ use lib.Dec.{leb, ltb, eqb}
 use Rattle.placing.specs.Lay.{rankOf, rankIn, ins}
 use Rattle.placing.specs.Walks.{lastAfter}
 use Rattle.pages.specs.Page.{Record, key, value, recordsIn}
-use Rattle.pages.specs.Slots.{closed, ahead}
+use Rattle.pages.specs.Places.{closed, ahead}
 use Rattle.pages.specs.Area.{partAt, pagesFrom, withPage}
 use Rattle.state.specs.declared.Answer.{Answer}
 use Rattle.state.specs.declared.Answer.the-variants.{Accepted, Broken, Absent, Held, NoRoom}
 use Rattle.walks.specs.declared.Met.{Met}
-use Rattle.walks.specs.declared.Met.the-variants.{Found, Sick, Ends, Past}
+use Rattle.walks.specs.declared.Met.the-variants.{Found, Ends}
+use Rattle.walks.specs.declared.Met.the-variants as mets
 
 -- the slot that holds a key, with its value; the first of the records stands in slot i
 abbrev pub heldAt : (k i : ℕ) → List Record → Option (ℕ × ℕ)
@@ -29,10 +31,13 @@ module _ (h : ℕ → ℕ) where
   abbrev pub endsOn : ℕ → List Record → Bool
   endsOn k p = ltb (length p) 12 || lastAfter (rankIn key h) (rankOf h k) p
 
-  -- The walk to a key: "A broken page ends it (4). A page that holds the key ends it with the value. Otherwise a page that isn't full, or whose last record stands after the sought (home, key), ends it .. ; so does the end of the area." An ending page is told with the place of the key there.
+  -- The walk to a key: "A broken page ends it (4). A page that holds the key ends it with the
+  -- value. Otherwise a page that isn't full, or whose last record stands after the sought (home,
+  -- key), ends it .. ; so does the end of the area." An ending page is told with the place of the
+  -- key there.
   abbrev pub meets : (k a n : ℕ) → List (Option (List Record)) → Met
-  meets k a n [] = Past n
-  meets k a n (none ∷ ps) = Sick a (suc n)
+  meets k a n [] = mets.AtEnd n
+  meets k a n (none ∷ ps) = mets.Broken a (suc n)
   meets k a n (some p ∷ ps) =
       let on = meets k (suc a) (suc n) ps in
       onHeld (heldAt k 0 p) (λ i v. Found a i (length p) v (suc n))
@@ -45,9 +50,9 @@ module _ (h : ℕ → ℕ) where
 -- Find: what the walk meets is the answer.
 abbrev pub findAnswer : Met → Answer
 findAnswer (Found a i c v n) = Accepted v n 0
-findAnswer (Sick a n) = Broken a n
+findAnswer (mets.Broken a n) = Broken a n
 findAnswer (Ends a i c n) = Absent n
-findAnswer (Past n) = Absent n
+findAnswer (mets.AtEnd n) = Absent n
 
 -- pages to be written, each with its address and its records
 abbrev pub Pages : Type 0
@@ -58,37 +63,43 @@ abbrev pub writes : List ℕ → Pages → List ℕ
 writes area [] = area
 writes area (w ∷ ws) = writes (withPage area (w .0) (w .1)) ws
 
--- the whole walk of a put or a remove: the pages to be written, with how many were read and how many records moved, or why not. "every page looked at is judged before any is written"
+-- the whole walk of a put or a remove: the pages to be written, with how many were read and how
+-- many records moved, or why not. "every page looked at is judged before any is written"
 pub data Walked : Type 0 where
   went : Pages → (read moved : ℕ) → Walked
   stopped : Answer → Walked
 
 -- one page more to be written, where all went well
-abbrev pub wrote : ℕ → List Record → Walked → Walked
-wrote a p (went ws n m) = went ((a, p) ∷ ws) n m
-wrote a p (stopped why) = stopped why
+abbrev pub andPage : ℕ → List Record → Walked → Walked
+andPage a p (went ws n m) = went ((a, p) ∷ ws) n m
+andPage a p (stopped why) = stopped why
 
 module _ (h : ℕ → ℕ) where
-  -- Put, from the ending page on: "the record goes to its place in order on the ending page. If that page was full, its last record (the new one counted) goes to its place on the next page, and so on to the first page that wasn't full. Past the end ..: 7."
+  -- Put, from the ending page on: "the record goes to its place in order on the ending page. If
+  -- that page was full, its last record (the new one counted) goes to its place on the next page,
+  -- and so on to the first page that wasn't full. mets.AtEnd the end ..: 7."
   abbrev pub carry : (a n m : ℕ) → Record → List (Option (List Record)) → Walked
   carry a n m x [] = stopped (NoRoom n)
   carry a n m x (none ∷ ps) = stopped (Broken a (suc n))
   carry a n m x (some p ∷ ps) =
       let q = ins (rankIn key h) x p in
       let on = carry (suc a) (suc n) (suc m) (getD q 12 x) ps in
-      cond (ltb (length p) 12) (went ((a, q) ∷ []) (suc n) m) (wrote a (take 12 q) on)
+      cond (ltb (length p) 12) (went ((a, q) ∷ []) (suc n) m) (andPage a (take 12 q) on)
 
-  -- "Put walks likewise; a found key is 6, with the value held"; "where the walk met only full pages to the end of the area: 7". The ending page counts once.
+  -- "Put walks likewise; a found key is 6, with the value held"; "where the walk met only full
+  -- pages to the end of the area: 7". The ending page counts once.
   abbrev pub putMet : List ℕ → (cap : ℕ) → Record → Met → Walked
   putMet area cap x (Found a i c v n) = stopped (Held v n)
-  putMet area cap x (Sick a n) = stopped (Broken a n)
+  putMet area cap x (mets.Broken a n) = stopped (Broken a n)
   putMet area cap x (Ends a i c n) = carry a (n - 1) 0 x (pagesFrom h area (cap - a) a)
-  putMet area cap x (Past n) = stopped (NoRoom n)
+  putMet area cap x (mets.AtEnd n) = stopped (NoRoom n)
 
   unfoldable pub putWalk : List ℕ → (cap : ℕ) → Record → Walked
   putWalk area cap x = putMet area cap x (walk h area cap (key x))
 
-  -- Remove, where page a was full and p is what it still holds: "If the page was full and the next page exists and its first record has a home no higher than this page, that record comes back to its place here, and the next page is treated the same way."
+  -- Remove, where page a was full and p is what it still holds: "If the page was full and the next
+  -- page exists and its first record has a home no higher than this page, that record comes back to
+  -- its place here, and the next page is treated the same way."
   abbrev pub pullBack : (a n m : ℕ) → List Record → List (Option (List Record)) → Walked
   pullBack a n m p [] = went ((a, p) ∷ []) n m
   pullBack a n m p (none ∷ ps) = stopped (Broken (suc a) (suc n))
@@ -96,7 +107,7 @@ module _ (h : ℕ → ℕ) where
   pullBack a n m p (some (y ∷ q) ∷ ps) =
       let on = pullBack (suc a) (suc n) (suc m) q ps in
       cond (leb (h (key y)) a)
-      (wrote a (ins (rankIn key h) y p) (cond (ltb (suc (length q)) 12) (went ((suc a, q) ∷ []) (suc n) (suc m)) on))
+      (andPage a (ins (rankIn key h) y p) (cond (ltb (suc (length q)) 12) (went ((suc a, q) ∷ []) (suc n) (suc m)) on))
       (went ((a, p) ∷ []) (suc n) m)
 
   -- "Remove finds the key and closes the slots up."
@@ -104,9 +115,9 @@ module _ (h : ℕ → ℕ) where
   removeMet area cap (Found a i c v n) =
       let p = recordsIn (partAt area a) in
       cond (ltb (length p) 12) (went ((a, closed i p) ∷ []) n 0) (pullBack a n 0 (closed i p) (pagesFrom h area (cap - suc a) (suc a)))
-  removeMet area cap (Sick a n) = stopped (Broken a n)
+  removeMet area cap (mets.Broken a n) = stopped (Broken a n)
   removeMet area cap (Ends a i c n) = stopped (Absent n)
-  removeMet area cap (Past n) = stopped (Absent n)
+  removeMet area cap (mets.AtEnd n) = stopped (Absent n)
 
   unfoldable pub removeWalk : List ℕ → (cap k : ℕ) → Walked
   removeWalk area cap k = removeMet area cap (walk h area cap k)

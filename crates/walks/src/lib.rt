@@ -1,4 +1,5 @@
-// The walks of find, put and remove over the pages of a lent area. Put and remove first judge every page that they look at and settle what to write; only then do they write.
+// The walks of find, put and remove over the pages of a lent area. Put and remove first judge every
+// page that they look at and settle what to write; only then do they write.
 pub mod put;
 pub mod remove;
 
@@ -9,9 +10,10 @@ ghost use Prim.Native.Nat.{_*_, _≤_};
 ghost use lib.ListN.{length};
 ghost use Rattle.homes.specs.Homes.{Ready, homeIn};
 ghost use Rattle.walks.specs.Walks.{walk};
-ghost use Rattle.walks.specs.Plans.{metIn};
+ghost use Rattle.walks.specs.steps.Plans.{metIn};
 
-// What the walk to a key meets: the key, a broken page, the page that ends it with the key's place there, or the end of the area.
+// What the walk to a key meets: the key, a broken page, the page that ends it with the key's place
+// there, or the end of the area.
 pub enum Met {
     Found {
         page: usize,
@@ -20,7 +22,7 @@ pub enum Met {
         value: u64,
         read: u32,
     },
-    Sick {
+    Broken {
         page: usize,
         read: u32,
     },
@@ -30,12 +32,13 @@ pub enum Met {
         count: usize,
         read: u32,
     },
-    Past {
+    AtEnd {
         read: u32,
     },
 }
 
-// What a put or a remove is going to do: change the pages from the first to the last, at a slot of the first, or not.
+// What a put or a remove is going to do: change the pages from the first to the last, at a slot of
+// the first, or not.
 pub enum Plan {
     Go {
         first: usize,
@@ -48,7 +51,8 @@ pub enum Plan {
     },
 }
 
-// The walk to a key, page by page and slot by slot, left from inside: at a slot that is empty or stands after the sought (home, key), and at the key.
+// The walk to a key, page by page and slot by slot, left from inside: at a slot that is empty or
+// stands after the sought (home, key), and at the key.
 pub fn meet(area: &[u8], cap: usize, shape: Shape, key: u64) -> Met
     requires { ⌜ (cap ≤ 4096) × (length (now area) ≡ 256 * cap) × Ready shape × (shape .p ≤ cap) ⌝ }
     ensures { λ r. ⌜ r ≡ walk (homeIn shape) (now (area .entry)) cap key ⌝ }
@@ -59,12 +63,12 @@ pub fn meet(area: &[u8], cap: usize, shape: Shape, key: u64) -> Met
     let mut read: u32 = 0;
     'pages: loop {
         if cap <= a {
-            break 'pages Met::Past { read };
+            break 'pages Met::AtEnd { read };
         }
         let judged = pages::judge_at(area, a, shape);
         read += 1;
         if !judged.good {
-            break 'pages Met::Sick { page: a, read };
+            break 'pages Met::Broken { page: a, read };
         }
         let count = judged.page.count;
         let keys = judged.page.keys;

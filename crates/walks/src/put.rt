@@ -1,4 +1,5 @@
-// A put in two phases: every page is judged and the pages to change are settled, and then they are written.
+// A put in two phases: every page is judged and the pages to change are settled, and then they are
+// written.
 use crate::Met;
 use crate::Plan;
 use homes::Shape;
@@ -12,10 +13,11 @@ ghost use lib.ListN.{length};
 ghost use Rattle.homes.specs.Homes.{Ready, homeIn};
 ghost use Rattle.pages.specs.Page.{rank};
 ghost use Rattle.placing.specs.Lay.{ranked};
-ghost use Rattle.pages.specs.Slots.{recordsOf, ahead};
+ghost use Rattle.pages.specs.Places.{ahead};
+ghost use Rattle.pages.specs.steps.Slots.{recordsOf};
 ghost use Rattle.pages.specs.Area.{pagesFrom};
 ghost use Rattle.walks.specs.Walks.{putWalk, writes};
-ghost use Rattle.walks.specs.Plans.{poured, reached, planned, planIn, placedIn, held};
+ghost use Rattle.walks.specs.steps.Plans.{poured, reached, planned, planIn, placedIn, held};
 
 // From a full page on to the first page that isn't full.
 fn reach(area: &[u8], cap: usize, shape: Shape, first: usize, at: usize, seen: u32) -> Plan
@@ -68,13 +70,13 @@ pub fn plan_put(area: &[u8], cap: usize, shape: Shape, new: Record) -> Plan
         } => Plan::Stop {
             why: Answer::Held { value: old, read },
         },
-        Met::Sick { page, read } => Plan::Stop {
+        Met::Broken { page, read } => Plan::Stop {
             why: Answer::Broken {
                 page: page as u16,
                 read,
             },
         },
-        Met::Past { read } => Plan::Stop {
+        Met::AtEnd { read } => Plan::Stop {
             why: Answer::NoRoom { read },
         },
         Met::Ends {
@@ -107,7 +109,8 @@ fn place_on(page: Page, shape: Shape, known: bool, at: usize, key: u64) -> usize
     pages::slots::place_ahead(page, shape, shape.home(key), key)
 }
 
-// The second phase of a put: a record goes to its place on each page, and the last of a full page goes on to the next. It is total on any bytes.
+// The second phase of a put: a record goes to its place on each page, and the last of a full page
+// goes on to the next. It is total on any bytes.
 pub fn pour(area: &mut [u8], shape: Shape, first: usize, at: usize, last: usize, new: Record)
     requires { ⌜ (first ≤ last) × (last < 4096) × (256 * (last + 1) ≤ length (now area)) × Ready shape ⌝ }
     requires { ⌜ at ≡ ahead (rank (homeIn shape)) (rank (homeIn shape) new) (held (now area) first) ⌝ }

@@ -10,12 +10,14 @@ ghost use Prim.Native.Nat.{suc, _+_, _-_, _*_, _≤_, _<_};
 ghost use lib.ListN.{length};
 ghost use Rattle.homes.specs.Homes.{Ready, homeIn};
 ghost use Rattle.pages.specs.Page.{inMemory};
-ghost use Rattle.pages.specs.Slots.{recordsOf, closed};
+ghost use Rattle.pages.specs.Places.{closed};
+ghost use Rattle.pages.specs.steps.Slots.{recordsOf};
 ghost use Rattle.pages.specs.Area.{pagesFrom};
 ghost use Rattle.walks.specs.Walks.{removeWalk, writes};
-ghost use Rattle.walks.specs.Plans.{backed, drawn, reachedBack, planned, planIn, firstOf};
+ghost use Rattle.walks.specs.steps.Plans.{backed, drawn, reachedBack, planned, planIn, firstOf};
 
-// From a full page on, page by page, while the next page's first record has a home no higher than the page before it.
+// From a full page on, page by page, while the next page's first record has a home no higher than
+// the page before it.
 fn reach_back(area: &[u8], cap: usize, shape: Shape, first: usize, at: usize, seen: u32) -> Plan
     requires { ⌜ (cap ≤ 4096) × (length (now area) ≡ 256 * cap) × Ready shape × (first < cap) × (at ≤ 12) × (seen ≤ first + 1) ⌝ }
     ensures { λ r. ⌜ r ≡ reachedBack (homeIn shape) first at first seen (pagesFrom (homeIn shape) (now (area .entry)) (cap - suc first) (suc first)) ⌝ }
@@ -86,7 +88,7 @@ pub fn plan_remove(area: &[u8], cap: usize, shape: Shape, key: u64) -> Plan
             }
             reach_back(area, cap, shape, page, slot, read)
         }
-        Met::Sick { page, read } => Plan::Stop {
+        Met::Broken { page, read } => Plan::Stop {
             why: Answer::Broken {
                 page: page as u16,
                 read,
@@ -100,7 +102,7 @@ pub fn plan_remove(area: &[u8], cap: usize, shape: Shape, key: u64) -> Plan
         } => Plan::Stop {
             why: Answer::Absent { read },
         },
-        Met::Past { read } => Plan::Stop {
+        Met::AtEnd { read } => Plan::Stop {
             why: Answer::Absent { read },
         },
     }
@@ -131,7 +133,8 @@ fn take_back(page: Page, next: Page, shape: Shape) -> Page
     pushed.page
 }
 
-// The second phase of a remove: the slots are closed up, and each page but the last takes the first record of the next. It is total on any bytes.
+// The second phase of a remove: the slots are closed up, and each page but the last takes the first
+// record of the next. It is total on any bytes.
 pub fn draw_back(area: &mut [u8], shape: Shape, first: usize, at: usize, last: usize)
     requires { ⌜ (first ≤ last) × (last < 4096) × (256 * (last + 1) ≤ length (now area)) × Ready shape ⌝ }
     ensures { λ _. ⌜ now (area .exit) ≡ writes (now (area .entry)) (drawn (homeIn shape) (now (area .entry)) (last - first) first at) ⌝ }

@@ -1,9 +1,10 @@
--- `commands::log` meets its contract. The loop's invariant is `Going`: the replies so far stand in the bytes given, and what is left of the log comes behind them.
+-- `commands::log` meets its contract. The loop's invariant is `Going`: the replies so far stand in
+-- the bytes given, and what is left of the log comes behind them.
 -- The measure is how many replies there is still room for.
 use Prim.Native.Nat.{_-_}
 use native.Mathlib.Omega.{arith}
 use borrow.Author.Needs.{needs}
-use Rattle.commands.specs.Carry.{site}
+use Rattle.commands.specs.Execute.{site}
 use Rattle.commands.proofs.Turning.{Going, log-starts, log-full, log-waits, log-stops, log-goes}
 use Rattle.commands.proofs.log.Statement.{statement}
 use Rattle.commands.proofs.log.Tie as tie

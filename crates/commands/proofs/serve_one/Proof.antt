@@ -2,7 +2,7 @@
 use denote.Ref.{now}
 use borrow.Author.Needs.{needs}
 use borrow.Author.Tests.{not-true, not-false}
-use Rattle.commands.specs.Carry.{site}
+use Rattle.commands.specs.Execute.{site}
 use Rattle.commands.proofs.Turning.{serve-none, serve-goes, serve-unknown, serve-waits, serve-cut}
 use Rattle.commands.proofs.serve_one.Statement.{statement}
 use Rattle.commands.proofs.serve_one.Tie as tie
@@ -69,7 +69,7 @@ returns-3 c =
     let e = f .before in
     let a = e .before .before .before .before .before .args in
     serve-goes (a .last) (site (a .state) (now (a .space)) (now (a .row))) (now (a .input)) (now (a .part)) (e .if1 .left) (f .first .result) (f .first .ensures .0) _ _
-    (i .item .given .1) (f .first .ensures .1) (o .carry-out .result) (o .carry-out .ensures .0) _ _ _ (o .carry-out .ensures .1 .0) (o .carry-out .ensures .1 .1) (r .reply .ensures)
+    (i .item .given .1) (f .first .ensures .1) (o .execute .result) (o .execute .ensures .0) _ _ _ (o .execute .ensures .1 .0) (o .execute .ensures .1 .1) (r .reply .ensures)
 
 same-length-4 : tie.Need-same-length-4
 same-length-4 c = search needs

@@ -1,4 +1,5 @@
--- `numbers::get` meets its contract. The loop's invariant: the number so far is that of the highest i of the bytes, and fits i bytes.
+-- `numbers::get` meets its contract. The loop's invariant: the number so far is that of the highest
+-- i of the bytes, and fits i bytes.
 -- The measure is how many bytes are left.
 use borrow.Author.Needs.{needs}
 use denote.Ref.{now}

@@ -1,4 +1,5 @@
--- `numbers::put` meets its contract. The loop's invariant says what is left to do: the lowest bytes of `y`, written from `at + i` on,
+-- `numbers::put` meets its contract. The loop's invariant says what is left to do: the lowest bytes
+-- of `y`, written from `at + i` on,
 -- make the write of the contract. The measure is how many bytes are left.
 use borrow.Author.Needs.{needs}
 use mathlib.Core.Path.{_≡_, refl, sym, _∙_}

@@ -1,4 +1,5 @@
--- `pages::judge_records` meets its contract. The loop's invariant is `Left`, for any homes of which those found are some: the records that are left decide, and their homes are still to be stored.
+-- `pages::judge_records` meets its contract. The loop's invariant is `Left`, for any homes of which
+-- those found are some: the records that are left decide, and their homes are still to be stored.
 -- The measure is how many are left.
 use Prim.Native.Nat.{ℕ, _-_}
 use native.Mathlib.Omega.{arith}
@@ -6,13 +7,13 @@ use borrow.Author.Tests.{not-true, not-false}
 use borrow.Author.Needs.{needs}
 use Rattle.homes.specs.Homes.{homeIn}
 use Rattle.placing.specs.Lay.{ranked}
-use Rattle.pages.proofs.Judging.{Found, keys-long, Left, judging-starts, judging-breaks, judging-goes-on, judging-ends}
+use Rattle.pages.proofs.Judging.{Found, keys-long, ToJudge, judging-starts, judging-breaks, judging-goes-on, judging-ends}
 use Rattle.pages.proofs.judge_records.Statement.{statement}
 use Rattle.pages.proofs.judge_records.Tie as tie
 
 abbrev Inv-loop : tie.InvT-loop
 Inv-loop page address count keys found homes₀ last-home₀ last-key₀ i₀ homes last-home last-key i =
-    (h : ℕ → ℕ) → Found h count keys found → Left h address page homes (ranked last-home last-key) i
+    (h : ℕ → ℕ) → Found h count keys found → ToJudge h address page homes (ranked last-home last-key) i
 
 abbrev μ-loop : tie.MeasureT-loop
 μ-loop page address count keys found homes₀ last-home₀ last-key₀ i₀ homes last-home last-key i = count - i

@@ -1,4 +1,5 @@
--- `pages::parse` meets its contract. The loop's invariant: what is still to be stored makes both rows those of the page's records.
+-- `pages::parse` meets its contract. The loop's invariant: what is still to be stored makes both
+-- rows those of the page's records.
 -- The measure is how many slots are left.
 use denote.Ref.{now}
 use mathlib.Core.Path.{_≡_, refl, sym, _∙_}

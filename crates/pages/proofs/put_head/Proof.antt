@@ -1,4 +1,5 @@
--- `pages::put_head` meets its contract: its fields, stored one after the other, are one write of the head.
+-- `pages::put_head` meets its contract: its fields, stored one after the other, are one write of
+-- the head.
 use denote.Ref.{now}
 use native.Mathlib.Omega.{arith}
 use borrow.Author.Needs.{needs}

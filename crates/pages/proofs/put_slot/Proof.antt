@@ -1,4 +1,5 @@
--- `pages::put_slot` meets its contract: its fields, stored one after the other, are one write of the slot.
+-- `pages::put_slot` meets its contract: its fields, stored one after the other, are one write of
+-- the slot.
 use denote.Ref.{now}
 use native.Mathlib.Nat.{add-assoc}
 use borrow.Author.Needs.{needs}

@@ -1,4 +1,5 @@
--- `pages::slots_formed` meets its contract. The loop's invariant: the slots that are left decide. The measure is how many are left.
+-- `pages::slots_formed` meets its contract. The loop's invariant: the slots that are left decide.
+-- The measure is how many are left.
 use denote.Ref.{now}
 use mathlib.Core.Path.{_≡_, _∙_}
 use Prim.Native.Nat.{_-_, _≤_}

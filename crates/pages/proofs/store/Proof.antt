@@ -1,4 +1,5 @@
--- `pages::store` meets its contract. The loop's invariant says what is left to do: the slots from i on, written behind the others, make the
+-- `pages::store` meets its contract. The loop's invariant says what is left to do: the slots from i
+-- on, written behind the others, make the
 -- page. The measure is how many slots are left.
 use mathlib.Core.Path.{_≡_, sym, _∙_}
 use mathlib.Core.Logic.{⊎-elim}
@@ -10,7 +11,7 @@ use borrow.Author.Needs.{needs}
 use Rattle.numbers.specs.Little.{written}
 use Rattle.numbers.specs.Fields.{encode}
 use Rattle.pages.specs.Page.{Record, slots, pageBytes}
-use Rattle.pages.specs.Slots.{recordsOf}
+use Rattle.pages.specs.steps.Slots.{recordsOf}
 use Rattle.pages.proofs.Held.{Held, held}
 use Rattle.pages.proofs.Write.{head-first, slot-turn, next-used, next-empty, slots-done}
 use Rattle.pages.proofs.store.Statement.{statement}

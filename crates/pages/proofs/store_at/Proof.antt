@@ -1,8 +1,9 @@
--- `pages::store_at` meets its contract: the page that `store` leaves in the lent part stands in the area.
+-- `pages::store_at` meets its contract: the page that `store` leaves in the lent part stands in the
+-- area.
 use denote.Ref.{now}
 use borrow.Author.Needs.{needs}
 use Rattle.pages.specs.Page.{pageBytes}
-use Rattle.pages.specs.Slots.{recordsOf}
+use Rattle.pages.specs.steps.Slots.{recordsOf}
 use Rattle.pages.proofs.Write.{page-length, part-written}
 use Rattle.pages.proofs.store_at.Statement.{statement}
 use Rattle.pages.proofs.store_at.Tie as tie

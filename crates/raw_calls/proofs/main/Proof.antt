@@ -1,4 +1,5 @@
--- `raw_calls::main` ends. The loop's invariant: the buffers are as long as they were made. The measure is how many turns are left.
+-- `raw_calls::main` ends. The loop's invariant: the buffers are as long as they were made. The
+-- measure is how many turns are left.
 use mathlib.Core.Path.{_≡_}
 use lib.ListN.{length}
 use borrow.Author.Needs.{needs}

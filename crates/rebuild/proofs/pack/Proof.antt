@@ -1,10 +1,11 @@
--- `rebuild::pack` meets its contract. The loop's invariant is `Above`: the pages from a on are packed. The measure is how many pages are left.
+-- `rebuild::pack` meets its contract. The loop's invariant is `Above`: the pages from a on are
+-- packed. The measure is how many pages are left.
 use mathlib.Core.Path.{sym, _∙_}
 use Prim.Native.Nat.{_-_}
 use native.Mathlib.Omega.{arith}
 use borrow.Author.Needs.{needs}
 use Rattle.homes.specs.Homes.{homeIn}
-use Rattle.homes.specs.Last.{staysAt}
+use Rattle.homes.specs.steps.Last.{staysAt}
 use Rattle.pages.proofs.Homing.{homes-page}
 use Rattle.rebuild.proofs.Tags.{page-few}
 use Rattle.rebuild.proofs.Packing.{Above, above-start, above-room, above-length, known-below, above-turn, above-end}

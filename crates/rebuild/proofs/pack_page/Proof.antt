@@ -1,5 +1,7 @@
--- `rebuild::pack_page` meets its contract. The loop's invariant says what is left to do: the entries of the first i records, written below, make the write of the contract.
--- It says so of any homes that stand in the row, since the loop doesn't see the shape. The measure is how many records are left.
+-- `rebuild::pack_page` meets its contract. The loop's invariant says what is left to do: the
+-- entries of the first i records, written below, make the write of the contract.
+-- It says so of any homes that stand in the row, since the loop doesn't see the shape. The measure
+-- is how many records are left.
 use mathlib.Core.Path.{_≡_, refl, _∙_}
 use mathlib.Core.List.{map}
 use Prim.Native.Nat.{ℕ, _+_, _-_, _*_, _≤_}
@@ -9,7 +11,7 @@ use lib.ListN.{length}
 use Rattle.numbers.specs.Little.{written}
 use Rattle.homes.specs.Homes.{homeIn}
 use Rattle.pages.specs.Page.{homeFor, padded}
-use Rattle.pages.specs.Slots.{paired, recordsOf}
+use Rattle.pages.specs.steps.Slots.{paired, recordsOf}
 use Rattle.pages.proofs.Seeking.{homes-key}
 use Rattle.rebuild.proofs.Tags.{home-small}
 use Rattle.rebuild.proofs.Packing.{rows, page-turn, page-done}

@@ -1,4 +1,5 @@
--- `rebuild::rebuild` meets its contract: the entries are gathered, sorted where they stand, and laid.
+-- `rebuild::rebuild` meets its contract: the entries are gathered, sorted where they stand, and
+-- laid.
 use mathlib.Core.Path.{refl, _∙_}
 use native.Mathlib.Nat.{mul-pos}
 use native.Mathlib.Omega.{arith}

@@ -1,4 +1,5 @@
--- `rebuild::take_page` meets its contract. The loop's invariant: the page in hand, with what it can still take of the entries that are left, is the page asked for.
+-- `rebuild::take_page` meets its contract. The loop's invariant: the page in hand, with what it can
+-- still take of the entries that are left, is the page asked for.
 --
 use Prim.Native.Nat.{_-_}
 use native.Mathlib.Omega.{arith}

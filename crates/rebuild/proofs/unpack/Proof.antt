@@ -1,4 +1,5 @@
--- `rebuild::unpack` meets its contract. The loop's invariant: the pages below a, and the entries that are left laid on the others, are the whole.
+-- `rebuild::unpack` meets its contract. The loop's invariant: the pages below a, and the entries
+-- that are left laid on the others, are the whole.
 --
 use Prim.Native.Nat.{_-_}
 use native.Mathlib.Omega.{arith}

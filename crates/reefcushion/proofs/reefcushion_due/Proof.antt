@@ -1,4 +1,5 @@
--- `reefcushion::reefcushion_due` meets its contract: `State::due` of the state that the slip brings.
+-- `reefcushion::reefcushion_due` meets its contract: `State::due` of the state that the slip
+-- brings.
 use mathlib.Core.Path.{refl, _∙_, sym}
 use mathlib.Core.Bool.{true, false}
 use denote.Ref.{now}

@@ -1,4 +1,5 @@
--- `reefcushion::reefcushion_grow` meets its contract: `register::grow` on the state that the slip brings, told in the slip.
+-- `reefcushion::reefcushion_grow` meets its contract: `register::grow` on the state that the slip
+-- brings, told in the slip.
 use mathlib.Core.Path.{refl}
 use denote.Ref.{now}
 use borrow.Author.Needs.{needs}

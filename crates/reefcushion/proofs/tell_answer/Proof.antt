@@ -1,4 +1,5 @@
--- `reefcushion::tell_answer` meets its contract: the answer's numbers, stored one after the other, are one write of their bytes.
+-- `reefcushion::tell_answer` meets its contract: the answer's numbers, stored one after the other,
+-- are one write of their bytes.
 use borrow.Author.Needs.{needs}
 use Rattle.reefcushion.proofs.Telling.{answer-stored}
 use Rattle.reefcushion.proofs.tell_answer.Statement.{statement}

@@ -1,4 +1,5 @@
--- `reefcushion::tell_state` meets its contract: the state's numbers, stored one after the other, are one write of their bytes.
+-- `reefcushion::tell_state` meets its contract: the state's numbers, stored one after the other,
+-- are one write of their bytes.
 use borrow.Author.Needs.{needs}
 use Rattle.reefcushion.proofs.Telling.{state-stored}
 use Rattle.reefcushion.proofs.tell_state.Statement.{statement}

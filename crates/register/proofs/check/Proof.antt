@@ -1,7 +1,7 @@
 -- `register::check` meets its contract: each way out is one of its two gates.
 use denote.Ref.{now}
 use borrow.Author.Needs.{needs}
-use Rattle.register.proofs.Gating.{past}
+use Rattle.gates.proofs.Gating.{past}
 use Rattle.register.proofs.Answers.{check-shut, check-no, check-yes}
 use Rattle.register.proofs.check.Statement.{statement}
 use Rattle.register.proofs.check.Tie as tie

@@ -1,4 +1,5 @@
--- `register::clear_pages` meets its contract. The loop's invariant is `Cleared`: the pages below a are empty, and those from a on are left to clear.
+-- `register::clear_pages` meets its contract. The loop's invariant is `Cleared`: the pages below a
+-- are empty, and those from a on are left to clear.
 -- The measure is how many pages are left.
 use Prim.Native.Nat.{_-_}
 use native.Mathlib.Omega.{arith}

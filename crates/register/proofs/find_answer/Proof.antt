@@ -1,9 +1,10 @@
--- `register::find_answer` meets its contract: each arm is given that the walk met its variant, at which the answer computes.
+-- `register::find_answer` meets its contract: each arm is given that the walk met its variant, at
+-- which the answer computes.
 use mathlib.Core.Path.{sym, ap, subst}
 use native.Mathlib.Omega.{arith}
 use borrow.Author.Needs.{needs}
 use Rattle.walks.specs.Walks.{findAnswer}
-use Rattle.walks.specs.Plans.{metIn}
+use Rattle.walks.specs.steps.Plans.{metIn}
 use Rattle.register.proofs.find_answer.Statement.{statement}
 use Rattle.register.proofs.find_answer.Tie as tie
 

@@ -1,9 +1,10 @@
--- `register::format` meets its contract: judged on the numbers that are asked for, it clears the pages or leaves all as it was.
+-- `register::format` meets its contract: judged on the numbers that are asked for, it clears the
+-- pages or leaves all as it was.
 use native.Mathlib.Omega.{arith}
 use denote.Ref.{now}
 use borrow.Author.Needs.{needs}
 use Rattle.state.proofs.Ranges.{product-fits}
-use Rattle.register.proofs.Gating.{past}
+use Rattle.gates.proofs.Gating.{past}
 use Rattle.register.proofs.Answers.{fresh-fits, format-wide, format-shut, format-open}
 use Rattle.register.proofs.format.Statement.{statement}
 use Rattle.register.proofs.format.Tie as tie

@@ -1,7 +1,7 @@
 -- `register::grow` meets its contract: past its entry the growth is that of `grow_entered`.
 use denote.Ref.{now}
 use borrow.Author.Needs.{needs}
-use Rattle.register.proofs.Gating.{past-open}
+use Rattle.gates.proofs.Gating.{past-open}
 use Rattle.register.proofs.Answers.{grew-shut, grew-open}
 use Rattle.register.proofs.grow.Statement.{statement}
 use Rattle.register.proofs.grow.Tie as tie

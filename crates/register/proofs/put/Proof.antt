@@ -1,7 +1,7 @@
 -- `register::put` meets its contract: past its gate it is `put_open`.
 use denote.Ref.{now}
 use borrow.Author.Needs.{needs}
-use Rattle.register.proofs.Gating.{past}
+use Rattle.gates.proofs.Gating.{past}
 use Rattle.register.proofs.Settling.{put-shut, put-past}
 use Rattle.register.proofs.put.Statement.{statement}
 use Rattle.register.proofs.put.Tie as tie

@@ -1,7 +1,7 @@
 -- `register::remove` meets its contract: past its gate it is `remove_open`.
 use denote.Ref.{now}
 use borrow.Author.Needs.{needs}
-use Rattle.register.proofs.Gating.{past}
+use Rattle.gates.proofs.Gating.{past}
 use Rattle.register.proofs.Settling.{remove-shut, remove-past}
 use Rattle.register.proofs.remove.Statement.{statement}
 use Rattle.register.proofs.remove.Tie as tie

@@ -1,4 +1,5 @@
--- `register_log::keep` meets its contract. The loop's invariant: the first i of the bytes that were not taken stand in front, and the others where they were. The measure is how many are left.
+-- `register_log::keep` meets its contract. The loop's invariant: the first i of the bytes that were
+-- not taken stand in front, and the others where they were. The measure is how many are left.
 use mathlib.Core.Path.{_≡_, refl}
 use Prim.Native.Nat.{_-_, _≤_}
 use native.Mathlib.Omega.{arith}

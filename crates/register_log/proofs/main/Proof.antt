@@ -1,4 +1,5 @@
--- `register_log::main` ends, and stays within its buffers. The loop's invariant: the buffers are as long as they were made, and the input in hand fits its own.
+-- `register_log::main` ends, and stays within its buffers. The loop's invariant: the buffers are as
+-- long as they were made, and the input in hand fits its own.
 -- The measure is how many turns are left.
 use mathlib.Core.Path.{_≡_, sym}
 use Prim.Native.Nat.{_≤_, _-_}

@@ -1,4 +1,5 @@
--- `survey::clear` meets its contract. The loop's invariant: the first i counts are zero, and the others as they were.
+-- `survey::clear` meets its contract. The loop's invariant: the first i counts are zero, and the
+-- others as they were.
 -- The measure is how many are left.
 use mathlib.Core.Path.{_≡_, refl}
 use mathlib.Core.List.{_++_}

@@ -1,4 +1,5 @@
--- `survey::has_room` meets its contract. The loop's invariant: what is left over so far goes on through the counts from i on.
+-- `survey::has_room` meets its contract. The loop's invariant: what is left over so far goes on
+-- through the counts from i on.
 -- The measure is how many counts are left.
 use mathlib.Core.Path.{_≡_, refl, _∙_}
 use mathlib.Core.Logic.{⊎-elim}

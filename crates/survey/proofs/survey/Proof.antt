@@ -1,4 +1,6 @@
--- `survey::survey` meets its contract. The loop's invariant is `Left`, what was seen and the pages that are left decide, with `Counted`: the pages below a are counted, and those from a on are left to tally.
+-- `survey::survey` meets its contract. The loop's invariant is `Left`, what was seen and the pages
+-- that are left decide, with `Counted`: the pages below a are counted, and those from a on are left
+-- to tally.
 -- The measure is how many pages are left.
 use mathlib.Core.Path.{_≡_, ap, _∙_}
 use mathlib.Core.Option.{some}
@@ -13,13 +15,13 @@ use Rattle.pages.specs.Page.{recordsIn, judged}
 use Rattle.pages.specs.Area.{partAt}
 use Rattle.pages.proofs.Read.{held-few, ready}
 use Rattle.pages.proofs.Memory.{page-records}
-use Rattle.survey.proofs.Looking.{Left, survey-starts, judged-held, survey-breaks, survey-goes-on, survey-ends}
-use Rattle.survey.proofs.Counting.{Counted, count-starts, count-goes-on, count-ends, judged-page, page-countable}
+use Rattle.survey.proofs.Looking.{ToSurvey, survey-starts, judged-held, survey-breaks, survey-goes-on, survey-ends}
+use Rattle.survey.proofs.Counting.{ToCount, count-starts, count-goes-on, count-ends, judged-page, page-countable}
 use Rattle.survey.proofs.survey.Statement.{statement}
 use Rattle.survey.proofs.survey.Tie as tie
 
 abbrev Inv-loop : tie.InvT-loop
-Inv-loop area cap shape count row₀ seen₀ a₀ row seen a = Left (homeIn shape) area cap seen a × Counted count area cap (length row₀) row a
+Inv-loop area cap shape count row₀ seen₀ a₀ row seen a = ToSurvey (homeIn shape) area cap seen a × ToCount count area cap (length row₀) row a
 
 abbrev μ-loop : tie.MeasureT-loop
 μ-loop area cap shape count row₀ seen₀ a₀ row seen a = cap - a

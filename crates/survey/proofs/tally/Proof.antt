@@ -1,4 +1,5 @@
--- `survey::tally` meets its contract: where nothing is counted the row stays. The loop's invariant is `Tallied`: the first i keys are counted, and what page `seen` says is known.
+-- `survey::tally` meets its contract: where nothing is counted the row stays. The loop's invariant
+-- is `Tallied`: the first i keys are counted, and what page `seen` says is known.
 -- The measure is how many records are left.
 use mathlib.Core.Path.{_≡_, refl, sym, _∙_}
 use mathlib.Core.Logic.{⊎-elim}
@@ -8,10 +9,10 @@ use lib.ListN.{length, getD}
 use denote.Ref.{now}
 use borrow.Author.Needs.{needs}
 use Rattle.homes.specs.Homes.{homeIn}
-use Rattle.homes.specs.Last.{staysAt}
+use Rattle.homes.specs.steps.Last.{staysAt}
 use Rattle.homes.proofs.Homes.{home-below}
 use Rattle.survey.specs.declared.Count.the-variants.{Homes}
-use Rattle.survey.specs.Counts.{Countable, Stands}
+use Rattle.survey.specs.steps.Counts.{Countable, Stands}
 use Rattle.survey.proofs.Counting.{new-home, Tallied, tally-starts, part-length, part-le, tally-goes-on, page-holds, countable-homes, tally-ends}
 use Rattle.survey.proofs.tally.Statement.{statement}
 use Rattle.survey.proofs.tally.Tie as tie

@@ -1,4 +1,5 @@
--- `walks::meet` meets its contract. The outer invariant: what is left of the walk is the whole of it. The inner one: what is left of the page's slots decides as all of them do.
+-- `walks::meet` meets its contract. The outer invariant: what is left of the walk is the whole of
+-- it. The inner one: what is left of the page's slots decides as all of them do.
 use mathlib.Core.Path.{_≡_, refl, _∙_}
 use mathlib.Core.Bool.{true}
 use Prim.Native.Nat.{_-_, _≤_, _<_}
@@ -8,13 +9,13 @@ use borrow.Author.Tests.{not-true, not-false}
 use denote.Ref.{now}
 use Rattle.homes.specs.Homes.{homeIn}
 use Rattle.walks.specs.Walks.{walk}
-use Rattle.walks.proofs.Scanning.{Left, Rows, Tested, left-all, after-last, slot-after, slot-used, slot-hit, slot-on}
+use Rattle.walks.proofs.Scanning.{ToScan, Rows, Tested, left-all, after-last, slot-after, slot-used, slot-hit, slot-on}
 use Rattle.walks.proofs.Meeting.{home-fits, Seen, page-few, page-rows, walkLeft, walk-starts, walk-past, walk-sick, walk-found, walk-ends, walk-on}
 use Rattle.walks.proofs.meet.Statement.{statement}
 use Rattle.walks.proofs.meet.Tie as tie
 
 abbrev Inv-loop : tie.InvT-loop
-Inv-loop area cap shape key home a read count keys values homes slot₀ slot = Left (homeIn shape) key (record { count = count; keys = keys; values = values }) slot
+Inv-loop area cap shape key home a read count keys values homes slot₀ slot = ToScan (homeIn shape) key (record { count = count; keys = keys; values = values }) slot
 
 abbrev μ-loop : tie.MeasureT-loop
 μ-loop area cap shape key home a read count keys values homes slot₀ slot = 12 - slot

@@ -1,4 +1,5 @@
--- `commands::records::command_of` meets its contract: the record is as long as its kind's, so each number lies in it.
+-- `commands::records::command_of` meets its contract: the record is as long as its kind's, so each
+-- number lies in it.
 use denote.Ref.{now}
 use native.Mathlib.Omega.{arith}
 use borrow.Author.Needs.{needs}

@@ -1,4 +1,5 @@
--- `commands::records::first` meets its contract: its tests are those of the definition, in the same order.
+-- `commands::records::first` meets its contract: its tests are those of the definition, in the same
+-- order.
 use native.Mathlib.Omega.{arith}
 use borrow.Author.Needs.{needs}
 use Rattle.commands.proofs.Reading.{formed-length, head-cut, kind-unknown, length-wrong, body-cut, whole}

@@ -1,4 +1,5 @@
--- `commands::records::form_of` meets its contract: each of the six numbers has its kind's form, and any other has none.
+-- `commands::records::form_of` meets its contract: each of the six numbers has its kind's form, and
+-- any other has none.
 use mathlib.Core.Path.{refl}
 use Rattle.commands.specs.declared.Kind.the-variants as kind
 use Rattle.commands.proofs.Reading.{known-form, other-form}

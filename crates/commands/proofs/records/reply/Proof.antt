@@ -1,4 +1,5 @@
--- `commands::records::reply` meets its contract: its fields, stored one after the other, are all of the reply's bytes.
+-- `commands::records::reply` meets its contract: its fields, stored one after the other, are all of
+-- the reply's bytes.
 use mathlib.Core.Path.{_≡_}
 use mathlib.Core.Logic.{⊎-elim}
 use native.Mathlib.Omega.{arith}

@@ -1,4 +1,5 @@
--- `figures::small_files::print_first_keys` meets its contract: the slots of a page all lie within its bytes.
+-- `figures::small_files::print_first_keys` meets its contract: the slots of a page all lie within
+-- its bytes.
 use Prim.Native.Nat.{_-_}
 use borrow.Author.Needs.{needs}
 use Rattle.figures.proofs.small_files.print_first_keys.Statement.{statement}

@@ -1,4 +1,5 @@
--- `figures::small_files::put_below` meets its contract: the keys rise to the end, and the area keeps its length.
+-- `figures::small_files::put_below` meets its contract: the keys rise to the end, and the area
+-- keeps its length.
 use mathlib.Core.Path.{_≡_}
 use Prim.Native.Nat.{_-_}
 use borrow.Author.Needs.{needs}

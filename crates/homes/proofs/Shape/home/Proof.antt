@@ -1,4 +1,5 @@
--- `homes::Shape::home` meets its contract. The loop's invariant is `Before`: what is left to do leads home.
+-- `homes::Shape::home` meets its contract. The loop's invariant is `Before`: what is left to do
+-- leads home.
 -- The measure is what is left to the size p.
 use mathlib.Core.Path.{sym, ap, _∙_}
 use Prim.Native.Nat.{ℕ, suc, _-_, _*_, _^_, _≤_, _<_}

@@ -1,11 +1,12 @@
--- `homes::Shape::last_step` meets its contract. The loop's invariant is `Seeking`: the last step is still to come.
+-- `homes::Shape::last_step` meets its contract. The loop's invariant is `Seeking`: the last step is
+-- still to come.
 -- The measure is what is left to the size p.
 use mathlib.Core.Path.{sym, ap, _∙_}
 use Prim.Native.Nat.{suc, _-_}
 use native.Mathlib.Omega.{arith}
 use borrow.Author.Needs.{needs}
 use Rattle.homes.specs.declared.Stage.{Stage}
-use Rattle.homes.specs.Last.{lastFrom}
+use Rattle.homes.specs.steps.Last.{lastFrom}
 use Rattle.homes.proofs.Steps.{grows, last-here}
 use Rattle.homes.proofs.Last.{Seeking, seek-starts, seek-on}
 use Rattle.homes.proofs.Shape.last_step.Statement.{statement}

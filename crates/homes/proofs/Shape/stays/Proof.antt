@@ -3,7 +3,7 @@
 use native.Mathlib.Nat.{mul-pos}
 use native.Mathlib.Omega.{arith}
 use borrow.Author.Needs.{needs}
-use Rattle.homes.specs.Last.{staysAt}
+use Rattle.homes.specs.steps.Last.{staysAt}
 use Rattle.homes.proofs.Shape.stays.Statement.{statement}
 use Rattle.homes.proofs.Shape.stays.Tie as tie
 

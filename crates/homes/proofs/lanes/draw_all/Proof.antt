@@ -1,4 +1,5 @@
--- `homes::lanes::draw_all` meets its contract. The loop's invariant: the places below i hold the next draws.
+-- `homes::lanes::draw_all` meets its contract. The loop's invariant: the places below i hold the
+-- next draws.
 -- The measure is what is left of the twelve.
 use mathlib.Core.Path.{refl}
 use Prim.Native.Nat.{_-_, _*_, _%_, _≤_}

@@ -1,4 +1,5 @@
--- `homes::lanes::homes` meets its contract. The loop's invariant is `Going`, for each lane and whichever key it started for, and that all lanes fit.
+-- `homes::lanes::homes` meets its contract. The loop's invariant is `Going`, for each lane and
+-- whichever key it started for, and that all lanes fit.
 -- The measure is what is left to the size p.
 use mathlib.Core.Path.{_≡_, sym, ap, subst, _∙_}
 use Prim.Native.Nat.{ℕ, _-_, _<_}
@@ -8,7 +9,7 @@ use borrow.Author.Needs.{needs}
 use lib.ListN.{length, getD}
 use Rattle.homes.specs.declared.Stage.{Stage}
 use Rattle.homes.specs.Homes.{params, home, homeIn}
-use Rattle.homes.specs.Lanes.{laneOf, startsAt, Fits}
+use Rattle.homes.specs.steps.Lanes.{laneOf, startsAt, InGroup}
 use Rattle.homes.proofs.Steps.{grows}
 use Rattle.homes.proofs.Together.{Going, begins, kept, twice, goes-on, doubles, arrived, mapped}
 use Rattle.homes.proofs.lanes.homes.Statement.{statement}
@@ -17,7 +18,7 @@ use Rattle.homes.proofs.lanes.homes.Tie as tie
 abbrev Inv-loop : tie.InvT-loop
 Inv-loop n0 s p stage₀ lanes₀ stage lanes =
     ((i K : ℕ) → i < 12 → laneOf lanes₀ i ≡ startsAt (stage₀ .f) (stage₀ .g) K → Going n0 (stage₀ .g) s p K stage (laneOf lanes i))
-    × ((i : ℕ) → i < 16 → Fits (stage .g) (laneOf lanes i))
+    × ((i : ℕ) → i < 16 → InGroup (stage .g) (laneOf lanes i))
 
 abbrev μ-loop : tie.MeasureT-loop
 μ-loop n0 s p stage₀ lanes₀ stage lanes = p - stage .f
@@ -89,7 +90,7 @@ loop-again c =
     let more-groups = c .before .if2 .taken in
     let size = twice _ _ _ _ _ _ ranges _ _ _ (way at 0 (omega arith)) (next .next .ensures .0) more-groups in (
       λ i K h e. doubles _ _ _ _ _ K ranges _ _ _ (at .loop .inv .0 i K h e) (next .next .ensures .0) (at .loop .inv .1 i (omega arith) .2) (next .before .before .if1 .taken) (next .next .ensures .1) _ _ (next .before .step-all .ensures .0 i h) (c .regroup .ensures .0 i h) more-groups,
-      λ i h. subst (λ (n : ℕ). Fits n (laneOf (c .regroup .result) i)) (sym size) (c .regroup .ensures .1 i h),
+      λ i h. subst (λ (n : ℕ). InGroup n (laneOf (c .regroup .result) i)) (sym size) (c .regroup .ensures .1 i h),
     )
 
 loop-less-2 : tie.Need-loop-less-2 Inv-loop μ-loop
@@ -104,7 +105,7 @@ loop-again-2 c =
     let ranges = at .before .before .before .before .before .pre in
     let size = kept _ _ _ _ _ _ ranges _ _ _ (way at 0 (omega arith)) (next .next .ensures .0) (c .if2 .left) in (
       λ i K h e. goes-on _ _ _ _ _ K ranges _ _ _ (at .loop .inv .0 i K h e) (next .next .ensures .0) (at .loop .inv .1 i (omega arith) .2) (next .before .before .if1 .taken) (next .next .ensures .1) _ (next .before .step-all .ensures .0 i h) (c .if2 .left),
-      λ i h. subst (λ (n : ℕ). Fits n (laneOf (next .before .step-all .result) i)) (sym size) (next .before .step-all .ensures .1 i h),
+      λ i h. subst (λ (n : ℕ). InGroup n (laneOf (next .before .step-all .result) i)) (sym size) (next .before .step-all .ensures .1 i h),
     )
 
 pages-of-requires : tie.Need-pages-of-requires Inv-loop μ-loop

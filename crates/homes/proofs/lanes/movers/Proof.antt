@@ -1,4 +1,5 @@
--- `homes::lanes::movers` meets its contract. The loop's invariant: the places below i are 1 for the movers.
+-- `homes::lanes::movers` meets its contract. The loop's invariant: the places below i are 1 for the
+-- movers.
 -- The measure is what is left of the twelve.
 use mathlib.Core.Path.{_≡_, refl}
 use mathlib.Core.Bool.{cond}

@@ -1,4 +1,5 @@
--- `homes::lanes::pages_of` meets its contract. The loop's invariant: the places below i hold addresses.
+-- `homes::lanes::pages_of` meets its contract. The loop's invariant: the places below i hold
+-- addresses.
 -- The measure is what is left of the twelve.
 use mathlib.Core.Path.{refl}
 use Prim.Native.Nat.{ℕ, _+_, _-_, _*_, _≤_, _<_}

@@ -1,4 +1,5 @@
--- `homes::lanes::regroup` meets its contract. The loop's invariant: in both rows that change, the places below i are regrouped.
+-- `homes::lanes::regroup` meets its contract. The loop's invariant: in both rows that change, the
+-- places below i are regrouped.
 -- The measure is what is left of the sixteen.
 use mathlib.Core.Path.{_≡_, refl, sym, subst}
 use Prim.Native.Nat.{ℕ, _+_, _-_, _*_, _/_, _%_, _≤_, _<_}
@@ -6,7 +7,7 @@ use native.Mathlib.Nat.{mul-le-mul-right}
 use native.Mathlib.Omega.{arith}
 use borrow.Author.Needs.{needs}
 use lib.ListN.{getD}
-use Rattle.homes.specs.Lanes.{Lane, laneOf, Fits, regrouped}
+use Rattle.homes.specs.steps.Lanes.{Lane, laneOf, InGroup, regrouped}
 use Rattle.homes.proofs.Rowed.{Passed, none, one, over, same}
 use Rattle.homes.proofs.lanes.regroup.Statement.{statement}
 use Rattle.homes.proofs.lanes.regroup.Tie as tie
@@ -14,7 +15,7 @@ use Rattle.homes.proofs.lanes.regroup.Reads as reads
 use Rattle.homes.proofs.lanes.regroup.Lts as lts
 
 -- a lane regrouped fits with twice as many groups
-regroup-fits : (g : ℕ) (l : Lane) → Fits g l → Fits (2 * g) (regrouped g l)
+regroup-fits : (g : ℕ) (l : Lane) → InGroup g l → InGroup (2 * g) (regrouped g l)
 regroup-fits g l fits =
     let most : l .turn % 2 * g ≤ 1 * g = mul-le-mul-right g (omega arith) in
     (fits .0, omega arith, omega (arith, most))
@@ -29,7 +30,7 @@ abbrev μ-loop : tie.MeasureT-loop
 μ-loop g half draws old-turns old-groups turns₀ groups₀ i₀ turns groups i = 16 - i
 
 -- the lane that a turn writes
-writes : (c : lts.In-loop reads.Pre reads.Post Inv-loop μ-loop) → let at = c .before .before .before .before .before .args in Fits (2 * at .g) (regrouped (at .g) (laneOf (at .lanes) (c .before .loop .i)))
+writes : (c : lts.In-loop reads.Pre reads.Post Inv-loop μ-loop) → let at = c .before .before .before .before .before .args in InGroup (2 * at .g) (regrouped (at .g) (laneOf (at .lanes) (c .before .loop .i)))
 writes c =
     let start = c .before .before .before .before .before in
     regroup-fits _ _ (start .pre .1 _ (c .loop-test .taken))
@@ -88,7 +89,7 @@ returns c =
     let inv = c .before .loop .inv in
     let end = c .loop-test .left in
     let each : (i : ℕ) → i < 16 → _ ≡ regrouped (start .args .g) (laneOf (start .args .lanes) i) = λ i h. same refl (over (inv .0) end i h) (over (inv .1) end i h) in
-    (λ i h. each i (omega arith), λ i h. subst (Fits (2 * start .args .g)) (sym (each i h)) (regroup-fits _ _ (start .pre .1 i h)))
+    (λ i h. each i (omega arith), λ i h. subst (InGroup (2 * start .args .g)) (sym (each i h)) (regroup-fits _ _ (start .pre .1 i h)))
 
 pub regroup-spec : {M : Type 1} → statement M
 regroup-spec =

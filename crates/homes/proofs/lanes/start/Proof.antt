@@ -1,4 +1,5 @@
--- `homes::lanes::start` meets its contract. The loop's invariant: in each row the places below i are as they start, and the others 0.
+-- `homes::lanes::start` meets its contract. The loop's invariant: in each row the places below i
+-- are as they start, and the others 0.
 -- The measure is what is left of the twelve.
 use mathlib.Core.Path.{_≡_, refl, sym, subst, _∙_}
 use mathlib.Core.List.{List}
@@ -10,7 +11,7 @@ use borrow.Author.Needs.{needs}
 use lib.ListN.{length, getD, set, replicate, getD-replicate, List·getD-eq-default}
 use lib.Seq.{getD-set-other}
 use Rattle.homes.specs.declared.lanes.Lanes.{Lanes}
-use Rattle.homes.specs.Lanes.{laneOf, startsAt, Fits}
+use Rattle.homes.specs.steps.Lanes.{laneOf, startsAt, InGroup}
 use Rattle.homes.proofs.New.{split}
 use Rattle.homes.proofs.Rowed.{Passed, none, one, over, same}
 use Rattle.homes.proofs.lanes.start.Statement.{statement}
@@ -19,7 +20,7 @@ use Rattle.homes.proofs.lanes.start.Reads as reads
 use Rattle.homes.proofs.lanes.start.Lts as lts
 
 -- a key's lane fits at the start
-start-fits : (f g K : ℕ) → 1 ≤ g → g ≤ f → f ≤ 4 * g → Fits g (startsAt f g K)
+start-fits : (f g K : ℕ) → 1 ≤ g → g ≤ f → f ≤ 4 * g → InGroup g (startsAt f g K)
 start-fits f g K h k l =
     let below : K % f < 4 * g = omega (arith, mod-lt K {m = f} (omega arith)) in
     let turns : K % f / g < 4 = div-lt-iff-lt-mul h .1 below in
@@ -48,10 +49,10 @@ rest-on : (row : List ℕ) (i v : ℕ) → Rest row i → Rest (set row i v) (i 
 rest-on row i v q = record { zeros = λ j h l. getD-set-other row i j v 0 (λ e. omega arith) ∙ q .zeros j (omega arith) l }
 
 -- So all lanes fit: those that started, and the idle ones.
-all-fit : (f g : ℕ) (keys : List ℕ) (ls : Lanes) (i : ℕ) → (1 ≤ g) × (g ≤ f) × (f ≤ 4 * g) × (f ≤ 4096) → length (ls .draws) ≡ 12 → Rest (ls .turns) i → Rest (ls .groups) i → i ≤ 12 → ((j : ℕ) → j < 12 → laneOf ls j ≡ startsAt f g (getD keys j 0)) → (j : ℕ) → j < 16 → Fits g (laneOf ls j)
+all-fit : (f g : ℕ) (keys : List ℕ) (ls : Lanes) (i : ℕ) → (1 ≤ g) × (g ≤ f) × (f ≤ 4 * g) × (f ≤ 4096) → length (ls .draws) ≡ 12 → Rest (ls .turns) i → Rest (ls .groups) i → i ≤ 12 → ((j : ℕ) → j < 12 → laneOf ls j ≡ startsAt f g (getD keys j 0)) → (j : ℕ) → j < 16 → InGroup g (laneOf ls j)
 all-fit f g keys ls i pre d t r top each j h =
     ⊎-elim
-    (λ l. subst (Fits g) (sym (each j l)) (start-fits f g (getD keys j 0) (pre .0) (pre .1) (pre .2)))
+    (λ l. subst (InGroup g) (sym (each j l)) (start-fits f g (getD keys j 0) (pre .0) (pre .1) (pre .2)))
     (λ l. (omega (arith, List·getD-eq-default (ls .draws) 0 {n = j} (omega (arith, d))), omega (arith, t .zeros j (omega arith) h), omega (arith, r .zeros j (omega arith) h, pre .0)))
     (split j 12)
 
@@ -68,7 +69,7 @@ abbrev μ-loop : tie.MeasureT-loop
 μ-loop f g keys draws₀ turns₀ groups₀ i₀ draws turns groups i = 12 - i
 
 -- the lane of a turn's key
-starts : (c : tie.After-turn-of Inv-loop μ-loop) → let at = c .before .before .before .args in Fits (at .g) (startsAt (at .f) (at .g) (getD (at .t1) (c .before .before .loop .i) 0))
+starts : (c : tie.After-turn-of Inv-loop μ-loop) → let at = c .before .before .before .args in InGroup (at .g) (startsAt (at .f) (at .g) (getD (at .t1) (c .before .before .loop .i) 0))
 starts c =
     let start = c .before .before .before in
     start-fits _ _ _ (start .pre .0) (start .pre .1) (start .pre .2)

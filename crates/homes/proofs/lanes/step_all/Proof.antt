@@ -1,4 +1,5 @@
--- `homes::lanes::step_all` meets its contract. The loop's invariant: in both rows that it fills, the places below i are those after the step.
+-- `homes::lanes::step_all` meets its contract. The loop's invariant: in both rows that it fills,
+-- the places below i are those after the step.
 -- The measure is what is left of the sixteen.
 use mathlib.Core.Path.{_≡_, refl, sym, _∙_}
 use mathlib.Core.Bool.{Bool, true, false, cond, _&&_}
@@ -13,7 +14,7 @@ use lib.Dec.{leb, ltb, eqb}
 use lib.ListN.{length, getD, List·getD-eq-default}
 use Rattle.homes.specs.declared.Stage.{Stage}
 use Rattle.homes.specs.Homes.{swept}
-use Rattle.homes.specs.Lanes.{Lane, Fits, stepped}
+use Rattle.homes.specs.steps.Lanes.{Lane, InGroup, stepped}
 use Rattle.homes.proofs.New.{split, swept-high}
 use Rattle.homes.proofs.Rowed.{Passed, none, one, over, same}
 use Rattle.homes.proofs.lanes.step_all.Statement.{statement}
@@ -78,10 +79,10 @@ step-is s P t l a m h e p q r =
     ∙ rw (test, room-is (t .f) P to h)
 
 -- and fits, whether it goes or stays.
-step-fits : (s g np room m : ℕ) (l a : Lane) → 1 ≤ s → np < 8 → Fits g l → a .draw < 2147483647 → a .turn ≡ cond (goes s g room m (l .group)) np (l .turn) → a .group ≡ cond (goes s g room m (l .group)) (leads s g (l .group)) (l .group) → Fits g a
+step-fits : (s g np room m : ℕ) (l a : Lane) → 1 ≤ s → np < 8 → InGroup g l → a .draw < 2147483647 → a .turn ≡ cond (goes s g room m (l .group)) np (l .turn) → a .group ≡ cond (goes s g room m (l .group)) (leads s g (l .group)) (l .group) → InGroup g a
 step-fits s g np room m l a h low fits d = go (goes s g room m (l .group))
   where
-    go : (b : Bool) → a .turn ≡ cond b np (l .turn) → a .group ≡ cond b (leads s g (l .group)) (l .group) → Fits g a
+    go : (b : Bool) → a .turn ≡ cond b np (l .turn) → a .group ≡ cond b (leads s g (l .group)) (l .group) → InGroup g a
     go true q r = (d, omega arith, omega (arith, swept-high s 0 g (g - 1 - l .group) h (omega arith)))
     go false q r = (d, omega arith, omega arith)
 

@@ -1,4 +1,5 @@
--- `homes::lanes::target` meets its contract: twice the number times `share` gives the quotient by s, and the rest is the sweeps' sum.
+-- `homes::lanes::target` meets its contract: twice the number times `share` gives the quotient by
+-- s, and the rest is the sweeps' sum.
 --
 use mathlib.Core.Path.{_≡_}
 use mathlib.Core.Logic.{⊎-elim}

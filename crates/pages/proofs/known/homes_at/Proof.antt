@@ -3,7 +3,7 @@ use mathlib.Core.Path.{_∙_}
 use denote.Ref.{now}
 use borrow.Author.Needs.{needs}
 use Rattle.homes.specs.Homes.{homeIn}
-use Rattle.homes.specs.Last.{staysAt}
+use Rattle.homes.specs.steps.Last.{staysAt}
 use Rattle.pages.specs.Area.{partAt}
 use Rattle.pages.proofs.Read.{held-few, ready}
 use Rattle.pages.proofs.Homing.{known-page, homes-page}

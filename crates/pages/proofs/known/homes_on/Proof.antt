@@ -1,4 +1,5 @@
--- `pages::known::homes_on` meets its contract. The loop's invariant is `Homing`: the homes from record i on are still to be stored.
+-- `pages::known::homes_on` meets its contract. The loop's invariant is `Homing`: the homes from
+-- record i on are still to be stored.
 -- The measure is how many are left.
 use mathlib.Core.Path.{_≡_, _∙_}
 use mathlib.Core.Logic.{⊎-elim}
@@ -6,7 +7,7 @@ use lib.ListN.{getD}
 use Prim.Native.Nat.{_-_}
 use borrow.Author.Needs.{needs}
 use Rattle.homes.specs.Homes.{homeIn}
-use Rattle.pages.specs.Slots.{recordsOf}
+use Rattle.pages.specs.steps.Slots.{recordsOf}
 use Rattle.pages.proofs.Homing.{Homing, homing-starts, home-here, homing-goes-on, homing-ends}
 use Rattle.pages.proofs.known.homes_on.Statement.{statement}
 use Rattle.pages.proofs.known.homes_on.Tie as tie

@@ -1,11 +1,12 @@
--- `pages::close_row` meets its contract. The loop's invariant: without place i the row is what it was without place `at`. The measure is
+-- `pages::close_row` meets its contract. The loop's invariant: without place i the row is what it
+-- was without place `at`. The measure is
 -- how many places are left.
 use mathlib.Core.Path.{_≡_, refl, _∙_}
 use Prim.Native.Nat.{_≤_, _<_, _-_}
 use native.Mathlib.Omega.{arith}
 use lib.ListN.{length}
 use borrow.Author.Needs.{needs}
-use Rattle.pages.specs.Slots.{closed}
+use Rattle.pages.specs.Places.{closed}
 use Rattle.pages.proofs.Rows.{close-turn, close-done}
 use Rattle.pages.proofs.slots.close_row.Statement.{statement}
 use Rattle.pages.proofs.slots.close_row.Tie as tie

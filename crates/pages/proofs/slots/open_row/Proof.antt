@@ -1,11 +1,12 @@
--- `pages::open_row` meets its contract. The loop's invariant: without place i the row is what it was, but for its
+-- `pages::open_row` meets its contract. The loop's invariant: without place i the row is what it
+-- was, but for its
 -- last number. The measure is the place.
 use mathlib.Core.Path.{_≡_, _∙_}
 use Prim.Native.Nat.{_≤_, _<_}
 use native.Mathlib.Omega.{arith}
 use lib.ListN.{length, take}
 use borrow.Author.Needs.{needs}
-use Rattle.pages.specs.Slots.{closed}
+use Rattle.pages.specs.Places.{closed}
 use Rattle.pages.proofs.Rows.{closed-last, open-turn, open-done}
 use Rattle.pages.proofs.slots.open_row.Statement.{statement}
 use Rattle.pages.proofs.slots.open_row.Tie as tie

@@ -1,4 +1,5 @@
--- `pages::place_ahead` meets its contract. The loop's invariant: the places that are left decide. The measure is how many are left.
+-- `pages::place_ahead` meets its contract. The loop's invariant: the places that are left decide.
+-- The measure is how many are left.
 use mathlib.Core.Path.{_≡_, sym, _∙_}
 use Prim.Native.Nat.{_-_, _≤_}
 use native.Mathlib.Nat.{sub-zero}

@@ -1,7 +1,7 @@
 -- `pages::push` meets its contract: one law for each way out.
 use native.Mathlib.Omega.{arith}
 use borrow.Author.Needs.{needs}
-use Rattle.pages.specs.Slots.{recordsOf}
+use Rattle.pages.specs.steps.Slots.{recordsOf}
 use Rattle.pages.proofs.Held.{held, push-last, push-more, push-full}
 use Rattle.pages.proofs.slots.push.Statement.{statement}
 use Rattle.pages.proofs.slots.push.Tie as tie

@@ -1,6 +1,6 @@
 -- `pages::take_out` meets its contract: both rows are closed over one place.
 use borrow.Author.Needs.{needs}
-use Rattle.pages.specs.Slots.{recordsOf}
+use Rattle.pages.specs.steps.Slots.{recordsOf}
 use Rattle.pages.proofs.Held.{held, taken-out}
 use Rattle.pages.proofs.slots.take_out.Statement.{statement}
 use Rattle.pages.proofs.slots.take_out.Tie as tie

@@ -1,4 +1,5 @@
--- `raw_calls::records::is_sound` meets its contract: where a test fails the answer is no, and past both the bounds hold.
+-- `raw_calls::records::is_sound` meets its contract: where a test fails the answer is no, and past
+-- both the bounds hold.
 use mathlib.Core.Path.{_≡_}
 use Prim.Native.Nat.{ℕ}
 use native.Mathlib.Omega.{arith}

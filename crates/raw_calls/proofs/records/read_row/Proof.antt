@@ -1,4 +1,5 @@
--- `raw_calls::records::read_row` stays within its slices. The loop's invariant: the row is as long as it was.
+-- `raw_calls::records::read_row` stays within its slices. The loop's invariant: the row is as long
+-- as it was.
 -- The measure is how many counts are left.
 use mathlib.Core.Path.{_≡_}
 use Prim.Native.Nat.{_-_}

@@ -1,4 +1,5 @@
--- `raw_calls::records::write_row` stays within its slices. The loop's invariant: there are as many bytes as there were.
+-- `raw_calls::records::write_row` stays within its slices. The loop's invariant: there are as many
+-- bytes as there were.
 -- The measure is how many counts are left.
 use mathlib.Core.Path.{_≡_}
 use Prim.Native.Nat.{_-_}

@@ -1,4 +1,5 @@
--- `register::fill_row` meets its contract. The loop's invariant: the first i counts stand in the row.
+-- `register::fill_row` meets its contract. The loop's invariant: the first i counts stand in the
+-- row.
 -- The measure is how many are left.
 use mathlib.Core.Path.{_≡_, refl, sym, _∙_}
 use mathlib.Core.List.{List}

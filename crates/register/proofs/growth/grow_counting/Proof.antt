@@ -1,13 +1,14 @@
--- `register::grow_counting` meets its contract: what the survey tells decides, and the counts are those that a growth of an image needs.
+-- `register::grow_counting` meets its contract: what the survey tells decides, and the counts are
+-- those that a growth of an image needs.
 use mathlib.Core.Path.{_≡_, sym, _∙_}
 use native.Mathlib.Omega.{arith}
 use denote.Ref.{now}
 use borrow.Author.Needs.{needs}
 use Rattle.homes.specs.Homes.{homeIn}
 use Rattle.state.proofs.Ranges.{ranged}
-use Rattle.register.specs.Gates.{imageGate}
-use Rattle.register.specs.Past.{OnePageMore}
-use Rattle.register.proofs.Judging.{sick-below, gate-told}
+use Rattle.gates.specs.Gates.{imageGate}
+use Rattle.register.specs.steps.Past.{OnePageMore}
+use Rattle.gates.proofs.Judging.{sick-below, gate-told}
 use Rattle.register.proofs.Growing.{grown-low, grown-in, steps-left, countable, open-counts}
 use Rattle.register.proofs.Answers.{entered-shut, entered-open}
 use Rattle.register.proofs.growth.grow_counting.Statement.{statement}

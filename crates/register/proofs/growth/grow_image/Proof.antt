@@ -1,4 +1,5 @@
--- `register::grow_image` meets its contract: the counts decide, and where there is room the file is made anew.
+-- `register::grow_image` meets its contract: the counts decide, and where there is room the file is
+-- made anew.
 use mathlib.Core.Path.{_≡_, sym, _∙_}
 use native.Mathlib.Omega.{arith}
 use denote.Ref.{now}

@@ -1,4 +1,5 @@
--- `state::Answer::numbers` meets its contract: each arm is given that the answer is its variant, at which the table computes.
+-- `state::Answer::numbers` meets its contract: each arm is given that the answer is its variant, at
+-- which the table computes.
 --
 use mathlib.Core.Path.{sym, ap, _∙_}
 use borrow.Author.Needs.{needs}

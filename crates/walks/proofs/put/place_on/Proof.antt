@@ -1,7 +1,7 @@
 -- `walks::place_on` meets its contract.
 use borrow.Author.Needs.{needs}
 use Rattle.homes.specs.Homes.{homeIn}
-use Rattle.pages.specs.Slots.{recordsOf}
+use Rattle.pages.specs.steps.Slots.{recordsOf}
 use Rattle.walks.proofs.Pouring.{place-sought}
 use Rattle.walks.proofs.put.place_on.Statement.{statement}
 use Rattle.walks.proofs.put.place_on.Tie as tie

@@ -1,11 +1,13 @@
--- `walks::plan_put` meets its contract: the pages that the walk meets decide, and from an ending page that is full on the first page with room.
+-- `walks::plan_put` meets its contract: the pages that the walk meets decide, and from an ending
+-- page that is full on the first page with room.
 use mathlib.Core.Path.{subst}
 use native.Mathlib.Omega.{arith}
 use borrow.Author.Needs.{needs}
 use denote.Ref.{now}
 use Rattle.homes.specs.Homes.{homeIn}
-use Rattle.walks.specs.declared.Met.the-variants.{Sick, Ends}
-use Rattle.walks.specs.Plans.{metIn}
+use Rattle.walks.specs.declared.Met.the-variants.{Ends}
+use Rattle.walks.specs.declared.Met.the-variants as mets
+use Rattle.walks.specs.steps.Plans.{metIn}
 use Rattle.walks.proofs.PutPlan.{put-found, put-sick, put-past, put-at, put-here, put-on, put-placed}
 use Rattle.walks.proofs.put.plan_put.Statement.{statement}
 use Rattle.walks.proofs.put.plan_put.Tie as tie
@@ -21,7 +23,7 @@ enum-known-page c = search needs
 
 -- where a broken page lies
 sick : (c : tie.After-known-told2)
-    → metIn (c .before .before .before .before .before .args .cap) (Sick (c .before .page .given .0 .0) (c .before .page .given .0 .1 .0))
+    → metIn (c .before .before .before .before .before .args .cap) (mets.Broken (c .before .page .given .0 .0) (c .before .page .given .0 .1 .0))
 sick c = subst (metIn (c .before .before .before .before .before .args .cap)) (c .before .page .given .1) (c .before .before .before .meet .ensures .1)
 
 cast-t17 : tie.Need-cast-t17

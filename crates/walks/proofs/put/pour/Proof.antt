@@ -1,4 +1,5 @@
--- `walks::pour` meets its contract. The loop's invariant: the pages from page a on are as they were, and what is left to write of them is all that is to be written.
+-- `walks::pour` meets its contract. The loop's invariant: the pages from page a on are as they
+-- were, and what is left to write of them is all that is to be written.
 use mathlib.Core.Path.{_≡_, refl, sym, _∙_}
 use Prim.Native.Nat.{suc, _+_, _*_, _-_, _≤_}
 use native.Mathlib.Omega.{arith}
@@ -7,7 +8,7 @@ use denote.Ref.{now}
 use lib.ListN.{length}
 use Rattle.homes.specs.Homes.{homeIn}
 use Rattle.walks.specs.Walks.{writes}
-use Rattle.walks.specs.Plans.{poured}
+use Rattle.walks.specs.steps.Plans.{poured}
 use Rattle.walks.proofs.Pouring.{Untouched, page-fits, Turn, place-right, place-within, next-fits, pour-starts, pour-length, pour-rest, pour-turn, pour-ends}
 use Rattle.walks.proofs.put.pour.Statement.{statement}
 use Rattle.walks.proofs.put.pour.Tie as tie

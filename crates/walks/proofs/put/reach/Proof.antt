@@ -1,4 +1,5 @@
--- `walks::reach` meets its contract. The loop's invariant: what is left of the way is the whole of it.
+-- `walks::reach` meets its contract. The loop's invariant: what is left of the way is the whole of
+-- it.
 use mathlib.Core.Path.{_≡_, _∙_}
 use Prim.Native.Nat.{suc, _-_, _≤_, _<_}
 use native.Mathlib.Numerals.{add-one}

@@ -1,4 +1,5 @@
--- `walks::draw_back` meets its contract. The invariant: from page a on the area is as it was, and what is left to write leads to the same as the whole.
+-- `walks::draw_back` meets its contract. The invariant: from page a on the area is as it was, and
+-- what is left to write leads to the same as the whole.
 use mathlib.Core.Path.{_≡_, refl, _∙_}
 use Prim.Native.Nat.{ℕ, _-_, _≤_}
 use native.Mathlib.Omega.{arith}
@@ -7,7 +8,7 @@ use borrow.Author.Needs.{needs}
 use Rattle.homes.specs.Homes.{homeIn}
 use Rattle.pages.specs.Area.{partAt}
 use Rattle.walks.specs.Walks.{writes}
-use Rattle.walks.specs.Plans.{drawn}
+use Rattle.walks.specs.steps.Plans.{drawn}
 use Rattle.walks.proofs.Draw.{read-kept, shut-kept, full-kept, stored-length, stored-same, draw-turn, draw-last}
 use Rattle.walks.proofs.remove.draw_back.Statement.{statement}
 use Rattle.walks.proofs.remove.draw_back.Tie as tie

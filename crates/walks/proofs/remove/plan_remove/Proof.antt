@@ -1,4 +1,5 @@
--- `walks::plan_remove` meets its contract: one law for each thing that the walk to the key may meet.
+-- `walks::plan_remove` meets its contract: one law for each thing that the walk to the key may
+-- meet.
 use native.Mathlib.Omega.{arith}
 use borrow.Author.Needs.{needs}
 use Rattle.walks.proofs.Removing.{found-in, sick-in, remove-met, remove-short, remove-full}

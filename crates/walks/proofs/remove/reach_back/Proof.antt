@@ -1,4 +1,5 @@
--- `walks::reach_back` meets its contract. The invariant: the plan from page a on is the whole plan. One law for each way out.
+-- `walks::reach_back` meets its contract. The invariant: the plan from page a on is the whole plan.
+-- One law for each way out.
 use mathlib.Core.Path.{_≡_, refl, _∙_}
 use Prim.Native.Nat.{_+_, _-_, _≤_, _<_}
 use native.Mathlib.Omega.{arith}

@@ -1,4 +1,5 @@
--- `walks::take_back` meets its contract: the place is sought for the first record of the next page, and that record is pushed there.
+-- `walks::take_back` meets its contract: the place is sought for the first record of the next page,
+-- and that record is pushed there.
 use borrow.Author.Needs.{needs}
 use Rattle.homes.specs.Homes.{homeIn}
 use Rattle.walks.proofs.Draw.{place-le, pushed-back}

@@ -1,0 +1,34 @@
+-- `commands::carry::check_lent` meets its contract: `register::check` on the pages that the state
+-- tells of.
+use mathlib.Core.Path.{sym}
+use Prim.Native.Nat.{_*_}
+use lib.Seq.{length-take-le}
+use denote.Ref.{now}
+use borrow.Author.Needs.{needs}
+use Rattle.register.specs.Calls.{checked}
+use Rattle.commands.proofs.Lending.{said-lent}
+use Rattle.commands.proofs.execute.check_lent.Statement.{statement}
+use Rattle.commands.proofs.execute.check_lent.Tie as tie
+
+lent-requires : tie.Need-lent-requires
+lent-requires c κs = search needs
+
+slice-aggregate-check : tie.Need-slice-aggregate-check
+slice-aggregate-check c = sym (length-take-le _ _ (c .before .lent .ensures .1))
+
+check-requires : tie.Need-check-requires
+check-requires c κs = search needs
+
+tell-requires : tie.Need-tell-requires
+tell-requires c κs = search needs
+
+returns : tie.Need-returns
+returns c =
+    let g = c .before in
+    let l = g .before .before in
+    let a = l .before .before .args in
+    said-lent (256 * a .state .cap) _ (now (a .space)) (l .lent .ensures .0) (checked (a .state)) _ (g .check .ensures) _ (c .tell .ensures)
+
+pub check-lent-spec : {M : Type 1} → statement M
+check-lent-spec =
+    tie.close (tie.spec lent-requires slice-aggregate-check check-requires tell-requires returns)

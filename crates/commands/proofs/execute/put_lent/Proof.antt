@@ -1,0 +1,48 @@
+-- `commands::carry::put_lent` meets its contract: `register::put` on the pages that the state tells
+-- of, back in their place.
+use mathlib.Core.Path.{sym}
+use Prim.Native.Nat.{_*_}
+use lib.Seq.{length-take-le}
+use denote.Ref.{now}
+use borrow.Author.Needs.{needs}
+use Rattle.register.specs.Calls.{stored}
+use Rattle.commands.proofs.Lending.{wrote-lent}
+use Rattle.commands.proofs.execute.put_lent.Statement.{statement}
+use Rattle.commands.proofs.execute.put_lent.Tie as tie
+
+lent-requires : tie.Need-lent-requires
+lent-requires c κs = search needs
+
+slice-relend-prefix-put : tie.Need-slice-relend-prefix-put
+slice-relend-prefix-put c = search needs
+
+slice-aggregate-put : tie.Need-slice-aggregate-put
+slice-aggregate-put c = sym (length-take-le _ _ (c .before .lent .ensures .1))
+
+put-requires : tie.Need-put-requires
+put-requires c κs = search needs
+
+tell-requires : tie.Need-tell-requires
+tell-requires c κs = search needs
+
+same-length : tie.Need-same-length
+same-length c = search needs
+
+returns : tie.Need-returns
+returns c =
+    let g = c .before .before .before in
+    let l = g .before .before in
+    let a = l .before .before .before .args in
+    wrote-lent (256 * a .state .cap) _ (now (a .space)) (l .lent .ensures .0) (λ area. stored (a .state) area (a .new)) _ _ (g .put .ensures) (g .put .kept .1 .0) _ (c .tell .ensures)
+
+pub put-lent-spec : {M : Type 1} → statement M
+put-lent-spec =
+    tie.close
+    (tie.spec
+    lent-requires
+    slice-relend-prefix-put
+    slice-aggregate-put
+    put-requires
+    tell-requires
+    same-length
+    returns)

@@ -1,0 +1,13 @@
+-- `commands::carry::tell` meets its contract: the state as it is, and the numbers of the answer.
+use borrow.Author.Needs.{needs}
+use Rattle.commands.proofs.execute.tell.Statement.{statement}
+use Rattle.commands.proofs.execute.tell.Tie as tie
+
+numbers-requires : tie.Need-numbers-requires
+numbers-requires c κs = search needs
+
+returns : tie.Need-returns
+returns c = rw (c .numbers .ensures)
+
+pub tell-spec : {M : Type 1} → statement M
+tell-spec = tie.close (tie.spec numbers-requires returns)

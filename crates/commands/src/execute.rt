@@ -1,0 +1,129 @@
+// One command carried out on a state, its pages and its row.
+use crate::Command;
+use crate::Told;
+use homes::Params;
+use pages::Record;
+use state::Done;
+use state::Numbers;
+use state::State;
+ghost use mathlib.Core.Path.{_≡_};
+ghost use Prim.Native.Nat.{_*_, _≤_, min};
+ghost use lib.ListN.{length, take};
+ghost use Rattle.numbers.specs.Little.{written};
+ghost use Rattle.register.specs.Calls.{formatted, found, stored, removed, checked, grew};
+ghost use Rattle.commands.specs.Execute.{site, refusedBy, executed, tells, toldOf};
+
+// How many of the bytes of the space a file of so many pages is lent.
+fn lent(cap: u16, space: &[u8]) -> usize
+    ensures { λ r. ⌜ r ≡ min (256 * cap) (length (now (space .entry))) ⌝ }
+    ensures within { λ r. ⌜ r ≤ length (now (space .entry)) ⌝ }
+{
+    let want = 256 * (cap as usize);
+    if want < space.len() {
+        want
+    } else {
+        space.len()
+    }
+}
+
+// A refusal of the log's own.
+pub(crate) fn refused(refusal: u16) -> Numbers
+    ensures { λ r. ⌜ r ≡ refusedBy refusal ⌝ }
+{
+    Numbers {
+        refusal,
+        page: 0,
+        value: 0,
+        read: 0,
+        moved: 0,
+    }
+}
+
+fn tell(done: Done) -> Told
+    ensures { λ r. ⌜ r ≡ tells done ⌝ }
+{
+    let state = done.state;
+    let answer = done.answer;
+    let numbers = answer.numbers();
+    Told { state, numbers }
+}
+
+fn format_lent(state: State, params: Params, cap: u16, space: &mut [u8]) -> Told
+    ensures { λ r. ⌜ r ≡ tells (formatted state params cap (take (256 * cap) (now (space .entry))) .done) ⌝ }
+    ensures { λ _. ⌜ now (space .exit) ≡ written (now (space .entry)) 0 (formatted state params cap (take (256 * cap) (now (space .entry))) .area) ⌝ }
+{
+    let end = lent(cap, &space[..]);
+    let done = register::format(state, params, cap, &mut space[..end]);
+    tell(done)
+}
+
+fn put_lent(state: State, space: &mut [u8], new: Record) -> Told
+    ensures { λ r. ⌜ r ≡ tells (stored state (take (256 * state .cap) (now (space .entry))) new .done) ⌝ }
+    ensures { λ _. ⌜ now (space .exit) ≡ written (now (space .entry)) 0 (stored state (take (256 * state .cap) (now (space .entry))) new .area) ⌝ }
+{
+    let end = lent(state.cap, &space[..]);
+    let done = register::put(state, &mut space[..end], new);
+    tell(done)
+}
+
+fn find_lent(state: State, space: &[u8], key: u64) -> Told
+    ensures { λ r. ⌜ r ≡ tells (found state (take (256 * state .cap) (now (space .entry))) key) ⌝ }
+{
+    let end = lent(state.cap, space);
+    let done = register::find(state, &space[..end], key);
+    tell(done)
+}
+
+fn remove_lent(state: State, space: &mut [u8], key: u64) -> Told
+    ensures { λ r. ⌜ r ≡ tells (removed state (take (256 * state .cap) (now (space .entry))) key .done) ⌝ }
+    ensures { λ _. ⌜ now (space .exit) ≡ written (now (space .entry)) 0 (removed state (take (256 * state .cap) (now (space .entry))) key .area) ⌝ }
+{
+    let end = lent(state.cap, &space[..]);
+    let done = register::remove(state, &mut space[..end], key);
+    tell(done)
+}
+
+fn grow_lent(state: State, space: &mut [u8], row: &mut [u32]) -> Told
+    ensures { λ r. ⌜ r ≡ tells (grew state (take (256 * state .cap) (now (space .entry))) (take (state .cap) (now (row .entry))) .done) ⌝ }
+    ensures { λ _. ⌜ now (space .exit) ≡ written (now (space .entry)) 0 (grew state (take (256 * state .cap) (now (space .entry))) (take (state .cap) (now (row .entry))) .area) ⌝ }
+    ensures { λ _. ⌜ now (row .exit) ≡ written (now (row .entry)) 0 (grew state (take (256 * state .cap) (now (space .entry))) (take (state .cap) (now (row .entry))) .row) ⌝ }
+{
+    let end = lent(state.cap, &space[..]);
+    let cap = state.cap as usize;
+    let counts = if cap < row.len() { cap } else { row.len() };
+    let done = register::grow(state, &mut space[..end], &mut row[..counts]);
+    tell(done)
+}
+
+fn check_lent(state: State, space: &[u8]) -> Told
+    ensures { λ r. ⌜ r ≡ tells (checked state (take (256 * state .cap) (now (space .entry)))) ⌝ }
+{
+    let end = lent(state.cap, space);
+    let done = register::check(state, &space[..end]);
+    tell(done)
+}
+
+// A format is lent the pages that it asks for, every other command those that the state tells of;
+// where there are fewer, the call refuses them.
+pub fn execute(state: State, space: &mut [u8], row: &mut [u32], command: Command) -> Told
+    ensures { λ r. ⌜ r ≡ toldOf (executed (site state (now (space .entry)) (now (row .entry))) command) ⌝ }
+    ensures { λ _. ⌜ now (space .exit) ≡ executed (site state (now (space .entry)) (now (row .entry))) command .site .space ⌝ }
+    ensures { λ _. ⌜ now (row .exit) ≡ executed (site state (now (space .entry)) (now (row .entry))) command .site .row ⌝ }
+{
+    match command {
+        Command::Format { params, cap } => {
+            if 128 < cap {
+                return Told {
+                    state,
+                    numbers: refused(12),
+                };
+            }
+            format_lent(state, params, cap, space)
+        }
+        Command::Put { new } => put_lent(state, space, new),
+        Command::Find { key } => find_lent(state, &space[..], key),
+        Command::Remove { key } => remove_lent(state, space, key),
+        Command::Grow => grow_lent(state, space, row),
+        Command::Check => check_lent(state, &space[..]),
+    }
+}

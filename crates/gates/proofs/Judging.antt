@@ -1,0 +1,119 @@
+-- The gate of the pages: what a survey tells decides.
+use mathlib.Core.Path.{_≡_, refl, sym, _∙_}
+use mathlib.Core.Bool.{Bool, true, false, cond, _&&_}
+use mathlib.Core.Option.{Option, none, some}
+use mathlib.Core.List.{List, [], _∷_}
+use Prim.Native.Nat.{ℕ, suc, _+_, _<_}
+use native.Mathlib.Numerals.{add-one}
+use native.Mathlib.Omega.{arith}
+use lib.Dec.{eqb}
+use lib.ListN.{length}
+use borrow.Author.Tests.{eqb-true, eq-eqb}
+use Rattle.homes.specs.declared.Shape.{Shape}
+use Rattle.homes.specs.declared.Stage.{Stage}
+use Rattle.homes.specs.Homes.{shapeOf, homeIn}
+use Rattle.numbers.proofs.Records.{and-left, and-right}
+use Rattle.placing.specs.Image.{cat}
+use Rattle.placing.specs.Rows.{counts}
+use Rattle.pages.proofs.Areas.{pages-length}
+use Rattle.pages.specs.Page.{Record, homeFor}
+use Rattle.pages.specs.Area.{pagesFrom, heldFrom}
+use Rattle.survey.specs.declared.Verdict.{Verdict}
+use Rattle.survey.specs.declared.Verdict.the-variants.{Whole}
+use Rattle.survey.specs.declared.Verdict.the-variants as verdicts
+use Rattle.survey.specs.declared.Count.the-variants.{Homes}
+use Rattle.survey.specs.Survey.{lowestBroken, isImage, onBroken, surveyed}
+use Rattle.survey.specs.steps.Counts.{Counts}
+use Rattle.state.specs.declared.State.{State}
+use Rattle.state.specs.declared.Answer.the-variants.{Broken, NotImage}
+use Rattle.state.specs.State.{homes}
+use Rattle.gates.specs.declared.Gate.{Gate}
+use Rattle.gates.specs.declared.Gate.the-variants.{Open, Shut}
+use Rattle.gates.specs.Gates.{imageOf, imageGate}
+
+-- the lowest broken page is one of those looked at
+lowest-below : (a b : ℕ) (ps : List (Option (List Record))) → lowestBroken a ps ≡ some b → b < a + length ps
+lowest-below a b [] e = absurd (let z : _≡_ {A = ℕ} 0 1 = cc in omega arith)
+lowest-below a b (none ∷ ps) e = let q : a ≡ b = cc in omega arith
+lowest-below a b (some p ∷ ps) e = omega (arith, lowest-below (suc a) b ps e)
+
+-- so what a survey calls broken is a page of the area
+pub sick-below : (h : ℕ → ℕ) (area : List ℕ) (cap : ℕ) (v : Verdict) (a : ℕ) → v ≡ surveyed h area cap → v ≡ verdicts.Broken a → a < cap
+unfolding surveyed
+sick-below h area cap v a t e = go (lowestBroken 0 (pagesFrom h area cap 0)) refl (sym t ∙ e)
+  where
+    whole : Verdict
+    whole = Whole (isImage h (heldFrom area cap 0)) (length (cat (heldFrom area cap 0) []))
+
+    go : (o : Option ℕ) → lowestBroken 0 (pagesFrom h area cap 0) ≡ o → onBroken o whole ≡ verdicts.Broken a → a < cap
+    go none q k = absurd (let z : _≡_ {A = ℕ} 0 1 = cc in omega arith)
+    go (some b) q k =
+        let w : b ≡ a = cc in
+        omega (arith, lowest-below 0 b (pagesFrom h area cap 0) q, pages-length h area cap 0)
+
+module _ (s : State) (v : Verdict) where
+  -- a broken page, which is the last that was read
+  pub broken-shut : (a : ℕ) → v ≡ verdicts.Broken a → Shut (Broken a (a + 1)) ≡ imageOf s v
+  broken-shut a e = rw (e, add-one)
+
+  module _ (image : Bool) (records : ℕ) (e : v ≡ Whole image records) where
+    -- an image of the right number of records, or not
+    pub image-open : (image && eqb records (s .r)) ≡ true → Open ≡ imageOf s v
+    image-open u = rw (e, u)
+
+    pub image-shut : (image && eqb records (s .r)) ≡ false → Shut (NotImage (s .cap)) ≡ imageOf s v
+    image-shut u = rw (e, u)
+
+  -- where it is open, no page is broken, and the homes that were to be counted are
+  pub open-counted : (next : Shape) (last : Stage) (rs : List Record) (n : ℕ) (row : List ℕ) → imageOf s v ≡ Open → Counts v (Homes next last) rs n row
+      → row ≡ counts (homeFor (homeIn next)) rs n 0
+  open-counted next last rs n row e k = go v e k
+    where
+      go : (w : Verdict) → imageOf s w ≡ Open → Counts w (Homes next last) rs n row → row ≡ counts (homeFor (homeIn next)) rs n 0
+      go (verdicts.Broken a) q k = absurd (let z : _≡_ {A = ℕ} 0 1 = cc in omega arith)
+      go (Whole image records) q k = k
+
+  -- the verdict of a survey by the state's own homes is the gate
+  pub gate-told : (area : List ℕ) (shape : Shape) → shape ≡ shapeOf (s .params) (s .p) → v ≡ surveyed (homeIn shape) area (s .cap)
+      → (g : Gate) → g ≡ imageOf s v → g ≡ imageGate s area
+  unfolding imageGate
+  gate-told area shape f t g e = e ∙ rw (t, f)
+
+-- what an open gate tells of the pages: none is broken, and they are an image of as many records as
+-- the state tells
+pub record GoodFile (s : State) (area : List ℕ) : Type 0 where
+  pub whole : lowestBroken 0 (pagesFrom (homes s) area (s .cap) 0) ≡ none
+  pub image : isImage (homes s) (heldFrom area (s .cap) 0) ≡ true
+  pub count : length (cat (heldFrom area (s .cap) 0) []) ≡ s .r
+
+pub open-good : (s : State) (area : List ℕ) → imageGate s area ≡ Open → GoodFile s area
+unfolding imageGate surveyed
+open-good s area e = look (lowestBroken 0 (pagesFrom h area (s .cap) 0)) refl e
+  where
+    h : ℕ → ℕ
+    h = homes s
+
+    held : List (List Record)
+    held = heldFrom area (s .cap) 0
+
+    records : ℕ
+    records = length (cat held [])
+
+    tests : (u : Bool) → (isImage h held && eqb records (s .r)) ≡ u → cond u Open (Shut (NotImage (s .cap))) ≡ Open → (isImage h held && eqb records (s .r)) ≡ true
+    tests true q k = q
+    tests false q k = absurd (let z : _≡_ {A = ℕ} 0 1 = cc in omega arith)
+
+    look : (o : Option ℕ) → lowestBroken 0 (pagesFrom h area (s .cap) 0) ≡ o → imageOf s (onBroken o (Whole (isImage h held) records)) ≡ Open → GoodFile s area
+    look (some a) q k = absurd (let z : _≡_ {A = ℕ} 0 1 = cc in omega arith)
+    look none q k =
+        let t : (isImage h held && eqb records (s .r)) ≡ true = tests (isImage h held && eqb records (s .r)) refl k in
+        record {
+          whole = q;
+          image = and-left (isImage h held) (eqb records (s .r)) t;
+          count = eqb-true records (s .r) (and-right (isImage h held) (eqb records (s .r)) t);
+        }
+
+-- and such pages open it
+pub good-open : (s : State) (area : List ℕ) → GoodFile s area → imageGate s area ≡ Open
+unfolding imageGate surveyed
+good-open s area k = rw (k .whole, k .image, eq-eqb (length (cat (heldFrom area (s .cap) 0) [])) (s .r) (k .count))

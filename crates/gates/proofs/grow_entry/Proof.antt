@@ -1,0 +1,61 @@
+-- `gates::grow_entry` meets its contract: each way out is one of its tests, in their order.
+use borrow.Author.Needs.{needs}
+use Rattle.gates.proofs.Gating.{past, entry-shut, entry-row, entry-cap, entry-open, past-entry}
+use Rattle.gates.proofs.grow_entry.Statement.{statement}
+use Rattle.gates.proofs.grow_entry.Tie as tie
+
+enter-requires : tie.Need-enter-requires
+enter-requires c κs = search needs
+
+enum-known-gate : tie.Need-enum-known-gate
+enum-known-gate c = search needs
+
+enum-told : tie.Need-enum-told
+enum-told c = search needs
+
+cast-if1 : tie.Need-cast-if1
+cast-if1 c = search needs
+
+returns : tie.Need-returns
+returns c =
+    let t = c .before .before in
+    let e = t .before .before in
+    let a = e .before .args in
+    (entry-row (a .state) (a .m) (a .n) _ (e .enter .ensures .0) (t .enum-told .given .1) (c .if1 .taken), tt)
+
+returns-2 : tie.Need-returns-2
+returns-2 c =
+    let t = c .before .before .before .before in
+    let e = t .before .before in
+    let a = e .before .args in
+    (entry-cap (a .state) (a .m) (a .n) _ (e .enter .ensures .0) (t .enum-told .given .1) (c .before .before .if1 .left) (c .if2 .taken), tt)
+
+returns-3 : tie.Need-returns-3
+returns-3 c =
+    let e = c .before .before .before in
+    let a = e .before .args in
+    (entry-shut (a .state) (a .m) (a .n) _ (e .enter .ensures .0) _ (c .before .gate .given .1), tt)
+
+returns-4 : tie.Need-returns-4
+returns-4 c =
+    let t = c .before .before .before .before in
+    let e = t .before .before in
+    let a = e .before .args in
+    let k = past _ _ _ (e .enter .ensures .1) (t .enum-told .given .1) in
+    let n = c .before .before .if1 .left in (
+      entry-open (a .state) (a .m) (a .n) _ (e .enter .ensures .0) (t .enum-told .given .1) n (c .if2 .left),
+      past-entry (a .state) (a .m) (a .n) (k .0) (k .1) n (c .if2 .left),
+    )
+
+pub grow-entry-spec : {M : Type 1} → statement M
+grow-entry-spec =
+    tie.close
+    (tie.spec
+    enter-requires
+    enum-known-gate
+    enum-told
+    cast-if1
+    returns
+    returns-2
+    returns-3
+    returns-4)

@@ -1,0 +1,43 @@
+-- What a call refuses before it does anything (01, 'Refusal numbers'), in 01's order. What is
+-- quoted is 01's.
+use Prim.Native.Nat.{ℕ, suc, _*_}
+use mathlib.Core.Bool.{cond, _&&_}
+use mathlib.Core.List.{List}
+use lib.ListN.{length}
+use lib.Dec.{eqb}
+use Rattle.state.specs.declared.State.{State}
+use Rattle.state.specs.State.{inRange, homes}
+use Rattle.state.specs.declared.Answer.{Answer}
+use Rattle.state.specs.declared.Answer.the-variants.{OutOfRange, WrongArea, WrongRow, Broken, AtCap, NotImage}
+use Rattle.survey.specs.declared.Verdict.{Verdict}
+use Rattle.survey.specs.declared.Verdict.the-variants.{Whole}
+use Rattle.survey.specs.declared.Verdict.the-variants as verdicts
+use Rattle.survey.specs.Survey.{surveyed}
+use Rattle.gates.specs.declared.Gate.{Gate}
+use Rattle.gates.specs.declared.Gate.the-variants.{Open, Shut}
+
+abbrev pub onGate : {A : Type 0} → Gate → (Answer → A) → A → A
+onGate Open refuse on = on
+onGate (Shut why) refuse on = refuse why
+
+-- "1 a state number out of range", then "2 area isn't 256 x cap bytes", of an area of n bytes
+unfoldable pub gateOf : State → (n : ℕ) → Gate
+gateOf s n = cond (inRange s) (cond (eqb n (256 * s .cap)) Open (Shut WrongArea)) (Shut OutOfRange)
+
+-- "Check says yes exactly when the area is the image of r records. Otherwise 4 with the lowest
+-- broken page, or, with none broken, 9." Pages are judged from 0 upward, so a broken page a is the
+-- last of a + 1 that are read.
+abbrev pub imageOf : State → Verdict → Gate
+imageOf s (verdicts.Broken a) = Shut (Broken a (suc a))
+imageOf s (Whole image records) = cond (image && eqb records (s .r)) Open (Shut (NotImage (s .cap)))
+
+unfoldable pub imageGate : State → List ℕ → Gate
+imageGate s area = imageOf s (surveyed (homes s) area (s .cap))
+
+-- "Grow 1, 2, 3, 8", with an area of m bytes and a row of n counts
+abbrev pub growEntry : State → (m n : ℕ) → Gate
+growEntry s m n = onGate (gateOf s m) Shut (cond (eqb n (s .cap)) (cond (eqb (s .p) (s .cap)) (Shut AtCap) Open) (Shut WrongRow))
+
+-- then "4, 9"
+unfoldable pub growGate : State → List ℕ → (n : ℕ) → Gate
+growGate s area n = onGate (growEntry s (length area) n) Shut (imageGate s area)

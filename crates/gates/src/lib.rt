@@ -1,0 +1,101 @@
+// What a call refuses before it does anything.
+use state::Answer;
+use state::State;
+use survey::Count;
+use survey::Verdict;
+ghost use mathlib.Core.Path.{_≡_};
+ghost use mathlib.Core.Bool.{true};
+ghost use Prim.Native.Nat.{ℕ, _*_, _<_};
+ghost use lib.ListN.{length};
+ghost use Rattle.state.specs.State.{inRange};
+ghost use Rattle.survey.specs.declared.Verdict.the-variants as verdicts;
+ghost use Rattle.gates.specs.Gates.{gateOf, imageOf, imageGate, growEntry};
+ghost use Rattle.gates.specs.steps.Past.{OpenFor, EnteredToGrow};
+
+// Whether a call may go on, or why not.
+pub enum Gate {
+    Open,
+    Shut { why: Answer },
+}
+
+// The refusals that need no page: a number out of range, an area of another length.
+pub fn enter(state: State, length: usize) -> Gate
+    ensures { λ r. ⌜ r ≡ gateOf state length ⌝ }
+    ensures within { λ r. ⌜ OpenFor state length r ⌝ }
+{
+    if !state.in_range() {
+        return Gate::Shut {
+            why: Answer::OutOfRange,
+        };
+    }
+    if length != 256 * (state.cap as usize) {
+        return Gate::Shut {
+            why: Answer::WrongArea,
+        };
+    }
+    Gate::Open
+}
+
+// What a look at all pages comes to.
+pub fn image_of(state: State, verdict: Verdict) -> Gate
+    requires { ⌜ ((a : ℕ) → verdict ≡ verdicts.Broken a → a < 4096) ⌝ }
+    ensures { λ r. ⌜ r ≡ imageOf state verdict ⌝ }
+{
+    match verdict {
+        Verdict::Broken { page } => Gate::Shut {
+            why: Answer::Broken {
+                page: page as u16,
+                read: page as u32 + 1,
+            },
+        },
+        Verdict::Whole { image, records } => {
+            if image & (records == state.r) {
+                return Gate::Open;
+            }
+            Gate::Shut {
+                why: Answer::NotImage {
+                    read: state.cap as u32,
+                },
+            }
+        }
+    }
+}
+
+// Whether the area is the image of the records that the state tells of.
+pub fn image_gate(state: State, area: &[u8]) -> Gate
+    requires { ⌜ (inRange state ≡ true) × (length (now area) ≡ 256 * state .cap) ⌝ }
+    ensures { λ r. ⌜ r ≡ imageGate state (now (area .entry)) ⌝ }
+{
+    let shape = state.shape();
+    let mut none = [0; 0];
+    let verdict = survey::survey(
+        area,
+        state.cap as usize,
+        shape,
+        Count::Nothing,
+        &mut none[..],
+    );
+    image_of(state, verdict)
+}
+
+// What a growth refuses before it looks at a page, with an area of m bytes and a row of n counts.
+pub fn grow_entry(state: State, m: usize, n: usize) -> Gate
+    ensures { λ r. ⌜ r ≡ growEntry state m n ⌝ }
+    ensures within { λ r. ⌜ EnteredToGrow state m n r ⌝ }
+{
+    let gate = enter(state, m);
+    match gate {
+        Gate::Shut { why } => Gate::Shut { why },
+        Gate::Open => {
+            if n != state.cap as usize {
+                return Gate::Shut {
+                    why: Answer::WrongRow,
+                };
+            }
+            if state.p == state.cap {
+                return Gate::Shut { why: Answer::AtCap };
+            }
+            Gate::Open
+        }
+    }
+}

@@ -1,0 +1,4 @@
+-- Steps between the code and the definitions: they need not be believed.
+pub mod Stages
+pub mod Last
+pub mod Lanes

@@ -1,0 +1,27 @@
+-- The last step of a file, by which its last page was added: what it leaves as it was. A step
+-- between code and definition.
+use Prim.Native.Nat.{ℕ, zero, suc, _+_, _-_, _*_, _≤_, _<_}
+use mathlib.Core.Bool.{Bool, cond, not, _&&_}
+use lib.Dec.{ltb, eqb}
+use Rattle.homes.specs.declared.Shape.{Shape}
+use Rattle.homes.specs.declared.Stage.{Stage}
+use Rattle.homes.specs.Homes.{firstPages, newPage}
+use Rattle.homes.specs.steps.Stages.{firstStep, nextStep}
+
+-- the step after which the size is P at least, from t on, where t is step x, with at most `left`
+-- steps more
+unfoldable pub lastFrom : (n0 P left x : ℕ) → Stage → Stage
+lastFrom n0 P zero x t = t
+lastFrom n0 P (suc left) x t = cond (ltb (t .f + t .g) P) (lastFrom n0 P left (suc x) (nextStep n0 x t)) t
+
+-- the last step of a file of that shape
+abbrev pub lastStep : Shape → Stage
+lastStep shape = lastFrom (shape .params .n0) (shape .p) (shape .p - firstPages (shape .params)) 1 (firstStep shape)
+
+-- a step has a group at least, and no more groups than pages
+abbrev pub Within : Stage → Type 0
+Within t = (1 ≤ t .g) × (t .g ≤ t .f) × (t .f < 4096)
+
+-- whether a page is another than the last, and of a group that doesn't grow into the last
+unfoldable pub staysAt : Shape → Stage → ℕ → Bool
+staysAt shape last a = ltb a (shape .p - 1) && not (eqb (newPage (shape .params .s) (last .f) (last .g) a) (shape .p - 1))

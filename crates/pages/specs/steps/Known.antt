@@ -1,0 +1,35 @@
+-- What is known of the homes of a page's records before they are worked out. A step between code
+-- and definition.
+use Prim.Native.Nat.{ℕ, zero, suc}
+use mathlib.Core.Path.{_≡_}
+use mathlib.Core.Bool.{Bool, true, false, not, _&&_}
+use mathlib.Core.List.{List, [], _∷_}
+use lib.ListN.{length}
+use lib.Dec.{leb}
+use Rattle.placing.specs.Image.{All}
+use Rattle.pages.specs.Page.{Record, key, recordsIn}
+use Rattle.pages.specs.Area.{partAt}
+
+module _ (h : ℕ → ℕ) (a : ℕ) where
+  -- all have their home on page a
+  abbrev pub AllHere : List Record → Type 0
+  AllHere rs = All (λ x. h (key x) ≡ a) rs
+
+  -- so have all after one that has
+  abbrev pub OnceHere : List Record → Type 0
+  OnceHere [] = Unit {0}
+  OnceHere (x ∷ rs) = (h (key x) ≡ a → AllHere rs) × OnceHere rs
+
+  -- which of the two are known
+  abbrev pub Known : (all once : Bool) → List Record → Type 0
+  Known all once rs = (all ≡ true → AllHere rs) × (once ≡ true → OnceHere rs)
+
+-- whether there is a page before page a, and it says that it is full
+abbrev pub fullBefore : List ℕ → ℕ → Bool
+fullBefore area zero = false
+fullBefore area (suc b) = leb 12 (length (recordsIn (partAt area b)))
+
+-- what is known of page a of an area, if it is one of the pages whose records stay: after a page
+-- that isn't full, all are at home
+abbrev pub KnownAt : (ℕ → ℕ) → (stays : ℕ → Bool) → List ℕ → ℕ → Type 0
+KnownAt h stays area a = Known h a (stays a && not (fullBefore area a)) (stays a) (recordsIn (partAt area a))

@@ -1,0 +1,83 @@
+-- How a put and a remove go in two phases: what the first settles, and what the second writes. That
+-- the two together are the walk is proved.
+use Prim.Native.Nat.{ℕ, zero, suc, _-_, _≤_, _<_}
+use mathlib.Core.Path.{_≡_}
+use mathlib.Core.Bool.{cond}
+use mathlib.Core.Option.{Option, none, some}
+use mathlib.Core.List.{List, [], _∷_}
+use lib.ListN.{length, take, getD}
+use lib.Dec.{leb, ltb}
+use Rattle.placing.specs.Lay.{rankOf, rankIn, ins}
+use Rattle.pages.specs.Page.{Record, key, vacant, recordsIn}
+use Rattle.pages.specs.Places.{closed, ahead}
+use Rattle.pages.specs.steps.Slots.{opened, upToBack}
+use Rattle.pages.specs.Area.{partAt}
+use Rattle.state.specs.declared.Answer.the-variants.{Broken, NoRoom}
+use Rattle.walks.specs.declared.Met.{Met}
+use Rattle.walks.specs.declared.Met.the-variants.{Found, Ends}
+use Rattle.walks.specs.declared.Met.the-variants as mets
+use Rattle.walks.specs.declared.Plan.{Plan}
+use Rattle.walks.specs.declared.Plan.the-variants.{Go, Stop}
+use Rattle.walks.specs.Walks.{Pages, Walked, went, stopped}
+
+-- what any bytes hold on a page
+abbrev pub held : List ℕ → ℕ → List Record
+held area a = recordsIn (partAt area a)
+
+-- the first record of a page
+abbrev pub firstOf : List Record → Record
+firstOf rs = getD rs 0 vacant
+
+-- a record at its place, sought from the back, and twelve records at most
+abbrev pub backed : (ℕ → ℕ) → Record → List Record → List Record
+backed h y s = take 12 (opened (upToBack (rankIn key h) (rankIn key h y) vacant s (length s)) y s)
+
+module _ (h : ℕ → ℕ) (area : List ℕ) where
+  -- n pages from a on, each with one record more; its last goes on
+  abbrev pub poured : (n a : ℕ) → Record → Pages
+  poured zero a x = []
+  poured (suc n) a x = let q = ins (rankIn key h) x (held area a) in (a, take 12 q) ∷ poured n (suc a) (getD q 12 x)
+
+  -- page a with a slot closed up, then the first record of the next page in its place, for n pages;
+  -- the last is closed up only
+  abbrev pub drawn : (n a slot : ℕ) → Pages
+  drawn zero a slot = (a, closed slot (held area a)) ∷ []
+  drawn (suc n) a slot = (a, backed h (firstOf (held area (suc a))) (closed slot (held area a))) ∷ drawn n (suc a) 0
+
+module _ (h : ℕ → ℕ) where
+  -- the first phase of a put from page a on: the pages from the first to the one before it are full
+  abbrev pub reached : (from at a n : ℕ) → List (Option (List Record)) → Plan
+  reached f at a n [] = Stop (NoRoom n)
+  reached f at a n (none ∷ ps) = Stop (Broken a (suc n))
+  reached f at a n (some p ∷ ps) = let on = reached f at (suc a) (suc n) ps in cond (ltb (length p) 12) (Go f at a (suc n)) on
+
+  -- the first phase of a remove where page a loses a record of twelve
+  abbrev pub reachedBack : (from at a n : ℕ) → List (Option (List Record)) → Plan
+  reachedBack f at a n [] = Go f at a n
+  reachedBack f at a n (none ∷ ps) = Stop (Broken (suc a) (suc n))
+  reachedBack f at a n (some [] ∷ ps) = Go f at a (suc n)
+  reachedBack f at a n (some (y ∷ q) ∷ ps) =
+      let on = reachedBack f at (suc a) (suc n) ps in
+      cond (leb (h (key y)) a) (cond (ltb (suc (length q)) 12) (Go f at (suc a) (suc n)) on) (Go f at a (suc n))
+
+-- what a plan comes to: the pages that it writes, in each case with what was read and moved
+abbrev pub planned : ((n a slot : ℕ) → Pages) → Plan → Walked
+planned pages (Go f at last read) = went (pages (last - f) f at) read (last - f)
+planned pages (Stop why) = stopped why
+
+-- where a walk may end
+abbrev pub metIn : (cap : ℕ) → Met → Type 0
+metIn cap (Found a i c v n) = (a < cap) × (i < c) × (c ≤ 12) × (n ≤ suc a)
+metIn cap (mets.Broken a n) = (a < cap) × (n ≤ cap)
+metIn cap (Ends a i c n) = (a < cap) × (i ≤ c) × (c ≤ 12) × (1 ≤ n) × (n ≤ suc a)
+metIn cap (mets.AtEnd n) = n ≤ cap
+
+-- where a plan of a put begins: the place of the key on the first page
+abbrev pub placedIn : (ℕ → ℕ) → List ℕ → ℕ → Plan → Type 0
+placedIn h area k (Go f at last read) = at ≡ ahead (rankIn key h) (rankOf h k) (held area f)
+placedIn h area k (Stop why) = Unit {0}
+
+-- where a plan may write
+abbrev pub planIn : (cap : ℕ) → Plan → Type 0
+planIn cap (Go f at last read) = (f ≤ last) × (last < cap) × (at ≤ 12)
+planIn cap (Stop why) = Unit {0}

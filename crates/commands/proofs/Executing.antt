@@ -1,4 +1,4 @@
--- What a command comes to, on each way out of `carry_out`.
+-- What a command comes to, on each way out of `execute`.
 use mathlib.Core.Path.{_≡_, refl, sym}
 use mathlib.Core.List.{List}
 use Prim.Native.Nat.{ℕ, _*_, _≤_, _<_}

@@ -6,7 +6,7 @@ use lib.ListN.{replicate}
 use Rattle.homes.specs.Homes.{params}
 use Rattle.numbers.specs.Little.{little, bytesOf, numberAt, written}
 use Rattle.numbers.specs.Fields.{encode}
-use Rattle.homes.specs.Homes.{draw, mover, swept, moved, nextGroups, steps, home}
+use Rattle.homes.specs.Homes.{draw, mover, swept, movedTo, nextGroups, steps, home}
 use Rattle.pages.specs.Page.{recordWith, pageBytes, recordsIn, wellFormed, readPage}
 use Rattle.pages.specs.Places.{closed}
 use Rattle.pages.specs.Area.{partAt}
@@ -32,7 +32,7 @@ abbrev outcome : Kept
 outcome = record { params = params 1 1 1; cap = 2; p = 2; held = recordWith 7 1 ∷ [] }
 
 pub session : Fresh outcome (after start calls)
-unfolding draw mover swept moved nextGroups steps home little bytesOf numberAt written encode pageBytes recordsIn wellFormed readPage partAt closed all inRange walk putWalk removeWalk isImage surveyed gateOf imageGate growGate relaid grownFile left after without kept
+unfolding draw mover swept movedTo nextGroups steps home little bytesOf numberAt written encode pageBytes recordsIn wellFormed readPage partAt closed all inRange walk putWalk removeWalk isImage surveyed gateOf imageGate growGate relaid grownFile left after without kept
 session =
     record {
       start = start;

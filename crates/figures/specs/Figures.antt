@@ -7,7 +7,7 @@ use Prim.Native.Nat.{ℕ, _*_}
 use lib.ListN.{replicate}
 use Rattle.numbers.specs.Little.{little, bytesOf, numberAt, written}
 use Rattle.numbers.specs.Fields.{encode}
-use Rattle.homes.specs.Homes.{draw, mover, swept, newPage, moved, nextGroups, steps, params, home}
+use Rattle.homes.specs.Homes.{draw, mover, swept, newPage, movedTo, nextGroups, steps, params, home}
 use Rattle.pages.specs.Page.{key, recordWith, pageBytes, recordsIn, wellFormed, readPage, inMemory}
 use Rattle.pages.specs.Places.{closed}
 use Rattle.pages.specs.steps.Slots.{opened}
@@ -118,24 +118,24 @@ printed =
 
 -- the rows that take a run of the calls, each run worked out by itself
 run-moves : moves (grow (putAll twelve (file 2))) ≡ ((0 ∷ 12 ∷ []) ∷ [] ∷ twelve ∷ [])
-unfolding draw mover swept moved nextGroups steps home little bytesOf numberAt written encode pageBytes recordsIn wellFormed readPage inMemory partAt opened closed all inRange walk putWalk isImage surveyed gateOf imageGate growGate relaid grownFile
+unfolding draw mover swept movedTo nextGroups steps home little bytesOf numberAt written encode pageBytes recordsIn wellFormed readPage inMemory partAt opened closed all inRange walk putWalk isImage surveyed gateOf imageGate growGate relaid grownFile
 run-moves = refl
 
 run-then12 : then12 (grow (putAll twelve (file 2))) ≡ ((7 ∷ []) ∷ [])
-unfolding draw mover swept moved nextGroups steps home little bytesOf numberAt written encode pageBytes recordsIn wellFormed readPage inMemory partAt opened closed all inRange walk putWalk isImage surveyed gateOf imageGate growGate relaid grownFile
+unfolding draw mover swept movedTo nextGroups steps home little bytesOf numberAt written encode pageBytes recordsIn wellFormed readPage inMemory partAt opened closed all inRange walk putWalk isImage surveyed gateOf imageGate growGate relaid grownFile
 run-then12 = refl
 
 run-thirteen : thirteen (putAll (twelve ++ 12 ∷ []) (file 2)) ≡ (twelve ∷ (12 ∷ []) ∷ (7 ∷ []) ∷ [])
-unfolding draw mover swept moved nextGroups steps home little bytesOf numberAt written encode pageBytes recordsIn wellFormed readPage inMemory partAt opened closed all inRange walk putWalk isImage surveyed gateOf imageGate growGate relaid grownFile
+unfolding draw mover swept movedTo nextGroups steps home little bytesOf numberAt written encode pageBytes recordsIn wellFormed readPage inMemory partAt opened closed all inRange walk putWalk isImage surveyed gateOf imageGate growGate relaid grownFile
 run-thirteen = refl
 
 run-one : onePage (putAll twelve (file 1)) ≡ ((7 ∷ 6 ∷ []) ∷ [])
-unfolding draw mover swept moved nextGroups steps home little bytesOf numberAt written encode pageBytes recordsIn wellFormed readPage inMemory partAt opened closed all inRange walk putWalk isImage surveyed gateOf imageGate growGate relaid grownFile
+unfolding draw mover swept movedTo nextGroups steps home little bytesOf numberAt written encode pageBytes recordsIn wellFormed readPage inMemory partAt opened closed all inRange walk putWalk isImage surveyed gateOf imageGate growGate relaid grownFile
 run-one = refl
 
 rows : {a b s t : List (List ℕ)} → a ≡ b → s ≡ t → a ++ s ≡ b ++ t
 rows e f = rw (e, f)
 
 pub figures : given ≡ printed
-unfolding draw mover swept moved nextGroups steps home little bytesOf numberAt written encode pageBytes recordsIn wellFormed readPage inMemory partAt opened closed all inRange walk putWalk isImage surveyed gateOf imageGate growGate relaid grownFile
+unfolding draw mover swept movedTo nextGroups steps home little bytesOf numberAt written encode pageBytes recordsIn wellFormed readPage inMemory partAt opened closed all inRange walk putWalk isImage surveyed gateOf imageGate growGate relaid grownFile
 figures = rows {a = alone} refl (rows run-moves (rows run-then12 (rows run-thirteen run-one)))

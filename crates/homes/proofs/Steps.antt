@@ -21,17 +21,17 @@ pub record Into (goes : ℕ → ℕ → ℕ → ℕ) : Type 0 where
 
 -- Who is no mover stays.
 pub moved-off : (P : ℕ) (mv : Bool) (new a : ℕ) → mv ≡ false → movedTo P mv new a ≡ a
-unfolding moved
+unfolding movedTo
 moved-off P mv new a e = rw e
 
 -- A mover goes to a new page that is below P.
 pub moved-on : (P : ℕ) (mv : Bool) (new a : ℕ) → mv ≡ true → new < P → movedTo P mv new a ≡ new
-unfolding moved
+unfolding movedTo
 moved-on P mv new a e h = rw (e, lt-ltb new P h)
 
 -- Nobody goes to page P or a page past it.
 pub moved-past : (P : ℕ) (mv : Bool) (new a : ℕ) → P ≤ new → movedTo P mv new a ≡ a
-unfolding moved
+unfolding movedTo
 moved-past P mv new a h = rw (le-ltb new P h) (none mv)
   where
     none : (m : Bool) → cond (m && false) new a ≡ a
@@ -40,7 +40,7 @@ moved-past P mv new a h = rw (le-ltb new P h) (none mv)
 
 -- A step from a page below P leads to a page below P.
 pub moved-below : (P : ℕ) (mv : Bool) (new a : ℕ) → a < P → movedTo P mv new a < P
-unfolding moved
+unfolding movedTo
 moved-below P mv new a h = go mv (ltb new P) refl
   where
     go : (m u : Bool) → ltb new P ≡ u → cond (m && u) new a < P
@@ -50,7 +50,7 @@ moved-below P mv new a h = go mv (ltb new P) refl
 
 -- With one page more a step does the same, or leads to that page.
 pub moved-grown : (P : ℕ) (mv : Bool) (new a : ℕ) → (movedTo (P + 1) mv new a ≡ movedTo P mv new a) ⊎ ((movedTo (P + 1) mv new a ≡ P) × (new ≡ P))
-unfolding moved
+unfolding movedTo
 moved-grown P mv new a = go mv (ltb new P) (ltb new (P + 1)) refl refl
   where
     go : (m u v : Bool) → ltb new P ≡ u → ltb new (P + 1) ≡ v → (cond (m && v) new a ≡ cond (m && u) new a) ⊎ ((cond (m && v) new a ≡ P) × (new ≡ P))

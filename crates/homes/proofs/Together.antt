@@ -62,7 +62,7 @@ module _ (s P : ℕ) (t : Stage) (l : Lane) where
 
   -- A step of a lane is a step of its address.
   step-address : t .f ≡ t .np * t .g → l .group < t .g → addressOf (t .g) (stepped s P t l) ≡ movedTo P (leb (next * (t .np + 1)) 2147483647) (newPage s (t .f) (t .g) (addressOf (t .g) l)) (addressOf (t .g) l)
-  unfolding stepped moved
+  unfolding stepped movedTo
   step-address even h = rw (new-of s (t .f) (t .g) (l .turn) (l .group) h) (go goes)
     where
       go : (m : Bool) → addressOf (t .g) (after m) ≡ cond m (t .f + to) (addressOf (t .g) l)

@@ -10,7 +10,7 @@ use Rattle.numbers.specs.Little.{Bytes, little, bytesOf, numberAt, written}
 use Rattle.numbers.specs.Fields.{encode}
 use Rattle.numbers.proofs.Laws.{bytes-append}
 use Rattle.numbers.proofs.Records.{bytes-encode}
-use Rattle.homes.specs.Homes.{draw, mover, swept, moved, nextGroups, steps, home}
+use Rattle.homes.specs.Homes.{draw, mover, swept, movedTo, nextGroups, steps, home}
 use Rattle.pages.specs.Page.{recordWith, pageBytes, recordsIn, wellFormed, readPage}
 use Rattle.pages.specs.Places.{closed}
 use Rattle.pages.specs.Area.{partAt}
@@ -46,7 +46,7 @@ output =
     ∷ []
 
 pub session : bytesOfAll (wholeLog start input .replies) ≡ output
-unfolding draw mover swept moved nextGroups steps home little bytesOf numberAt written encode pageBytes recordsIn wellFormed readPage partAt closed all inRange walk putWalk removeWalk gateOf left formOf firstOf executed turn log bytesOfAll
+unfolding draw mover swept movedTo nextGroups steps home little bytesOf numberAt written encode pageBytes recordsIn wellFormed readPage partAt closed all inRange walk putWalk removeWalk gateOf left formOf firstOf executed turn log bytesOfAll
 session = refl
 
 -- what it keeps: one record on one of two pages
@@ -61,5 +61,5 @@ bytes =
     (bytes-append (encode (layoutOf (Put (recordWith 5 9)))) (encode (layoutOf (Find 5))) (bytes-encode (layoutOf (Put (recordWith 5 9)))) (bytes-encode (layoutOf (Find 5))))
 
 pub session-after : After outcome (wholeLog start input .site)
-unfolding draw mover swept moved nextGroups steps home little bytesOf numberAt written encode pageBytes recordsIn wellFormed readPage partAt closed all inRange walk putWalk removeWalk gateOf left formOf firstOf executed asked keptBy
+unfolding draw mover swept movedTo nextGroups steps home little bytesOf numberAt written encode pageBytes recordsIn wellFormed readPage partAt closed all inRange walk putWalk removeWalk gateOf left formOf firstOf executed asked keptBy
 session-after = record { last = true; room = 44; start = start; input = input; bytes = bytes; keeps = refl; leaves = refl }

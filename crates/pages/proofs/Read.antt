@@ -15,7 +15,7 @@ use Rattle.numbers.specs.Little.{numberAt}
 use Rattle.numbers.specs.Fields.{matches}
 use Rattle.numbers.proofs.Records.{matches-append}
 use Rattle.pages.specs.declared.Page.{Page}
-use Rattle.pages.specs.Page.{Record, key, value, recordWith, head, full, empty, slots, recordAt, recordsFrom, countIn, recordsIn, wellFormed, padded, inMemory}
+use Rattle.pages.specs.Page.{Record, key, value, recordWith, head, recordSlot, emptySlot, slots, recordAt, recordsFrom, countIn, recordsIn, wellFormed, padded, inMemory}
 use Rattle.pages.specs.steps.Slots.{recordsOf}
 use Rattle.pages.proofs.Memory.{memory}
 
@@ -92,7 +92,7 @@ head-tests l address used = rw and-true
 
 -- the tests of a record's slot are those of its fields; its key and value are any numbers
 pub full-tests : (l : List ℕ) (at : ℕ)
-    → (eqb (numberAt 2 l at) 20 && eqb (numberAt 2 l (at + 2)) 1) ≡ matches l at (full (recordWith (numberAt 8 l (at + 4)) (numberAt 8 l (at + 12))))
+    → (eqb (numberAt 2 l at) 20 && eqb (numberAt 2 l (at + 2)) 1) ≡ matches l at (recordSlot (recordWith (numberAt 8 l (at + 4)) (numberAt 8 l (at + 12))))
 full-tests l at =
     let k = numberAt 8 l (at + 4) in
     let v = numberAt 8 l (at + 12) in
@@ -100,13 +100,13 @@ full-tests l at =
 
 -- the tests of an empty slot are those of its fields
 pub empty-tests : (l : List ℕ) (at : ℕ)
-    → (eqb (numberAt 2 l at) 20 && (eqb (numberAt 2 l (at + 2)) 0 && (eqb (numberAt 8 l (at + 4)) 0 && eqb (numberAt 8 l (at + 12)) 0))) ≡ matches l at empty
+    → (eqb (numberAt 2 l at) 20 && (eqb (numberAt 2 l (at + 2)) 0 && (eqb (numberAt 8 l (at + 4)) 0 && eqb (numberAt 8 l (at + 12)) 0))) ≡ matches l at emptySlot
 empty-tests l at = simp (add-assoc, and-true)
 
 module _ (l : List ℕ) (count i : ℕ) where
   -- whether slot i is well formed
   abbrev pub slotMatches : Bool
-  slotMatches = matches l (16 + 20 * i) (cond (ltb i count) (full (recordWith (numberAt 8 l (16 + 20 * i + 4)) (numberAt 8 l (16 + 20 * i + 12)))) empty)
+  slotMatches = matches l (16 + 20 * i) (cond (ltb i count) (recordSlot (recordWith (numberAt 8 l (16 + 20 * i + 4)) (numberAt 8 l (16 + 20 * i + 12)))) emptySlot)
 
   -- whether the slots from slot i on are
   abbrev pub slotsLeft : Bool
@@ -131,11 +131,11 @@ slots-step l count i h = go (ltb i count) refl
         let e : count - i ≡ suc (count - (i + 1)) = omega (arith, ltb-true i count t) in
         let k : 20 + 20 * i ≡ 16 + 20 * i + 4 = omega arith in
         let v : 28 + 20 * i ≡ 16 + 20 * i + 12 = omega arith in
-        rw (t, n, e, k, v) (matches-append (full (recordWith (numberAt 8 l (16 + 20 * i + 4)) (numberAt 8 l (16 + 20 * i + 12)))) (slots (12 - (i + 1)) (recordsFrom (count - (i + 1)) (suc i) l)) l (16 + 20 * i) ∙ rw (on, add-one))
+        rw (t, n, e, k, v) (matches-append (recordSlot (recordWith (numberAt 8 l (16 + 20 * i + 4)) (numberAt 8 l (16 + 20 * i + 12)))) (slots (12 - (i + 1)) (recordsFrom (count - (i + 1)) (suc i) l)) l (16 + 20 * i) ∙ rw (on, add-one))
     go false t =
         let e : count - i ≡ 0 = omega (arith, ltb-false i count t) in
         let z : count - (i + 1) ≡ 0 = omega arith in
-        rw (t, n, e, z) (matches-append empty (slots (12 - (i + 1)) []) l (16 + 20 * i) ∙ rw on)
+        rw (t, n, e, z) (matches-append emptySlot (slots (12 - (i + 1)) []) l (16 + 20 * i) ∙ rw on)
 
 -- a slot that is not well formed makes the answer no
 pub slots-stop : (l : List ℕ) (count i : ℕ) (b : Bool) → i < 12 → b ≡ slotMatches l count i → b ≡ false → false ≡ slotsLeft l count i

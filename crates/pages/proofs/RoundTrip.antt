@@ -16,7 +16,7 @@ use Rattle.placing.proofs.Seek.{clash}
 use Rattle.pages.proofs.Bounds.{Small}
 use Rattle.pages.proofs.Read.{held-few}
 use Rattle.pages.proofs.Write.{slots-width}
-use Rattle.pages.specs.Page.{Record, key, value, full, slots, fields, pageBytes, recordsFrom, countIn, recordsIn, wellFormed, homesTo, rises, readPage}
+use Rattle.pages.specs.Page.{Record, key, value, recordSlot, slots, fields, pageBytes, recordsFrom, countIn, recordsIn, wellFormed, homesTo, rises, readPage}
 
 width-page : (a : ℕ) (rs : List Record) → width (fields a rs) ≡ 256
 width-page a rs = omega (arith, slots-width 12 rs)
@@ -40,10 +40,10 @@ slots-say n i [] l h m = refl
 slots-say zero i (x ∷ rs) l h m = absurd (omega arith)
 slots-say (suc n) i (x ∷ rs) l h m =
     let at : ℕ = 16 + 20 * i in
-    let both : (matches l at (full x) && matches l (at + 20) (slots n rs)) ≡ true = sym (matches-append (full x) (slots n rs) l at) ∙ m in
-    let here : matches l at (full x) ≡ true = and-left (matches l at (full x)) (matches l (at + 20) (slots n rs)) both in
+    let both : (matches l at (recordSlot x) && matches l (at + 20) (slots n rs)) ≡ true = sym (matches-append (recordSlot x) (slots n rs) l at) ∙ m in
+    let here : matches l at (recordSlot x) ≡ true = and-left (matches l at (recordSlot x)) (matches l (at + 20) (slots n rs)) both in
     let e : at + 20 ≡ 16 + 20 * suc i = omega arith in
-    let rest : matches l (16 + 20 * suc i) (slots n rs) ≡ true = rw e at (and-right (matches l at (full x)) (matches l (at + 20) (slots n rs)) both) in
+    let rest : matches l (16 + 20 * suc i) (slots n rs) ≡ true = rw e at (and-right (matches l at (recordSlot x)) (matches l (at + 20) (slots n rs)) both) in
     let ek : at + 4 ≡ 20 + 20 * i = omega arith in
     let ev : at + 12 ≡ 28 + 20 * i = omega arith in
     let k : numberAt 8 l (20 + 20 * i) ≡ key x = rw ek at (match-at ((2, 20) ∷ (2, 1) ∷ []) 8 (key x) ((8, value x) ∷ []) l at here) in

@@ -13,7 +13,7 @@ ghost use lib.Dec.{ltb};
 ghost use Rattle.numbers.specs.Fields.{encode, matches};
 ghost use Rattle.numbers.specs.Little.{numberAt, written};
 ghost use Rattle.homes.specs.Homes.{Ready, homeIn};
-ghost use Rattle.pages.specs.Page.{recordWith, head, slot, full, empty, slots, pageBytes, countIn, recordsIn, recordsFrom, wellFormed, homesTo, rises, readPage, inMemory, judged};
+ghost use Rattle.pages.specs.Page.{recordWith, head, slot, recordSlot, emptySlot, slots, pageBytes, countIn, recordsIn, recordsFrom, wellFormed, homesTo, rises, readPage, inMemory, judged};
 ghost use Rattle.placing.specs.Lay.{ranked};
 ghost use Rattle.pages.specs.steps.Slots.{recordsOf};
 ghost use Rattle.pages.specs.Area.{partAt, withPage};
@@ -119,7 +119,7 @@ fn head_exact(part: &[u8], address: u32, count: usize) -> bool
 // Whether a slot is a record's, or an empty one. Key and value of a record may be any numbers.
 fn slot_formed(part: &[u8], at: usize, used: bool) -> bool
     requires { ⌜ at + 20 ≤ length (now part) ⌝ }
-    ensures { λ r. ⌜ r ≡ matches (now (part .entry)) at (cond used (full (recordWith (numberAt 8 (now (part .entry)) (at + 4)) (numberAt 8 (now (part .entry)) (at + 12)))) empty) ⌝ }
+    ensures { λ r. ⌜ r ≡ matches (now (part .entry)) at (cond used (recordSlot (recordWith (numberAt 8 (now (part .entry)) (at + 4)) (numberAt 8 (now (part .entry)) (at + 12)))) emptySlot) ⌝ }
 {
     let length = numbers::get_u16(part, at) == 20;
     let kind = numbers::get_u16(part, at + 2);

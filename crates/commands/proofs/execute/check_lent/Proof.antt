@@ -1,4 +1,4 @@
--- `commands::carry::check_lent` meets its contract: `register::check` on the pages that the state
+-- `commands::execute::check_lent` meets its contract: `register::check` on the pages that the state
 -- tells of.
 use mathlib.Core.Path.{sym}
 use Prim.Native.Nat.{_*_}

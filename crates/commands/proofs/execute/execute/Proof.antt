@@ -1,4 +1,4 @@
--- `commands::carry::carry_out` meets its contract: each command is the call that it makes, on what
+-- `commands::execute::execute` meets its contract: each command is the call that it makes, on what
 -- it is lent; a format of more than 128 pages makes none.
 use denote.Ref.{now}
 use borrow.Author.Needs.{needs}

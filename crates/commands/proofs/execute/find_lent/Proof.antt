@@ -1,4 +1,4 @@
--- `commands::carry::find_lent` meets its contract: `register::find` on the pages that the state
+-- `commands::execute::find_lent` meets its contract: `register::find` on the pages that the state
 -- tells of.
 use mathlib.Core.Path.{sym}
 use Prim.Native.Nat.{_*_}

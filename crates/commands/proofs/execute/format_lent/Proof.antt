@@ -1,4 +1,4 @@
--- `commands::carry::format_lent` meets its contract: `register::format` on the pages that it asks
+-- `commands::execute::format_lent` meets its contract: `register::format` on the pages that it asks
 -- for, back in their place.
 use mathlib.Core.Path.{sym}
 use Prim.Native.Nat.{_*_}

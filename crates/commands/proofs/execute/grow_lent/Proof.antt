@@ -1,4 +1,4 @@
--- `commands::carry::grow_lent` meets its contract: `register::grow` on the pages that the state
+-- `commands::execute::grow_lent` meets its contract: `register::grow` on the pages that the state
 -- tells of and on a count for each, back in their places.
 use mathlib.Core.Path.{_≡_, sym}
 use mathlib.Core.Logic.{⊎-elim}

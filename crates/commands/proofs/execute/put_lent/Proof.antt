@@ -1,4 +1,4 @@
--- `commands::carry::put_lent` meets its contract: `register::put` on the pages that the state tells
+-- `commands::execute::put_lent` meets its contract: `register::put` on the pages that the state tells
 -- of, back in their place.
 use mathlib.Core.Path.{sym}
 use Prim.Native.Nat.{_*_}

@@ -1,4 +1,4 @@
--- `commands::carry::remove_lent` meets its contract: `register::remove` on the pages that the state
+-- `commands::execute::remove_lent` meets its contract: `register::remove` on the pages that the state
 -- tells of, back in their place.
 use mathlib.Core.Path.{sym}
 use Prim.Native.Nat.{_*_}

@@ -1,4 +1,4 @@
--- `commands::carry::tell` meets its contract: the state as it is, and the numbers of the answer.
+-- `commands::execute::tell` meets its contract: the state as it is, and the numbers of the answer.
 use borrow.Author.Needs.{needs}
 use Rattle.commands.proofs.execute.tell.Statement.{statement}
 use Rattle.commands.proofs.execute.tell.Tie as tie

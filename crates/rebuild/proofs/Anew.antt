@@ -18,7 +18,7 @@ use Rattle.pages.specs.Page.{Record, key, homeFor}
 use Rattle.pages.specs.Area.{heldFrom, areaFrom}
 use Rattle.entries.specs.declared.Entry.{Entry}
 use Rattle.entries.specs.steps.Entries.{entriesIn, rowBytes, rank, home}
-use Rattle.entries.proofs.Entries.{Fits}
+use Rattle.entries.proofs.Entries.{SizedEntry}
 use Rattle.entries.proofs.Rows.{row-length, entries-row}
 use Rattle.rebuild.specs.Relaid.{relaid}
 use Rattle.rebuild.specs.steps.Rebuild.{packed, recordIn, hopsFrom}
@@ -32,7 +32,7 @@ pub record Gathered (h : ℕ → ℕ) (cap : ℕ) (l : List ℕ) (base : ℕ) (m
   pub small : cap ≤ 4096
   pub size : length l ≡ 256 * cap
   pub low : (k : ℕ) → h k < 2 ^ 16
-  pub fit : (k : ℕ) → val.Fits w8 (getD l k 0)
+  pub fit : (k : ℕ) → val.SizedEntry w8 (getD l k 0)
   pub set : RecordSet key (cat (heldFrom l cap 0) [])
   pub base-is : base ≡ 256 * cap - 20 * length (packed h cap l)
   pub bytes : m ≡ take base l ++ rowBytes (packed h cap l)
@@ -45,7 +45,7 @@ module _ (h : ℕ → ℕ) (cap : ℕ) (l : List ℕ) (base : ℕ) (m : List ℕ
   pub base-whole : 256 * cap ≡ base + 20 * ((256 * cap - base) / 20)
   base-whole = omega (arith, begins)
 
-  es-fit : All Fits (packed h cap l)
+  es-fit : All SizedEntry (packed h cap l)
   unfolding packed
   es-fit = held-fit h l cap 0 (g .low) (λ k i. omega (arith, g .fit k)) (omega (arith, g .size)) (omega (arith, g .small))
 
@@ -88,7 +88,7 @@ module _ (h : ℕ → ℕ) (cap : ℕ) (l : List ℕ) (base : ℕ) (m : List ℕ
     back-entries : entriesIn (drop base (putMid base (length m - base) m k)) ≡ sort rank (packed h cap l)
     back-entries =
         rw (back, drop-at (take base l) (rowBytes (sort rank (packed h cap l))) base front)
-        (entries-row (sort rank (packed h cap l)) (all-sort Fits rank (packed h cap l) es-fit))
+        (entries-row (sort rank (packed h cap l)) (all-sort SizedEntry rank (packed h cap l) es-fit))
 
     pub back-length : length (putMid base (length m - base) m k) ≡ 256 * cap
     back-length = rw back (full (sort rank (packed h cap l)) (perm-length (sort-perm rank (packed h cap l))))

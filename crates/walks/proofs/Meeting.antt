@@ -33,7 +33,7 @@ use Rattle.walks.specs.declared.Met.{Met}
 use Rattle.walks.specs.declared.Met.the-variants.{Found, Ends}
 use Rattle.walks.specs.declared.Met.the-variants as mets
 use Rattle.walks.specs.Walks.{heldAt, onHeld, endsOn, meets, walk}
-use Rattle.walks.proofs.Scanning.{no, records-count, After, Left, left-away, left-place, Rows}
+use Rattle.walks.proofs.Scanning.{no, records-count, After, ToScan, left-away, left-place, Rows}
 
 -- a home lies in the area
 pub home-fits : (shape : Shape) (k cap a : ℕ) → Ready shape → shape .p ≤ cap → a ≡ homeIn shape k → a < cap
@@ -147,7 +147,7 @@ module _ {h : ℕ → ℕ} {area : List ℕ} {cap a : ℕ} {j : Judged} (seen : 
     walk-found i v e = sym (at-page ∙ rw e)
 
     -- where all slots from one on stand after the sought, that is the key's place, and decides
-    module _ (rows : Rows h (j .page) (j .homes)) (small : k < 2 ^ 64) {at : ℕ} (w : Left h k (j .page) at) (f : After h k (drop at rs)) where
+    module _ (rows : Rows h (j .page) (j .homes)) (small : k < 2 ^ 64) {at : ℕ} (w : ToScan h k (j .page) at) (f : After h k (drop at rs)) where
       place-is : at ≡ ahead (rankIn key h) (rankOf h k) rs
       place-is = left-place h k w f
 

@@ -17,10 +17,7 @@ use Rattle.state.specs.declared.Answer.the-variants.{Broken}
 use Rattle.walks.specs.declared.Plan.{Plan}
 use Rattle.walks.specs.declared.Plan.the-variants.{Go, Stop}
 use Rattle.walks.specs.steps.Plans.{reachedBack}
-
--- true is not false
-differ : true ≡ false → ⊥
-differ e = let z : _≡_ {A = ℕ} 0 1 = cc in omega arith
+use Rattle.walks.proofs.Scanning.{differ}
 
 -- the test of a judged page: it holds no record, or the home of its first is above page a
 abbrev pub apart : ℕ → Judged → Bool

@@ -33,7 +33,7 @@ use Rattle.walks.specs.declared.Met.{Met}
 use Rattle.walks.specs.declared.Met.the-variants.{Found, Ends}
 use Rattle.walks.specs.declared.Met.the-variants as mets
 use Rattle.walks.specs.Walks.{heldAt, onHeld, endsOn, meets, walk}
-use Rattle.walks.proofs.Scanning.{no, records-count, After, ToScan, left-away, left-place, Rows}
+use Rattle.walks.proofs.Scanning.{differ, records-count, After, ToScan, left-away, left-place, Rows}
 
 -- a home lies in the area
 pub home-fits : (shape : Shape) (k cap a : ℕ) → Ready shape → shape .p ≤ cap → a ≡ homeIn shape k → a < cap
@@ -42,14 +42,14 @@ home-fits shape k cap a r l e = omega (arith, home-below (shape .params) (shape 
 -- a page that is judged good was read, and its records are those in memory
 judged-good : (h : ℕ → ℕ) (o : Option (List Record)) (j : Judged) → j ≡ judged h o → j .good ≡ true → o ≡ some (recordsOf (j .page))
 unfolding judged
-judged-good h none j e g = absurd (no (sym (ap (λ (i : Judged). i .good) e) ∙ g))
+judged-good h none j e g = absurd (differ (sym g ∙ ap (λ (i : Judged). i .good) e))
 judged-good h (some rs) j e g = rw e (ap some (sym (memory rs)))
 
 -- a page that is not was broken
 judged-broken : (h : ℕ → ℕ) (o : Option (List Record)) (j : Judged) → j ≡ judged h o → j .good ≡ false → o ≡ none
 unfolding judged
 judged-broken h none j e g = refl
-judged-broken h (some rs) j e g = absurd (no (sym g ∙ ap (λ (i : Judged). i .good) e))
+judged-broken h (some rs) j e g = absurd (differ (sym (ap (λ (i : Judged). i .good) e) ∙ g))
 
 -- its row has the home of each of its keys
 judged-homes : (h : ℕ → ℕ) (j : Judged) → j ≡ judged h (some (recordsOf (j .page))) → (i : ℕ) → i < j .page .count

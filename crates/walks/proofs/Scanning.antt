@@ -23,11 +23,9 @@ use Rattle.pages.specs.steps.Slots.{paired, recordsOf}
 use Rattle.pages.proofs.Seeking.{paired-length, paired-key}
 use Rattle.walks.specs.Walks.{heldAt}
 
--- false is not true
-pub no : false ≡ true → ⊥
-no e =
-    let z : _≡_ {A = ℕ} 0 1 = cc in
-    omega arith
+-- true is not false
+pub differ : true ≡ false → ⊥
+differ e = let z : _≡_ {A = ℕ} 0 1 = cc in omega arith
 
 -- a page in memory has as many records as it counts
 pub records-count : (p : Page) → length (recordsOf p) ≡ p .count
@@ -152,14 +150,14 @@ module _ {h : ℕ → ℕ} {p : Page} {hs : List ℕ} {k home i : ℕ} {t : Bool
           rw rest
           (lower (rankIn key h) (rankOf h k) (recordWith (getD (p .keys) i 0) (getD (p .values) i 0)) (drop (suc i) (recordsOf p)) up
           (ltb-true (rankOf h k) (rankOf h (getD (p .keys) i 0)) (sym (told-rank l) ∙ b)))
-      go false false a b c = absurd (no c)
+      go false false a b c = absurd (differ (sym c))
 
   -- where it is neither, a record stands there
   pub slot-used : (eqb i (p .count) || t) ≡ false → i < p .count
   slot-used q = go (eqb i (p .count)) refl q
     where
       go : (u : Bool) → eqb i (p .count) ≡ u → (u || t) ≡ false → i < p .count
-      go true a c = absurd (no (sym c))
+      go true a c = absurd (differ c)
       go false a c = omega (arith, w .left .upto, eqb-false i (p .count) a)
 
   -- with the key it ends the scan
@@ -174,5 +172,5 @@ module _ {h : ℕ → ℕ} {p : Page} {hs : List ℕ} {k home i : ℕ} {t : Bool
       left-on h k (w .left) l (omega (arith, low, n, w .small, slot-small (w .rows) i l))
     where
       go : (u v : Bool) → (u || v) ≡ false → v ≡ false
-      go true v c = absurd (no (sym c))
+      go true v c = absurd (differ c)
       go false v c = c

@@ -8,13 +8,14 @@ use Prim.Native.Nat.{ℕ, _≤_, _<_}
 use lib.ListN.{length}
 use borrow.Author.Tests.{eq-eqb, eqb-true, ne-eqb, lt-ltb, le-ltb}
 use Rattle.numbers.specs.Little.{numberAt}
+use Rattle.homes.specs.Homes.{params}
 use Rattle.pages.specs.Page.{recordWith}
 use Rattle.commands.specs.declared.Kind.{Kind}
 use Rattle.commands.specs.declared.Kind.the-variants as kind
 use Rattle.commands.specs.declared.Form.{Form}
 use Rattle.commands.specs.declared.Form.the-variants as form
 use Rattle.commands.specs.declared.Command.{Command}
-use Rattle.commands.specs.declared.Command.the-variants.{Put}
+use Rattle.commands.specs.declared.Command.the-variants.{Format, Put}
 use Rattle.commands.specs.declared.Item.the-variants.{Asks, Unknown, Cut}
 use Rattle.commands.specs.Records.{lengthOf, formOf, commandOf, firstOf}
 use Rattle.commands.specs.steps.Within.{Formed}
@@ -80,6 +81,11 @@ of-number x =
 -- there is a whole record of a kind, and so of the kind that it turns out to be
 pub long : (n : ℕ) (j k : Kind) → lengthOf j ≤ n → j ≡ k → lengthOf k ≤ n
 long n j k h e = rw e at h
+
+-- the command of a format's numbers
+pub format-read : (k : Kind) (l : List ℕ) (a b c d : ℕ) → k ≡ kind.Format → a ≡ numberAt 2 l 4 → b ≡ numberAt 2 l 6 → c ≡ numberAt 2 l 8 → d ≡ numberAt 2 l 10
+    → Format (params a b c) d ≡ commandOf k l
+format-read k l a b c d e f g h i = rw (e, f, g, h, i)
 
 -- the two numbers that were read make the record of a put
 pub put-read : (k : Kind) (l : List ℕ) (a b : ℕ) → k ≡ kind.Put → a ≡ numberAt 8 l 4 → b ≡ numberAt 8 l 12 → Put (recordWith a b) ≡ commandOf k l

@@ -49,8 +49,7 @@ fn tell(done: Done) -> Told
 }
 
 fn format_lent(state: State, params: Params, cap: u16, space: &mut [u8]) -> Told
-    ensures { λ r. ⌜ r ≡ tells (formatted state params cap (take (256 * cap) (now (space .entry))) .done) ⌝ }
-    ensures { λ _. ⌜ now (space .exit) ≡ written (now (space .entry)) 0 (formatted state params cap (take (256 * cap) (now (space .entry))) .area) ⌝ }
+    ensures { λ r. let o = formatted state params cap (take (256 * cap) (now (space .entry))) in ⌜ (r ≡ tells (o .done)) × (now (space .exit) ≡ written (now (space .entry)) 0 (o .area)) ⌝ }
 {
     let end = lent(cap, &space[..]);
     let done = register::format(state, params, cap, &mut space[..end]);
@@ -58,8 +57,7 @@ fn format_lent(state: State, params: Params, cap: u16, space: &mut [u8]) -> Told
 }
 
 fn put_lent(state: State, space: &mut [u8], new: Record) -> Told
-    ensures { λ r. ⌜ r ≡ tells (stored state (take (256 * state .cap) (now (space .entry))) new .done) ⌝ }
-    ensures { λ _. ⌜ now (space .exit) ≡ written (now (space .entry)) 0 (stored state (take (256 * state .cap) (now (space .entry))) new .area) ⌝ }
+    ensures { λ r. let o = stored state (take (256 * state .cap) (now (space .entry))) new in ⌜ (r ≡ tells (o .done)) × (now (space .exit) ≡ written (now (space .entry)) 0 (o .area)) ⌝ }
 {
     let end = lent(state.cap, &space[..]);
     let done = register::put(state, &mut space[..end], new);
@@ -75,8 +73,7 @@ fn find_lent(state: State, space: &[u8], key: u64) -> Told
 }
 
 fn remove_lent(state: State, space: &mut [u8], key: u64) -> Told
-    ensures { λ r. ⌜ r ≡ tells (removed state (take (256 * state .cap) (now (space .entry))) key .done) ⌝ }
-    ensures { λ _. ⌜ now (space .exit) ≡ written (now (space .entry)) 0 (removed state (take (256 * state .cap) (now (space .entry))) key .area) ⌝ }
+    ensures { λ r. let o = removed state (take (256 * state .cap) (now (space .entry))) key in ⌜ (r ≡ tells (o .done)) × (now (space .exit) ≡ written (now (space .entry)) 0 (o .area)) ⌝ }
 {
     let end = lent(state.cap, &space[..]);
     let done = register::remove(state, &mut space[..end], key);
@@ -84,9 +81,7 @@ fn remove_lent(state: State, space: &mut [u8], key: u64) -> Told
 }
 
 fn grow_lent(state: State, space: &mut [u8], row: &mut [u32]) -> Told
-    ensures { λ r. ⌜ r ≡ tells (grew state (take (256 * state .cap) (now (space .entry))) (take (state .cap) (now (row .entry))) .done) ⌝ }
-    ensures { λ _. ⌜ now (space .exit) ≡ written (now (space .entry)) 0 (grew state (take (256 * state .cap) (now (space .entry))) (take (state .cap) (now (row .entry))) .area) ⌝ }
-    ensures { λ _. ⌜ now (row .exit) ≡ written (now (row .entry)) 0 (grew state (take (256 * state .cap) (now (space .entry))) (take (state .cap) (now (row .entry))) .row) ⌝ }
+    ensures { λ r. let o = grew state (take (256 * state .cap) (now (space .entry))) (take (state .cap) (now (row .entry))) in ⌜ (r ≡ tells (o .done)) × ((now (space .exit) ≡ written (now (space .entry)) 0 (o .area)) × (now (row .exit) ≡ written (now (row .entry)) 0 (o .row))) ⌝ }
 {
     let end = lent(state.cap, &space[..]);
     let cap = state.cap as usize;
@@ -106,9 +101,7 @@ fn check_lent(state: State, space: &[u8]) -> Told
 // A format is lent the pages that it asks for, every other command those that the state tells of;
 // where there are fewer, the call refuses them.
 pub fn execute(state: State, space: &mut [u8], row: &mut [u32], command: Command) -> Told
-    ensures { λ r. ⌜ r ≡ toldOf (executed (site state (now (space .entry)) (now (row .entry))) command) ⌝ }
-    ensures { λ _. ⌜ now (space .exit) ≡ executed (site state (now (space .entry)) (now (row .entry))) command .site .space ⌝ }
-    ensures { λ _. ⌜ now (row .exit) ≡ executed (site state (now (space .entry)) (now (row .entry))) command .site .row ⌝ }
+    ensures { λ r. let o = executed (site state (now (space .entry)) (now (row .entry))) command in ⌜ (r ≡ toldOf o) × ((now (space .exit) ≡ o .site .space) × (now (row .exit) ≡ o .site .row)) ⌝ }
 {
     match command {
         Command::Format { params, cap } => {

@@ -79,11 +79,7 @@ fn serve_one(
     part: &mut [u8],
 ) -> Step
     requires { ⌜ length (now part) ≡ 28 ⌝ }
-    ensures { λ r. ⌜ r ≡ stepOf (turn last (site state (now (space .entry)) (now (row .entry))) (now (input .entry))) ⌝ }
-    ensures { λ _. ⌜ now (space .exit) ≡ siteAfter (site state (now (space .entry)) (now (row .entry))) (turn last (site state (now (space .entry)) (now (row .entry))) (now (input .entry))) .space ⌝ }
-    ensures { λ _. ⌜ now (row .exit) ≡ siteAfter (site state (now (space .entry)) (now (row .entry))) (turn last (site state (now (space .entry)) (now (row .entry))) (now (input .entry))) .row ⌝ }
-    ensures { λ _. ⌜ now (part .exit) ≡ replyAfter (site state (now (space .entry)) (now (row .entry))) (now (part .entry)) (turn last (site state (now (space .entry)) (now (row .entry))) (now (input .entry))) ⌝ }
-    ensures within { λ r. ⌜ Takes (length (now (input .entry))) r ⌝ }
+    ensures { λ r. let d = site state (now (space .entry)) (now (row .entry)) in let t = turn last d (now (input .entry)) in ⌜ (r ≡ stepOf t) × ((now (space .exit) ≡ siteAfter d t .space) × ((now (row .exit) ≡ siteAfter d t .row) × ((now (part .exit) ≡ replyAfter d (now (part .entry)) t) × Takes (length (now (input .entry))) r))) ⌝ }
 {
     if input.len() == 0 {
         return Step::Waits;
@@ -124,11 +120,7 @@ pub fn log(
     last: bool,
     replies: &mut [u8],
 ) -> Ran
-    ensures { λ r. ⌜ r ≡ ranOf (log last (length (now (replies .entry)) / 28) (site state (now (space .entry)) (now (row .entry))) (now (input .entry))) ⌝ }
-    ensures { λ _. ⌜ now (space .exit) ≡ log last (length (now (replies .entry)) / 28) (site state (now (space .entry)) (now (row .entry))) (now (input .entry)) .site .space ⌝ }
-    ensures { λ _. ⌜ now (row .exit) ≡ log last (length (now (replies .entry)) / 28) (site state (now (space .entry)) (now (row .entry))) (now (input .entry)) .site .row ⌝ }
-    ensures { λ _. ⌜ now (replies .exit) ≡ written (now (replies .entry)) 0 (bytesOfAll (log last (length (now (replies .entry)) / 28) (site state (now (space .entry)) (now (row .entry))) (now (input .entry)) .replies)) ⌝ }
-    ensures within { λ r. ⌜ RanIn (length (now (input .entry))) (length (now (replies .entry))) r ⌝ }
+    ensures { λ r. let o = log last (length (now (replies .entry)) / 28) (site state (now (space .entry)) (now (row .entry))) (now (input .entry)) in ⌜ (r ≡ ranOf o) × ((now (space .exit) ≡ o .site .space) × ((now (row .exit) ≡ o .site .row) × ((now (replies .exit) ≡ written (now (replies .entry)) 0 (bytesOfAll (o .replies))) × RanIn (length (now (input .entry))) (length (now (replies .entry))) r))) ⌝ }
 {
     let room = replies.len() / 28;
     let mut after = state;

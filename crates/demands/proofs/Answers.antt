@@ -12,7 +12,7 @@ answers =
     record {
       format = record {
         asks-nothing = λ κs a. tt;
-        one = λ κs a y z v w p q. (p .0 ∙⁻¹ q .0, λ i. (tt, (tt, (tt, (tt, (tt, ((p .1 ∙⁻¹ q .1) i, tt)))))));
+        one = λ κs a y z v w p q. (p .0 ∙⁻¹ q .0, λ i. (tt, (tt, (tt, ((p .1 ∙⁻¹ q .1) i, tt)))));
         does = λ κs a y v p i. leaves (p .0 i) (p .1 i) [];
       };
       find = record { asks-nothing = λ κs a. tt; one = λ κs a y z v w p q. (p ∙⁻¹ q, refl); does = λ κs a y v p i. leaves (p i) (now (a .1 .0)) [] };

@@ -56,8 +56,8 @@ plain-number (NotImage read) p = absurd p
 -- what a call comes to on a file that stands
 pub data Step (m : Kept) (ps : List (List Record)) (c : Call) : Type 0 where
   refused : (why : Answer) (row : List ℕ) → Plain why → Refused m ps c why row → Step m ps c
-  accepted : (new : Kept) (v : ℕ) (row : List ℕ) → keeps (some m) c ≡ some new → Accepts m new ps c v row → Step m ps c
-  said : (u : Bool) → keeps (some m) c ≡ some m → left (fileOf m ps) c ≡ record { said = says u; file = fileOf m ps; row = [] } → Step m ps c
+  accepted : (new : Kept) (v : ℕ) (row : List ℕ) → makes (some m) c ≡ some new → Accepts m new ps c v row → Step m ps c
+  said : (u : Bool) → makes (some m) c ≡ some m → left (fileOf m ps) c ≡ record { said = says u; file = fileOf m ps; row = [] } → Step m ps c
 
 -- what a put comes to: its number was held, or there is no room, or it is new
 pub data Puts (m : Kept) (ps : List (List Record)) (x : Record) : Type 0 where

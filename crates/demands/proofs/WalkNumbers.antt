@@ -10,7 +10,7 @@ use native.Mathlib.Omega.{arith}
 use lib.Dec.{leb, ltb}
 use lib.ListN.{length, take, getD}
 use Rattle.placing.specs.Lay.{rankOf, rankIn, ins}
-use Rattle.pages.specs.Page.{Record, key, recordsIn, readPage}
+use Rattle.pages.specs.Page.{Record, vacant, key, recordsIn, readPage}
 use Rattle.pages.specs.Places.{closed, ahead}
 use Rattle.pages.specs.Area.{partAt, pagesFrom}
 use Rattle.state.specs.declared.Numbers.{Numbers}
@@ -89,7 +89,7 @@ module _ (f : File) where
 
   -- the numbers of any put
   abbrev putStops : List ℕ
-  putStops = gives (put 0 0)
+  putStops = gives (put vacant)
 
   carry-stops : (m a n c : ℕ) (x : Record) → m ≤ cap - a → StopsWith putStops (carry h a n c x (from m a))
   carry-stops zero a n c x l = stop putStops 7 0 n refl refl

@@ -32,7 +32,7 @@ pub record Gathered (h : ℕ → ℕ) (cap : ℕ) (l : List ℕ) (base : ℕ) (m
   pub small : cap ≤ 4096
   pub size : length l ≡ 256 * cap
   pub low : (k : ℕ) → h k < 2 ^ 16
-  pub fit : (k : ℕ) → val.SizedEntry w8 (getD l k 0)
+  pub fit : (k : ℕ) → val.Fits w8 (getD l k 0)
   pub set : RecordSet key (cat (heldFrom l cap 0) [])
   pub base-is : base ≡ 256 * cap - 20 * length (packed h cap l)
   pub bytes : m ≡ take base l ++ rowBytes (packed h cap l)

@@ -38,9 +38,7 @@ fn grow_image(
     counts: &[u32],
 ) -> Done
     requires { ⌜ OpenToGrow state (now area) (length (now row)) Open × (now counts ≡ grownCounts state (now area)) × OnePageMore state next shape last ⌝ }
-    ensures { λ r. ⌜ r ≡ grownFile state (now (area .entry)) .done ⌝ }
-    ensures { λ _. ⌜ now (area .exit) ≡ grownFile state (now (area .entry)) .area ⌝ }
-    ensures { λ _. ⌜ now (row .exit) ≡ grownFile state (now (area .entry)) .row ⌝ }
+    ensures { λ r. let o = grownFile state (now (area .entry)) in ⌜ (r ≡ o .done) × ((now (area .exit) ≡ o .area) × (now (row .exit) ≡ o .row)) ⌝ }
 {
     let cap = state.cap as usize;
     fill_row(row, counts);
@@ -66,9 +64,7 @@ fn grow_image(
 // pages are judged.
 fn grow_counting(state: State, area: &mut [u8], row: &mut [u32], counts: &mut [u32]) -> Done
     requires { ⌜ EnteredToGrow state (length (now area)) (length (now row)) Open × (length (now counts) ≡ state .cap) ⌝ }
-    ensures { λ r. ⌜ r ≡ grewEntered state (now (area .entry)) (now (row .entry)) .done ⌝ }
-    ensures { λ _. ⌜ now (area .exit) ≡ grewEntered state (now (area .entry)) (now (row .entry)) .area ⌝ }
-    ensures { λ _. ⌜ now (row .exit) ≡ grewEntered state (now (area .entry)) (now (row .entry)) .row ⌝ }
+    ensures { λ r. let o = grewEntered state (now (area .entry)) (now (row .entry)) in ⌜ (r ≡ o .done) × ((now (area .exit) ≡ o .area) × (now (row .exit) ≡ o .row)) ⌝ }
 {
     let cap = state.cap as usize;
     let old = state.shape();
@@ -87,9 +83,7 @@ fn grow_counting(state: State, area: &mut [u8], row: &mut [u32], counts: &mut [u
 // The counts have memory of their own: the row stays as it is until all pages are judged.
 pub(crate) fn grow_entered(state: State, area: &mut [u8], row: &mut [u32]) -> Done
     requires { ⌜ EnteredToGrow state (length (now area)) (length (now row)) Open ⌝ }
-    ensures { λ r. ⌜ r ≡ grewEntered state (now (area .entry)) (now (row .entry)) .done ⌝ }
-    ensures { λ _. ⌜ now (area .exit) ≡ grewEntered state (now (area .entry)) (now (row .entry)) .area ⌝ }
-    ensures { λ _. ⌜ now (row .exit) ≡ grewEntered state (now (area .entry)) (now (row .entry)) .row ⌝ }
+    ensures { λ r. let o = grewEntered state (now (area .entry)) (now (row .entry)) in ⌜ (r ≡ o .done) × ((now (area .exit) ≡ o .area) × (now (row .exit) ≡ o .row)) ⌝ }
 {
     let cap = state.cap as usize;
     let mut counts = [0; 4096];

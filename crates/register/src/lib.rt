@@ -38,8 +38,7 @@ fn clear_pages(area: &mut [u8], cap: usize)
 // An empty file, whatever was held before. It is judged on the numbers that are asked for; a
 // refused one leaves the old file and its state.
 pub fn format(state: State, params: Params, cap: u16, area: &mut [u8]) -> Done
-    ensures { λ r. ⌜ r ≡ formatted state params cap (now (area .entry)) .done ⌝ }
-    ensures { λ _. ⌜ now (area .exit) ≡ formatted state params cap (now (area .entry)) .area ⌝ }
+    ensures { λ r. let o = formatted state params cap (now (area .entry)) in ⌜ (r ≡ o .done) × (now (area .exit) ≡ o .area) ⌝ }
 {
     if 65535 < (params.n0 as u32) * (params.n as u32) {
         return Done {
@@ -133,8 +132,7 @@ fn wrote(next: State, first: usize, last: usize, read: u32) -> Done
 // A put past the gate.
 fn put_open(state: State, area: &mut [u8], new: Record) -> Done
     requires { ⌜ (inRange state ≡ true) × (length (now area) ≡ 256 * state .cap) ⌝ }
-    ensures { λ r. ⌜ r ≡ putOpen state (now (area .entry)) new .done ⌝ }
-    ensures { λ _. ⌜ now (area .exit) ≡ putOpen state (now (area .entry)) new .area ⌝ }
+    ensures { λ r. let o = putOpen state (now (area .entry)) new in ⌜ (r ≡ o .done) × (now (area .exit) ≡ o .area) ⌝ }
 {
     let shape = state.shape();
     let plan = walks::put::plan_put(&area[..], state.cap as usize, shape, new);
@@ -161,8 +159,7 @@ fn put_open(state: State, area: &mut [u8], new: Record) -> Done
 
 // A record more, unless its key is held.
 pub fn put(state: State, area: &mut [u8], new: Record) -> Done
-    ensures { λ r. ⌜ r ≡ stored state (now (area .entry)) new .done ⌝ }
-    ensures { λ _. ⌜ now (area .exit) ≡ stored state (now (area .entry)) new .area ⌝ }
+    ensures { λ r. let o = stored state (now (area .entry)) new in ⌜ (r ≡ o .done) × (now (area .exit) ≡ o .area) ⌝ }
 {
     let gate = gates::enter(state, area.len());
     match gate {
@@ -174,8 +171,7 @@ pub fn put(state: State, area: &mut [u8], new: Record) -> Done
 // A remove past the gate.
 fn remove_open(state: State, area: &mut [u8], key: u64) -> Done
     requires { ⌜ (inRange state ≡ true) × (length (now area) ≡ 256 * state .cap) ⌝ }
-    ensures { λ r. ⌜ r ≡ removeOpen state (now (area .entry)) key .done ⌝ }
-    ensures { λ _. ⌜ now (area .exit) ≡ removeOpen state (now (area .entry)) key .area ⌝ }
+    ensures { λ r. let o = removeOpen state (now (area .entry)) key in ⌜ (r ≡ o .done) × (now (area .exit) ≡ o .area) ⌝ }
 {
     let shape = state.shape();
     let plan = walks::remove::plan_remove(&area[..], state.cap as usize, shape, key);
@@ -202,8 +198,7 @@ fn remove_open(state: State, area: &mut [u8], key: u64) -> Done
 
 // A record less.
 pub fn remove(state: State, area: &mut [u8], key: u64) -> Done
-    ensures { λ r. ⌜ r ≡ removed state (now (area .entry)) key .done ⌝ }
-    ensures { λ _. ⌜ now (area .exit) ≡ removed state (now (area .entry)) key .area ⌝ }
+    ensures { λ r. let o = removed state (now (area .entry)) key in ⌜ (r ≡ o .done) × (now (area .exit) ≡ o .area) ⌝ }
 {
     let gate = gates::enter(state, area.len());
     match gate {
@@ -238,9 +233,7 @@ pub fn check(state: State, area: &[u8]) -> Done
 
 // One page more, with a lent row of counts, one a page.
 pub fn grow(state: State, area: &mut [u8], row: &mut [u32]) -> Done
-    ensures { λ r. ⌜ r ≡ grew state (now (area .entry)) (now (row .entry)) .done ⌝ }
-    ensures { λ _. ⌜ now (area .exit) ≡ grew state (now (area .entry)) (now (row .entry)) .area ⌝ }
-    ensures { λ _. ⌜ now (row .exit) ≡ grew state (now (area .entry)) (now (row .entry)) .row ⌝ }
+    ensures { λ r. let o = grew state (now (area .entry)) (now (row .entry)) in ⌜ (r ≡ o .done) × ((now (area .exit) ≡ o .area) × (now (row .exit) ≡ o .row)) ⌝ }
 {
     let gate = gates::grow_entry(state, area.len(), row.len());
     match gate {

@@ -95,7 +95,10 @@ loop-again c =
     log-goes (t .before .loop .inv) (t .loop-test .taken) _ _ _ _ (o .serve-one .ensures) _ _ (c .before .step .given .1) (search needs) (search needs) (search needs)
 
 add-taken : tie.Need-add-taken Inv-loop μ-loop
-add-taken c = omega (arith, loop-again c .within)
+add-taken c =
+    let o = c .before .before .before .before .before .before .before .before .before in
+    let t = o .before .before .before .before .before in
+    omega (arith, loop-again c .within, t .before .before .before .before .before .before .good)
 
 add-told : tie.Need-add-told Inv-loop μ-loop
 add-told c =

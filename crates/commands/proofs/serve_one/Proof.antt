@@ -18,8 +18,8 @@ first-requires c κs = search needs
 enum-known-item : tie.Need-enum-known-item
 enum-known-item c = search needs
 
-carry-out-requires : tie.Need-carry-out-requires
-carry-out-requires c κs = search needs
+execute-requires : tie.Need-execute-requires
+execute-requires c κs = search needs
 
 reply-requires : tie.Need-reply-requires
 reply-requires c κs = search needs
@@ -105,7 +105,7 @@ serve-one-spec =
     returns
     first-requires
     enum-known-item
-    carry-out-requires
+    execute-requires
     reply-requires
     enum-told
     refused-requires

@@ -16,7 +16,7 @@ returns : tie.Need-returns
 returns c =
     let k = c .before .before .before in
     let a = k .before .before .before .before .args in
-    too-many (a .state) (now (a .space)) (now (a .row)) (a .command) _ _ _ _ (k .command .given .1) (c .before .if1 .taken) _ (c .refused .ensures)
+    too-many (a .state) (now (a .space)) (now (a .row)) (a .command) _ _ (k .command .given .1) (c .before .if1 .taken) _ (c .refused .ensures)
 
 format-lent-requires : tie.Need-format-lent-requires
 format-lent-requires c κs = search needs
@@ -60,7 +60,7 @@ returns-2 c =
     let i = f .before .before in
     let k = i .before .before in
     let a = k .before .before .before .before .args in
-    carries-format (a .state) (now (a .space)) (now (a .row)) (a .command) _ _ _ _ (k .command .given .1) (i .if1 .left) _ _ (f .format-lent .ensures)
+    carries-format (a .state) (now (a .space)) (now (a .row)) (a .command) _ _ (k .command .given .1) (i .if1 .left) _ _ (f .format-lent .ensures)
 
 same-length-2 : tie.Need-same-length-2
 same-length-2 c = search needs
@@ -113,8 +113,8 @@ returns-7 c =
     let a = k .before .before .before .before .args in
     carries-check (a .state) (now (a .space)) (now (a .row)) (a .command) _ (k .enum-told2 .given .1) (c .check-lent .ensures)
 
-pub carry-out-spec : {M : Type 1} → statement M
-carry-out-spec =
+pub execute-spec : {M : Type 1} → statement M
+execute-spec =
     tie.close
     (tie.spec
     enum-known-command

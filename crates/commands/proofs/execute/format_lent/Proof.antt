@@ -33,7 +33,7 @@ returns c =
     let g = c .before .before .before in
     let l = g .before .before in
     let a = l .before .before .before .args in
-    wrote-lent (256 * a .cap) _ (now (a .space)) (l .lent .ensures .0) (λ area. formatted (a .state) (a .params) (a .cap) area) _ _ (g .format .ensures) (g .format .kept .1 .1 .1 .1 .1 .0) _ (c .tell .ensures)
+    wrote-lent (256 * a .cap) _ (now (a .space)) (l .lent .ensures .0) (λ area. formatted (a .state) (a .params) (a .cap) area) _ _ (g .format .ensures) (g .format .kept .1 .1 .1 .0) _ (c .tell .ensures)
 
 pub format-lent-spec : {M : Type 1} → statement M
 format-lent-spec =

@@ -4,7 +4,7 @@ use denote.Ref.{now}
 use native.Mathlib.Omega.{arith}
 use borrow.Author.Needs.{needs}
 use Rattle.commands.specs.declared.Kind.the-variants as kind
-use Rattle.commands.proofs.Reading.{long, put-read}
+use Rattle.commands.proofs.Reading.{long, format-read, put-read}
 use Rattle.commands.proofs.records.command_of.Statement.{statement}
 use Rattle.commands.proofs.records.command_of.Tie as tie
 
@@ -51,7 +51,10 @@ enum-told-6 : tie.Need-enum-told-6
 enum-told-6 c = search needs
 
 returns : tie.Need-returns
-returns c = cc
+returns c =
+    let p = c .before .before in
+    let a = p .before .before .before .before .before .args in
+    format-read (a .kind) (now (a .input)) _ _ _ _ (p .before .before .enum-told .given .1) (p .before .get-u16 .ensures) (p .get-u162 .ensures) (c .before .get-u163 .ensures) (c .get-u164 .ensures)
 
 returns-2 : tie.Need-returns-2
 returns-2 c =

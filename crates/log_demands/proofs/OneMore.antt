@@ -37,7 +37,7 @@ kept-more o f [] c = refl
 kept-more o f (x ∷ cs) c = kept-more _ (left f x .file) cs c
 
 -- after a fresh history an accepted call makes one
-pub fresh-more : {m new : Kept} {f : File} (c : Call) → Fits c → refusal f c ≡ 0 → keeps (some m) c ≡ some new → Fresh m f → Fresh new (left f c .file)
+pub fresh-more : {m new : Kept} {f : File} (c : Call) → Fits c → refusal f c ≡ 0 → makes (some m) c ≡ some new → Fresh m f → Fresh new (left f c .file)
 fresh-more {f} c fits z k w =
     record {
       start = w .start;

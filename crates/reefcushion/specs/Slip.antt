@@ -15,8 +15,7 @@ use Rattle.register.specs.Files.{Call, grow, File, Left, left, numbersOf}
 abbrev pub isSlip : List ℕ → Bool
 isSlip l = eqb (length l) 40
 
--- the state that a slip brings, which are its first sixteen bytes. Those of an answer aren't looked
--- at.
+-- the state that a slip brings, in its first sixteen bytes; those of an answer aren't looked at
 abbrev pub stateIn : List ℕ → State
 stateIn l = stateAt l 0
 

@@ -28,7 +28,7 @@ pub fn get_state(bytes: &[u8], at: usize) -> State
     }
 }
 
-// A state's sixteen bytes to an offset.
+// A state's sixteen bytes to an offset, with an idle number before r.
 pub fn put_state(bytes: &mut [u8], at: usize, state: State, idle: u16)
     requires { ⌜ at + 16 ≤ length (now bytes) ⌝ }
     ensures { λ _. ⌜ now (bytes .exit) ≡ written (now (bytes .entry)) at (encode (stateFields state idle)) ⌝ }

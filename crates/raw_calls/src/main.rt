@@ -1,4 +1,4 @@
-// Single calls on any bytes: each record brings its own state, area and row, and the reply gives
+// Single calls on any bytes: each record brings its own state and byte strings, and the reply gives
 // them back as the call left them.
 mod records;
 
@@ -13,6 +13,7 @@ use state::State;
 ghost use mathlib.Core.Path.{_≡_};
 ghost use Prim.Native.Nat.{_+_, _*_, _≤_};
 ghost use lib.ListN.{length};
+ghost use Rattle.raw_calls.specs.Records.{Lying};
 
 // A format whose four numbers stand in one, the first lowest.
 fn format(state: State, area: &mut [u8], a: u64) -> Done {
@@ -55,46 +56,71 @@ fn call(asked: Asked, area: &mut [u8], row: &mut [u32]) -> Done {
     }
 }
 
-// The call of a record, which is read to its end first, and its reply.
-fn answer(asked: Asked, body: &mut [u8], row: &mut [u32]) -> bool
-    requires { ⌜ (asked .area ≤ 16384) × (length (now row) ≤ 128) × (length (now body) ≡ asked .area + 4 * length (now row)) ⌝ }
+// The call of a record, with a row as long as the record's.
+fn carry_out(asked: Asked, bytes: &mut [u8], row: &mut [u32]) -> Done
+    requires { ⌜ Lying asked × (asked .room ≡ length (now bytes)) × (asked .second + 4 + 4 * length (now row) ≤ asked .row) ⌝ }
 {
     let area = asked.area;
-    if io::read_full(STDIN_FILENO, body) < body.len() {
+    let counts = asked.second + 4;
+    records::read_row(&bytes[counts..], row);
+    let done = call(asked, &mut bytes[50..area], row);
+    records::write_row(&mut bytes[counts..], row);
+    done
+}
+
+// A reply: its numbers, then area, row and room as they lie in the bytes, with their lengths.
+fn tell(asked: Asked, bytes: &[u8], done: Done) -> bool
+    requires { ⌜ Lying asked × (asked .room ≡ length (now bytes)) × (length (now bytes) ≤ 65662) ⌝ }
+{
+    let area = asked.area;
+    let second = asked.second;
+    let mut head = [0u8; 54];
+    records::reply(&mut head[..], done, 8 + area + (bytes.len() - second));
+    io::write_all(STDOUT_FILENO, &head[..])
+        && io::write_all(STDOUT_FILENO, &bytes[46..area])
+        && io::write_all(STDOUT_FILENO, &bytes[second..])
+}
+
+// A record answered, or none that is sound.
+fn answer(bytes: &mut [u8], row: &mut [u32]) -> bool
+    requires { ⌜ (46 ≤ length (now bytes)) × (length (now bytes) ≤ 65662) × (length (now row) ≡ 4100) ⌝ }
+{
+    let asked = records::asked_in(&bytes[..]);
+    if !records::is_sound(asked, bytes.len()) {
         return false;
     }
-    records::read_row(&body[area..], row);
-    let done = call(asked, &mut body[..area], row);
-    records::write_row(&mut body[area..], row);
-    let mut head = [0u8; 50];
-    records::reply(&mut head[..], done, area, row.len());
-    io::write_all(STDOUT_FILENO, &head[..]) && io::write_all(STDOUT_FILENO, body)
+    let counts = (asked.row - asked.second) / 4 - 1;
+    let done = carry_out(asked, bytes, &mut row[..counts]);
+    tell(asked, &bytes[..], done)
 }
 
 // The next record answered, or no more: input that is no whole record ends the run.
-fn answer_next(body: &mut [u8], row: &mut [u32]) -> bool
-    requires { ⌜ (length (now body) ≡ 16896) × (length (now row) ≡ 128) ⌝ }
+fn answer_next(bytes: &mut [u8], row: &mut [u32]) -> bool
+    requires { ⌜ (length (now bytes) ≡ 65662) × (length (now row) ≡ 4100) ⌝ }
 {
-    let mut head = [0u8; 44];
-    if io::read_full(STDIN_FILENO, &mut head[..]) < 44 {
+    if io::read_full(STDIN_FILENO, &mut bytes[..4]) < 4 {
         return false;
     }
-    let asked = records::asked_in(&head[..]);
-    if !records::is_sound(asked) {
+    let end = numbers::get_u32(&bytes[..], 0) as usize;
+    if end < 46 {
         return false;
     }
-    let counts = asked.row;
-    let end = asked.area + 4 * counts;
-    answer(asked, &mut body[..end], &mut row[..counts])
+    if bytes.len() < end {
+        return false;
+    }
+    if io::read_full(STDIN_FILENO, &mut bytes[4..end]) < end - 4 {
+        return false;
+    }
+    answer(&mut bytes[..end], row)
 }
 
 // A proved loop has to end, and nothing says that an input does: it counts its turns down, from a
 // number that no run uses up.
 fn main() {
-    let mut body = [0u8; 16896];
-    let mut row = [0u32; 128];
+    let mut bytes = [0u8; 65662];
+    let mut row = [0u32; 4100];
     let mut turns = u64::MAX;
-    while turns > 0 && answer_next(&mut body[..], &mut row[..]) {
+    while turns > 0 && answer_next(&mut bytes[..], &mut row[..]) {
         turns -= 1;
     }
 }

@@ -1,69 +1,77 @@
-// The records of raw calls: 44 bytes of numbers, then the area and the row; a reply has 50 bytes of
-// numbers before them.
-use homes::Params;
+// The records of raw calls: 46 bytes of numbers, then four byte strings, each with its length in
+// front: area, second, row and room. A reply has 54 bytes of numbers before area, row and room.
 use state::Done;
-use state::Numbers;
 use state::State;
 ghost use mathlib.Core.Path.{_≡_};
 ghost use mathlib.Core.Bool.{true};
-ghost use Prim.Native.Nat.{_*_, _≤_};
+ghost use Prim.Native.Nat.{_+_, _*_, _≤_};
 ghost use lib.ListN.{length};
+ghost use Rattle.raw_calls.specs.Records.{Lying};
 
-// The record's length, a call by its kind, the state, two numbers, and the lengths of area and row.
+// The most bytes of a string.
+const LONGEST: usize = 16400;
+
+// An end that no record reaches.
+const PAST: usize = 65663;
+
+// A call by its kind, the state, two numbers, and where area, second, row and room end.
 pub struct Asked {
-    pub length: usize,
     pub kind: u16,
     pub state: State,
     pub a: u64,
     pub b: u64,
     pub area: usize,
+    pub second: usize,
     pub row: usize,
+    pub room: usize,
 }
 
-fn state_in(bytes: &[u8]) -> State
-    requires { ⌜ 20 ≤ length (now bytes) ⌝ }
+// Where the string ends whose length stands at an offset: past the record where there is no length,
+// or one too long.
+fn end_of(bytes: &[u8], at: usize) -> usize
+    requires { ⌜ (length (now bytes) ≤ 65662) × (at ≤ 82062) ⌝ }
+    ensures { λ r. ⌜ (r ≤ 82062) × (r ≤ length (now (bytes .entry)) → (at + 4 ≤ r) × (r ≤ at + 16404)) ⌝ }
 {
-    let params = Params {
-        n0: numbers::get_u16(bytes, 6),
-        n: numbers::get_u16(bytes, 8),
-        s: numbers::get_u16(bytes, 10),
-    };
-    State {
-        params,
-        p: numbers::get_u16(bytes, 12),
-        cap: numbers::get_u16(bytes, 14),
-        r: numbers::get_u32(bytes, 16),
+    if bytes.len() < at + 4 {
+        return PAST;
     }
+    let long = numbers::get_u32(bytes, at) as usize;
+    if LONGEST < long {
+        return PAST;
+    }
+    at + 4 + long
 }
 
 pub(crate) fn asked_in(bytes: &[u8]) -> Asked
-    requires { ⌜ 44 ≤ length (now bytes) ⌝ }
+    requires { ⌜ (46 ≤ length (now bytes)) × (length (now bytes) ≤ 65662) ⌝ }
+    ensures { λ r. ⌜ (r .room ≤ length (now (bytes .entry)) → Lying r) ⌝ }
 {
+    let area = end_of(bytes, 46);
+    let second = end_of(bytes, area);
+    let row = end_of(bytes, second);
+    let room = end_of(bytes, row);
     Asked {
-        length: numbers::get_u32(bytes, 0) as usize,
         kind: numbers::get_u16(bytes, 4),
-        state: state_in(bytes),
-        a: numbers::get_u64(bytes, 20),
-        b: numbers::get_u64(bytes, 28),
-        area: numbers::get_u32(bytes, 36) as usize,
-        row: numbers::get_u32(bytes, 40) as usize,
+        state: slips::get_state(bytes, 6),
+        a: numbers::get_u64(bytes, 22),
+        b: numbers::get_u64(bytes, 30),
+        area,
+        second,
+        row,
+        room,
     }
 }
 
-// Known kinds, at most 64 pages and 128 counts, and a length that fits them.
-pub(crate) fn is_sound(asked: Asked) -> bool
-    ensures { λ r. ⌜ (r ≡ true → (asked .area ≤ 16384) × (asked .row ≤ 128)) ⌝ }
+// Known kinds, a row of whole counts, and strings that end where the record does.
+pub(crate) fn is_sound(asked: Asked, end: usize) -> bool
+    requires { ⌜ (asked .room ≤ end → Lying asked) ⌝ }
+    ensures { λ r. ⌜ (r ≡ true → Lying asked × (asked .room ≡ end)) ⌝ }
 {
     let kind = asked.kind;
-    let area = asked.area;
-    let row = asked.row;
-    if 16384 < area {
+    if asked.room != end {
         return false;
     }
-    if 128 < row {
-        return false;
-    }
-    (asked.length == 44 + area + 4 * row) & (256 <= kind) & (kind <= 262)
+    ((asked.row - asked.second) % 4 == 0) & (256 <= kind) & (kind <= 262)
 }
 
 pub(crate) fn read_row(bytes: &[u8], row: &mut [u32])
@@ -86,39 +94,17 @@ pub(crate) fn write_row(bytes: &mut [u8], row: &[u32])
     }
 }
 
-fn put_state(head: &mut [u8], state: State)
-    requires { ⌜ 42 ≤ length (now head) ⌝ }
-{
-    numbers::put_u16(head, 26, state.params.n0);
-    numbers::put_u16(head, 28, state.params.n);
-    numbers::put_u16(head, 30, state.params.s);
-    numbers::put_u16(head, 32, state.p);
-    numbers::put_u16(head, 34, state.cap);
-    numbers::put_u32(head, 36, state.r);
-    numbers::put_u16(head, 40, if state.due() { 1 } else { 0 });
-}
-
-fn put_numbers(head: &mut [u8], told: Numbers)
-    requires { ⌜ 26 ≤ length (now head) ⌝ }
-{
-    numbers::put_u16(head, 6, told.refusal);
-    numbers::put_u16(head, 8, told.page);
-    numbers::put_u64(head, 10, told.value);
-    numbers::put_u32(head, 18, told.read);
-    numbers::put_u32(head, 22, told.moved);
-}
-
-// The numbers of a reply; the area and the row follow as they are.
-pub(crate) fn reply(head: &mut [u8], done: Done, area: usize, row: usize)
-    requires { ⌜ (length (now head) ≡ 50) × (area ≤ 16384) × (row ≤ 128) ⌝ }
+// The numbers of a reply of that length. Bytes 30 to 35 are zeros: which file, and what a
+// comparison took of the room.
+pub(crate) fn reply(head: &mut [u8], done: Done, end: usize)
+    requires { ⌜ (length (now head) ≡ 54) × (end ≤ 65670) ⌝ }
 {
     let state = done.state;
     let answer = done.answer;
     let told = answer.numbers();
-    put_numbers(head, told);
-    put_state(head, state);
-    numbers::put_u32(head, 0, (50 + area + 4 * row) as u32);
+    numbers::put_u32(head, 0, end as u32);
     numbers::put_u16(head, 4, 513);
-    numbers::put_u32(head, 42, area as u32);
-    numbers::put_u32(head, 46, row as u32);
+    slips::put_reply(head, 6, told);
+    slips::put_state(head, 36, state, 1);
+    numbers::put_u16(head, 52, if state.due() { 1 } else { 0 });
 }

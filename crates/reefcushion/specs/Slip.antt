@@ -2,36 +2,26 @@
 -- and is handed the state and the answer. What is quoted is 01's.
 use Prim.Native.Nat.{ℕ}
 use mathlib.Core.Bool.{Bool, cond}
-use mathlib.Core.List.{List, [], _∷_, _++_}
+use mathlib.Core.List.{List, _++_}
 use lib.ListN.{length}
 use lib.Dec.{eqb}
-use Rattle.numbers.specs.Little.{numberAt}
-use Rattle.numbers.specs.Fields.{Field, encode}
-use Rattle.homes.specs.Homes.{params}
+use Rattle.numbers.specs.Fields.{encode}
 use Rattle.state.specs.declared.State.{State}
 use Rattle.state.specs.declared.Numbers.{Numbers}
 use Rattle.state.specs.State.{isDue}
+use Rattle.slips.specs.Slips.{stateAt, stateFields, answerFields}
 use Rattle.register.specs.Files.{Call, grow, File, Left, left, numbersOf}
 
 abbrev pub isSlip : List ℕ → Bool
 isSlip l = eqb (length l) 40
 
--- the state that a slip brings: "n0 .., N .., s .., P .., cap .., r". Bytes 10 and 11 aren't looked
--- at, nor are those of an answer.
+-- the state that a slip brings, in its first sixteen bytes; those of an answer aren't looked at
 abbrev pub stateIn : List ℕ → State
-stateIn l =
-    record { params = params (numberAt 2 l 0) (numberAt 2 l 2) (numberAt 2 l 4); p = numberAt 2 l 6; cap = numberAt 2 l 8; r = numberAt 4 l 12 }
+stateIn l = stateAt l 0
 
--- the state's bytes, with two zeros before r
-abbrev pub stateFields : State → List Field
-stateFields s = (2, s .params .n0) ∷ (2, s .params .n) ∷ (2, s .params .s) ∷ (2, s .p) ∷ (2, s .cap) ∷ (2, 0) ∷ (4, s .r) ∷ []
-
--- the answer's in 01's numbers, with four zeros at the end
-abbrev pub answerFields : Numbers → List Field
-answerFields n = (8, n .value) ∷ (4, n .read) ∷ (4, n .moved) ∷ (2, n .refusal) ∷ (2, n .page) ∷ (4, 0) ∷ []
-
+-- a slip: the state's bytes, with 0 for the idle number, and then the answer's
 abbrev pub slipOf : State → Numbers → List ℕ
-slipOf s n = encode (stateFields s ++ answerFields n)
+slipOf s n = encode (stateFields s 0 ++ answerFields n)
 
 -- the file that a slip and an area are
 abbrev pub fileIn : (slip area : List ℕ) → File

@@ -4,66 +4,19 @@
 use homes::Params;
 use pages::Record;
 use state::Done;
-use state::Numbers;
-use state::State;
 ghost use mathlib.Core.Path.{_≡_};
 ghost use lib.ListN.{length};
-ghost use Rattle.numbers.specs.Little.{written};
-ghost use Rattle.numbers.specs.Fields.{encode};
 ghost use Rattle.homes.specs.Homes.{params};
 ghost use Rattle.pages.specs.Page.{recordWith};
 ghost use Rattle.state.specs.Answer.{numbers};
 ghost use Rattle.register.specs.Files.{format, find, put, remove, grow, check};
-ghost use Rattle.reefcushion.specs.Slip.{stateIn, stateFields, answerFields, slipOf, served, servedRow, dueOn};
+ghost use Rattle.reefcushion.specs.Slip.{stateIn, slipOf, served, servedRow, dueOn};
 
 // The bytes of a slip.
 const SLIP: usize = 40;
 
 // What a call returns that has no slip of that length. It then does nothing.
 const NO_SLIP: u32 = 100;
-
-// The state that a slip brings.
-fn state_in(slip: &[u8]) -> State
-    requires { ⌜ length (now slip) ≡ 40 ⌝ }
-    ensures { λ r. ⌜ r ≡ stateIn (now (slip .entry)) ⌝ }
-{
-    let params = Params {
-        n0: numbers::get_u16(slip, 0),
-        n: numbers::get_u16(slip, 2),
-        s: numbers::get_u16(slip, 4),
-    };
-    State {
-        params,
-        p: numbers::get_u16(slip, 6),
-        cap: numbers::get_u16(slip, 8),
-        r: numbers::get_u32(slip, 12),
-    }
-}
-
-fn tell_state(slip: &mut [u8], state: State)
-    requires { ⌜ length (now slip) ≡ 40 ⌝ }
-    ensures { λ _. ⌜ now (slip .exit) ≡ written (now (slip .entry)) 0 (encode (stateFields state)) ⌝ }
-{
-    numbers::put_u16(slip, 0, state.params.n0);
-    numbers::put_u16(slip, 2, state.params.n);
-    numbers::put_u16(slip, 4, state.params.s);
-    numbers::put_u16(slip, 6, state.p);
-    numbers::put_u16(slip, 8, state.cap);
-    numbers::put_u16(slip, 10, 0);
-    numbers::put_u32(slip, 12, state.r);
-}
-
-fn tell_answer(slip: &mut [u8], told: Numbers)
-    requires { ⌜ length (now slip) ≡ 40 ⌝ }
-    ensures { λ _. ⌜ now (slip .exit) ≡ written (now (slip .entry)) 16 (encode (answerFields told)) ⌝ }
-{
-    numbers::put_u64(slip, 16, told.value);
-    numbers::put_u32(slip, 24, told.read);
-    numbers::put_u32(slip, 28, told.moved);
-    numbers::put_u16(slip, 32, told.refusal);
-    numbers::put_u16(slip, 34, told.page);
-    numbers::put_u32(slip, 36, 0);
-}
 
 // What a call came to, over all of the slip. It brings the next call the state that this one left.
 fn tell(slip: &mut [u8], done: Done) -> u32
@@ -75,8 +28,8 @@ fn tell(slip: &mut [u8], done: Done) -> u32
     let state = done.state;
     let answer = done.answer;
     let told = answer.numbers();
-    tell_state(slip, state);
-    tell_answer(slip, told);
+    slips::put_state(slip, 0, state, 0);
+    slips::put_answer(slip, 16, told);
     told.refusal as u32
 }
 
@@ -97,7 +50,7 @@ pub extern "C" fn reefcushion_format(
     if slip.len() != SLIP {
         return NO_SLIP;
     }
-    let state = state_in(&slip[..]);
+    let state = slips::get_state(&slip[..], 0);
     let params = Params { n0, n, s };
     let done = register::format(state, params, cap, area);
     tell(slip, done)
@@ -112,7 +65,7 @@ pub extern "C" fn reefcushion_find(slip: &mut [u8], area: &[u8], key: u64) -> u3
     if slip.len() != SLIP {
         return NO_SLIP;
     }
-    let state = state_in(&slip[..]);
+    let state = slips::get_state(&slip[..], 0);
     let done = register::find(state, area, key);
     tell(slip, done)
 }
@@ -127,7 +80,7 @@ pub extern "C" fn reefcushion_put(slip: &mut [u8], area: &mut [u8], key: u64, va
     if slip.len() != SLIP {
         return NO_SLIP;
     }
-    let state = state_in(&slip[..]);
+    let state = slips::get_state(&slip[..], 0);
     let done = register::put(state, area, Record { key, value });
     tell(slip, done)
 }
@@ -142,7 +95,7 @@ pub extern "C" fn reefcushion_remove(slip: &mut [u8], area: &mut [u8], key: u64)
     if slip.len() != SLIP {
         return NO_SLIP;
     }
-    let state = state_in(&slip[..]);
+    let state = slips::get_state(&slip[..], 0);
     let done = register::remove(state, area, key);
     tell(slip, done)
 }
@@ -158,7 +111,7 @@ pub extern "C" fn reefcushion_grow(slip: &mut [u8], area: &mut [u8], row: &mut [
     if slip.len() != SLIP {
         return NO_SLIP;
     }
-    let state = state_in(&slip[..]);
+    let state = slips::get_state(&slip[..], 0);
     let done = register::grow(state, area, row);
     tell(slip, done)
 }
@@ -172,7 +125,7 @@ pub extern "C" fn reefcushion_check(slip: &mut [u8], area: &[u8]) -> u32
     if slip.len() != SLIP {
         return NO_SLIP;
     }
-    let state = state_in(&slip[..]);
+    let state = slips::get_state(&slip[..], 0);
     let done = register::check(state, area);
     tell(slip, done)
 }
@@ -185,6 +138,6 @@ pub extern "C" fn reefcushion_due(slip: &[u8]) -> u32
     if slip.len() != SLIP {
         return 0;
     }
-    let state = state_in(slip);
+    let state = slips::get_state(slip, 0);
     if state.due() { 1 } else { 0 }
 }

@@ -1,13 +1,13 @@
 -- Calls by slip are a history of calls.
 use mathlib.Core.Path.{_≡_, refl, sym, ap, _∙_}
-use mathlib.Core.List.{List, _++_}
+use mathlib.Core.List.{List}
 use Prim.Native.Nat.{ℕ}
 use lib.ListN.{length}
 use borrow.Author.Tests.{eq-eqb}
 use Rattle.numbers.proofs.Records.{length-encode}
-use Rattle.register.specs.Files.{Call, left, numbersOf}
+use Rattle.register.specs.Files.{Call, left}
 use Rattle.demands.specs.Histories.{after}
-use Rattle.reefcushion.specs.Slip.{stateFields, answerFields, fileIn, servedBy, served}
+use Rattle.reefcushion.specs.Slip.{fileIn, servedBy, served}
 use Rattle.slip_demands.specs.SlipDemands.{Handed, no-call, one-call, SlipDemands}
 
 module _ (slip area : List ℕ) (forty : length slip ≡ 40) (c : Call) where
@@ -18,9 +18,7 @@ module _ (slip area : List ℕ) (forty : length slip ≡ 40) (c : Call) where
 
   -- and leaves a slip
   stays-slip : length (served slip area c .slip) ≡ 40
-  stays-slip =
-      let g = left (fileIn slip area) c in
-      rw on-slip (length-encode (stateFields (g .file .state) ++ answerFields (numbersOf (g .said))))
+  stays-slip = rw on-slip (length-encode _)
 
 handed : {cs : List Call} {slip area slip' area' : List ℕ} → Handed cs slip area slip' area' → length slip ≡ 40 → fileIn slip' area' ≡ after (fileIn slip area) cs
 unfolding after

@@ -1,13 +1,21 @@
--- `raw_calls::answer` stays within its slices, and gives them back as long as they were.
-use mathlib.Core.Path.{sym}
+-- `raw_calls::answer` stays within its slices: a sound record's strings lie within it, and the row
+-- has the counts that it brings.
+use mathlib.Core.Path.{_≡_, sym}
 use native.Mathlib.Omega.{arith}
+use lib.ListN.{length}
 use lib.Seq.{length-take-le}
+use denote.Ref.{now}
+use borrow.Author.Tests.{not-false}
+use Rattle.raw_calls.specs.Records.{Lying}
 use borrow.Author.Needs.{needs}
 use Rattle.raw_calls.proofs.answer.Statement.{statement}
 use Rattle.raw_calls.proofs.answer.Tie as tie
 
-read-full-requires : tie.Need-read-full-requires
-read-full-requires c κs = search needs
+asked-in-requires : tie.Need-asked-in-requires
+asked-in-requires c κs = search needs
+
+is-sound-requires : tie.Need-is-sound-requires
+is-sound-requires c κs = search needs
 
 same-length : tie.Need-same-length
 same-length c = search needs
@@ -15,56 +23,34 @@ same-length c = search needs
 returns : tie.Need-returns
 returns c = search needs
 
-sub-read-row : tie.Need-sub-read-row
-sub-read-row c = search needs
+-- the strings of a sound record
+lies : (c : tie.Else1) → Lying (c .before .before .asked-in .result) × (c .before .before .asked-in .result .room ≡ length (now (c .before .before .before .before .before .before .args .bytes)))
+lies c = c .before .is-sound .ensures (not-false _ (c .if1 .left))
 
-part-read-row-start : tie.Need-part-read-row-start
-part-read-row-start c = search needs
+sub-counts : tie.Need-sub-counts
+sub-counts c = let w = lies (c .before) in omega arith
 
-part-read-row-end : tie.Need-part-read-row-end
-part-read-row-end c = search needs
+sub-counts-2 : tie.Need-sub-counts-2
+sub-counts-2 c = let w = lies (c .before) in omega arith
 
-read-row-requires : tie.Need-read-row-requires
-read-row-requires c κs = search needs
+slice-relend-prefix-carry-out : tie.Need-slice-relend-prefix-carry-out
+slice-relend-prefix-carry-out c = let w = lies (c .before .before) in omega arith
 
-slice-relend-prefix-call : tie.Need-slice-relend-prefix-call
-slice-relend-prefix-call c = search needs
+slice-aggregate-carry-out : tie.Need-slice-aggregate-carry-out
+slice-aggregate-carry-out c = let w = lies (c .before .before .before) in sym (length-take-le _ _ (omega arith))
 
-slice-aggregate-call : tie.Need-slice-aggregate-call
-slice-aggregate-call c = sym (length-take-le _ _ (omega arith))
+carry-out-requires : tie.Need-carry-out-requires
+carry-out-requires c κs =
+    let w = lies (c .before .before .before) in
+    (w .0, omega arith, omega (arith, slice-aggregate-carry-out c))
 
-call-requires : tie.Need-call-requires
-call-requires c κs = search needs
-
-sub-write-row : tie.Need-sub-write-row
-sub-write-row c = search needs
-
-part-write-row-start : tie.Need-part-write-row-start
-part-write-row-start c = search needs
-
-part-write-row-end : tie.Need-part-write-row-end
-part-write-row-end c = search needs
-
-write-row-requires : tie.Need-write-row-requires
-write-row-requires c κs = search needs
-
-slice-aggregate-reply : tie.Need-slice-aggregate-reply
-slice-aggregate-reply c = search needs
-
-reply-requires : tie.Need-reply-requires
-reply-requires c κs = search needs
-
-slice-aggregate-write-all : tie.Need-slice-aggregate-write-all
-slice-aggregate-write-all c = search needs
-
-write-all-requires : tie.Need-write-all-requires
-write-all-requires c κs = search needs
-
-write-all-requires-2 : tie.Need-write-all-requires-2
-write-all-requires-2 c κs = search needs
+tell-requires : tie.Need-tell-requires
+tell-requires c κs =
+    let w = lies (c .before .before .before .before .before .before .before .before .before) in
+    (w .0, omega arith, omega arith)
 
 same-length-2 : tie.Need-same-length-2
-same-length-2 c = omega (arith, c .before .before .before .before .before .before .before .before .before)
+same-length-2 c = search needs
 
 same-length-3 : tie.Need-same-length-3
 same-length-3 c = search needs
@@ -72,41 +58,20 @@ same-length-3 c = search needs
 returns-2 : tie.Need-returns-2
 returns-2 c = search needs
 
-same-length-4 : tie.Need-same-length-4
-same-length-4 c = search needs
-
-same-length-5 : tie.Need-same-length-5
-same-length-5 c = search needs
-
-returns-3 : tie.Need-returns-3
-returns-3 c = search needs
-
 pub answer-spec : {M : Type 1} → statement M
 answer-spec =
     tie.close
     (tie.spec
-    read-full-requires
+    asked-in-requires
+    is-sound-requires
     same-length
     returns
-    sub-read-row
-    part-read-row-start
-    part-read-row-end
-    read-row-requires
-    slice-relend-prefix-call
-    slice-aggregate-call
-    call-requires
-    sub-write-row
-    part-write-row-start
-    part-write-row-end
-    write-row-requires
-    slice-aggregate-reply
-    reply-requires
-    slice-aggregate-write-all
-    write-all-requires
-    write-all-requires-2
+    sub-counts
+    sub-counts-2
+    slice-relend-prefix-carry-out
+    slice-aggregate-carry-out
+    carry-out-requires
+    tell-requires
     same-length-2
     same-length-3
-    returns-2
-    same-length-4
-    same-length-5
-    returns-3)
+    returns-2)

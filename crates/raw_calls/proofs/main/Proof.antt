@@ -7,10 +7,10 @@ use Rattle.raw_calls.proofs.main.Statement.{statement}
 use Rattle.raw_calls.proofs.main.Tie as tie
 
 abbrev Inv-loop : tie.InvT-loop
-Inv-loop body₀ row₀ turns₀ body row turns = (16896 ≡ length body) × (128 ≡ length row)
+Inv-loop bytes₀ row₀ turns₀ bytes row turns = (65662 ≡ length bytes) × (4100 ≡ length row)
 
 abbrev μ-loop : tie.MeasureT-loop
-μ-loop body₀ row₀ turns₀ body row turns = turns
+μ-loop bytes₀ row₀ turns₀ bytes row turns = turns
 
 loop-holds : tie.Need-loop-holds Inv-loop μ-loop
 loop-holds c = search needs

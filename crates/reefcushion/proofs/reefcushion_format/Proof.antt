@@ -15,8 +15,8 @@ returns c =
     let a = c .before .before .before .args in
     rw (not-served (now (a .slip)) (c .if1 .taken) (now (a .area)) (format (params (a .n0) (a .n) (a .s)) (a .cap))) (refl, (refl, (refl, refl)))
 
-state-in-requires : tie.Need-state-in-requires
-state-in-requires c κs = search needs
+get-state-requires : tie.Need-get-state-requires
+get-state-requires c κs = search needs
 
 format-requires : tie.Need-format-requires
 format-requires c κs = search needs
@@ -40,14 +40,14 @@ returns-2 c =
     let a = e .before .before .before .args in
     let came = g .format .ensures in
     let told = t .tell .ensures in
-    rw (is-served (now (a .slip)) (e .if1 .left) _ (i .state-in .ensures) (now (a .area)) _ _ [] (format (params (a .n0) (a .n) (a .s)) (a .cap)) (λ j. leaves (came .0 j) (came .1 j) [])) (told .0, (told .1 .0, (refl, told .1 .1)))
+    rw (is-served (now (a .slip)) (e .if1 .left) _ (i .get-state .ensures) (now (a .area)) _ _ [] (format (params (a .n0) (a .n) (a .s)) (a .cap)) (λ j. leaves (came .0 j) (came .1 j) [])) (told .0, (told .1 .0, (refl, told .1 .1)))
 
 pub reefcushion-format-spec : {M : Type 1} → statement M
 reefcushion-format-spec =
     tie.close
     (tie.spec
     returns
-    state-in-requires
+    get-state-requires
     format-requires
     tell-requires
     same-length

@@ -2,19 +2,19 @@
 use native.Mathlib.Omega.{arith}
 use borrow.Author.Needs.{needs}
 use Rattle.numbers.proofs.Records.{Fit}
-use Rattle.reefcushion.specs.Slip.{stateFields}
-use Rattle.reefcushion.proofs.Telling.{slip-stored, state-again}
+use Rattle.slips.specs.Slips.{stateFields}
+use Rattle.reefcushion.proofs.Telling.{slip-stored, slip-again}
 use Rattle.reefcushion.proofs.tell.Statement.{statement}
 use Rattle.reefcushion.proofs.tell.Tie as tie
 
 numbers-requires : tie.Need-numbers-requires
 numbers-requires c κs = search needs
 
-tell-state-requires : tie.Need-tell-state-requires
-tell-state-requires c κs = search needs
+put-state-requires : tie.Need-put-state-requires
+put-state-requires c κs = search needs
 
-tell-answer-requires : tie.Need-tell-answer-requires
-tell-answer-requires c κs = search needs
+put-answer-requires : tie.Need-put-answer-requires
+put-answer-requires c κs = search needs
 
 cast-result : tie.Need-cast-result
 cast-result c = search needs
@@ -30,18 +30,18 @@ returns c =
     let n = t .before .before in
     let s = n .before .before .before in
     let is = n .numbers .ensures in
-    let all = rw is at (slip-stored _ (s .pre) (s .args .done .state) _ (t .tell-state .ensures) (a .tell-answer .ensures)) in
+    let all = rw is at (slip-stored (s .args .done .state) _ _ (s .pre) (t .put-state .ensures) (a .put-answer .ensures)) in
     let g = s .good in
-    let fits : Fit (stateFields (s .args .done .state)) = (omega (arith, g), (omega (arith, g), (omega (arith, g), (omega (arith, g), (omega (arith, g), (omega arith, (omega (arith, g), tt))))))) in
-    (rw is, (all, state-again (s .args .done .state) _ fits all))
+    let fits : Fit (stateFields (s .args .done .state) 0) = (omega (arith, g), (omega (arith, g), (omega (arith, g), (omega (arith, g), (omega (arith, g), (omega arith, (omega (arith, g), tt))))))) in
+    (rw is, (all, slip-again (s .args .done .state) _ fits all))
 
 pub tell-spec : {M : Type 1} → statement M
 tell-spec =
     tie.close
     (tie.spec
     numbers-requires
-    tell-state-requires
-    tell-answer-requires
+    put-state-requires
+    put-answer-requires
     cast-result
     same-length
     returns)

@@ -1,0 +1,11 @@
+-- Where the strings of a record lie.
+use Prim.Native.Nat.{ℕ, _+_, _≤_}
+use Rattle.raw_calls.specs.declared.records.Asked.{Asked}
+
+-- one behind the other, each with its length in front, and no row longer than 4,100 counts
+pub record Lying (asked : Asked) : Type 0 where
+  pub area : 50 ≤ asked .area
+  pub second : asked .area + 4 ≤ asked .second
+  pub row : asked .second + 4 ≤ asked .row
+  pub counts : asked .row ≤ asked .second + 16404
+  pub room : asked .row + 4 ≤ asked .room

@@ -78,7 +78,7 @@ format-keeps o s space q cap h =
 
 -- of any other call: it goes on with the file on as many pages, and where nothing is kept it keeps
 -- nothing
-module _ (c : Call) (fits : Fits c) (nothing : keeps none c ≡ none)
+module _ (c : Call) (fits : Fits c) (nothing : makes none c ≡ none)
     (something : (m : Kept) → (new : Kept) × (makes (some m) c ≡ some new) × (new .cap ≡ m .cap)) where
   -- where it is accepted
   accepted-keeps : (o : Option Kept) (s : State) (space : List ℕ) → Holds o s space → refusal (firstOn s space (s .cap)) c ≡ 0

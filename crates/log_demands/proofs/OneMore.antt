@@ -31,7 +31,7 @@ after-more f (x ∷ cs) c = after-more (left f x .file) cs c
 
 -- what such a history keeps
 kept-more : (o : Option Kept) (f : File) (cs : List Call) (c : Call)
-    → kept o f (cs ++ (c ∷ [])) ≡ cond (eqb (refusal (after f cs) c) 0) (keeps (kept o f cs) c) (kept o f cs)
+    → kept o f (cs ++ (c ∷ [])) ≡ cond (eqb (refusal (after f cs) c) 0) (makes (kept o f cs) c) (kept o f cs)
 unfolding after kept
 kept-more o f [] c = refl
 kept-more o f (x ∷ cs) c = kept-more _ (left f x .file) cs c

@@ -59,14 +59,11 @@ impl Answer {
         }
     }
 
-    /// What every reply has behind its length: kind, refusal, page, value,
-    /// pages read and moved.
-    pub fn push_numbers(&self, bytes: &mut Vec<u8>) {
+    /// What every reply has behind its length: kind, refusal, page and value.
+    pub fn push_start(&self, bytes: &mut Vec<u8>) {
         bytes.extend(REPLY_KIND.to_le_bytes());
         bytes.extend(self.refusal.to_le_bytes());
         bytes.extend(self.page.to_le_bytes());
         bytes.extend(self.value.to_le_bytes());
-        bytes.extend(self.read.to_le_bytes());
-        bytes.extend(self.moved.to_le_bytes());
     }
 }

@@ -156,7 +156,9 @@ impl Session {
 fn reply(answer: &Answer) -> Vec<u8> {
     let mut bytes = Vec::with_capacity(REPLY_BYTES);
     bytes.extend((REPLY_BYTES as u16).to_le_bytes());
-    answer.push_numbers(&mut bytes);
+    answer.push_start(&mut bytes);
+    bytes.extend(answer.read.to_le_bytes());
+    bytes.extend(answer.moved.to_le_bytes());
     bytes.extend(answer.state.pages.to_le_bytes());
     bytes.extend(u16::from(answer.state.due()).to_le_bytes());
     bytes

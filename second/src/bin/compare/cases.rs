@@ -35,7 +35,7 @@ pub fn some_call(random: &mut Random, file: &mut File) -> Case {
     call_of(random, file, kind)
 }
 
-fn call_of(random: &mut Random, file: &mut File, kind: u16) -> Case {
+pub fn call_of(random: &mut Random, file: &mut File, kind: u16) -> Case {
     let entries = if kind == 261 {
         usize::from(file.state.cap)
     } else {
@@ -54,6 +54,7 @@ fn call_of(random: &mut Random, file: &mut File, kind: u16) -> Case {
         b,
         area: file.area.clone(),
         row,
+        ..Case::default()
     }
 }
 
@@ -171,9 +172,9 @@ fn formats(random: &mut Random, sink: &mut Sink) -> Result<(), String> {
             kind: 257,
             state,
             a: four_numbers(numbers),
-            b: 0,
             area,
             row,
+            ..Case::default()
         })?;
     }
     Ok(())

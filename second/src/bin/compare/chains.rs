@@ -78,6 +78,7 @@ impl Life {
             b,
             area,
             row,
+            ..Case::default()
         };
         let after = sink.ask(case)?;
         if after.state.records > self.state.records {

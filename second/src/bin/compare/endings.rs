@@ -2,11 +2,12 @@
 //! stays written, and nothing follows.
 
 use crate::files::image;
+use crate::idle;
 use crate::launch::Launcher;
 use crate::random::Random;
 use crate::show::Stop;
 use second::log::Failure;
-use second::raw::{Case, RECORD_HEAD};
+use second::raw::{Case, LONGEST_STRING, RECORD_HEAD, STRING_HEAD};
 
 /// Compares the endings and gives their number.
 pub fn compare(launcher: &Launcher, seed: u64) -> Result<usize, Stop> {
@@ -43,14 +44,16 @@ fn good(random: &mut Random) -> Case {
     let file = image(random);
     let row = vec![3; random.index(4)];
     let kind = random.pick(&[256, 259, 262]);
-    Case {
+    let mut case = Case {
         kind,
         state: file.state,
         a: random.next(),
-        b: 0,
         area: file.area,
         row,
-    }
+        ..Case::default()
+    };
+    idle::fill(random, &mut case);
+    case
 }
 
 /// Some right records, a wrong one, and a right one that isn't reached.
@@ -74,50 +77,86 @@ fn endings(random: &mut Random) -> Vec<Vec<u8>> {
         .record();
         inputs.push(around(random, wrong));
     }
-    for length in [0, 3, 4, 6, 43, 44, 45, u32::MAX] {
+    // The head has 46 bytes, and a record with four empty strings 62.
+    for length in [0, 3, 4, 6, 45, 46, 47, 61, 62, 63, 65_663, u32::MAX] {
         let mut wrong = good(random).record();
         wrong[..4].copy_from_slice(&length.to_le_bytes());
         inputs.push(around(random, wrong));
     }
-    for change in [1, u32::MAX, 4, 256] {
-        for at in [0, 36, 40] {
-            let mut wrong = good(random).record();
+    inputs.extend(wrong_lengths(random));
+    inputs.extend(odd_strings(random));
+    inputs.extend(cut_off(random));
+    inputs
+}
+
+/// One of the five lengths in a record is another one than it should be.
+fn wrong_lengths(random: &mut Random) -> Vec<Vec<u8>> {
+    let mut inputs = Vec::new();
+    for change in [1, u32::MAX, 4, 256, 1 << 16, 1 << 31] {
+        for place in 0..5 {
+            let case = good(random);
+            let [area, second, row, room] = case.string_heads();
+            let at = [0, area, second, row, room][place];
+            let mut wrong = case.record();
             let now = second::bytes::four(&wrong, at).wrapping_add(change);
             wrong[at..at + 4].copy_from_slice(&now.to_le_bytes());
             inputs.push(around(random, wrong));
         }
     }
-    inputs.extend(too_long(random));
-    inputs.extend(cut_off(random));
     inputs
 }
 
-/// The longest area and row that may be, and ones a little longer.
-fn too_long(random: &mut Random) -> Vec<Vec<u8>> {
+/// Lengths of area, second, row and room that add up: the longest that may be
+/// and ones a little longer, and rows that end within a count.
+const STRINGS: [[usize; 4]; 21] = [
+    [0, 0, 0, 0],
+    [LONGEST_STRING; 4],
+    [16_384, 16_384, 16_384, 16_384],
+    [LONGEST_STRING, 0, 0, 0],
+    [LONGEST_STRING + 1, 0, 0, 0],
+    [16_640, 0, 256, 0],
+    [65_536, 0, 0, 0],
+    [0, LONGEST_STRING, 0, 0],
+    [256, LONGEST_STRING + 1, 4, 0],
+    [0, 0, LONGEST_STRING, 0],
+    [256, 0, LONGEST_STRING + 4, 0],
+    [0, 0, LONGEST_STRING + 1, 0],
+    [256, 8, 8, LONGEST_STRING],
+    [256, 8, 8, LONGEST_STRING + 1],
+    [LONGEST_STRING + 1; 4],
+    [256, 0, 1, 0],
+    [256, 0, 2, 2],
+    [256, 1, 3, 0],
+    [256, 0, 5, 3],
+    [0, 3, 1, 0],
+    [0, 0, LONGEST_STRING - 1, 0],
+];
+
+fn odd_strings(random: &mut Random) -> Vec<Vec<u8>> {
     let mut inputs = Vec::new();
-    for (area, row) in [
-        (16_384, 128),
-        (16_385, 0),
-        (16_640, 64),
-        (16_384, 129),
-        (0, 129),
-    ] {
-        let case = Case {
-            area: vec![1; area],
-            row: vec![2; row],
-            ..good(random)
-        };
-        let record = case.record();
+    for lengths in STRINGS {
+        let [area, second, row, room] = lengths.map(|length| random.bytes(length));
+        let record = good(random).record_with([&area, &second, &row, &room]);
         inputs.push(around(random, record));
     }
     inputs
 }
 
-/// A second record cut off at every byte of its head, and within the rest.
+/// A second record cut off at every byte of its head and of its strings'
+/// lengths, and within the rest.
 fn cut_off(random: &mut Random) -> Vec<Vec<u8>> {
     let first = good(random).record();
-    let second = good(random).record();
-    let mut cuts: Vec<usize> = (0..=RECORD_HEAD).collect();
+    let case = Case {
+        second: vec![4; 6],
+        row: vec![5; 2],
+        room: vec![6; 3],
+        ..good(random)
+    };
+    let second = case.record();
+    let mut cuts: Vec<usize> = (0..RECORD_HEAD).collect();
+    for at in case.string_heads() {
+        cuts.extend(at..=at + STRING_HEAD);
+    }
     cuts.extend((0..10).map(|_| random.index(second.len())));
     cuts.push(second.len() - 1);
     cuts.into_iter()

@@ -11,6 +11,7 @@ mod cases;
 mod chains;
 mod endings;
 mod files;
+mod idle;
 mod keys;
 mod launch;
 mod log_run;

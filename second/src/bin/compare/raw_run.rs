@@ -52,7 +52,7 @@ fn write_all(mut to: ChildStdin, sent: Receiver<Vec<u8>>) {
 
 /// Generates batches, tells the reader what to expect and has them written.
 fn generate(seed: u64, calls: u64, expect: SyncSender<Batch>, send: SyncSender<Vec<u8>>) -> Table {
-    let mut sink = Sink::new(calls);
+    let mut sink = Sink::new(seed, calls);
     let mut piece = 0;
     while !sink.full() || !sink.asked.is_empty() {
         while !sink.full() && sink.asked.len() < BATCH {

@@ -23,7 +23,7 @@ type Picked = BTreeMap<(u16, [u8; 2]), Vec<u8>>;
 
 fn pick(seed: u64) -> Result<Picked, String> {
     let mut picked = Picked::new();
-    let mut sink = Sink::new(CALLS);
+    let mut sink = Sink::new(seed, CALLS);
     let mut piece = 0;
     while !sink.full() {
         scene(&mut Random::new(seed, piece), &mut sink)?;

@@ -2,29 +2,36 @@
 
 use crate::table::name;
 use second::bytes::number;
+use second::page::PAGE_BYTES;
+use second::raw::{REPLY_HEAD, STRING_HEAD};
 use std::path::{Path, PathBuf};
 
 /// A field of a reply: its name and how many bytes it has.
 type Field = (&'static str, usize);
 
-const RAW_FIELDS: [Field; 16] = [
+const RAW_FIELDS: [Field; 18] = [
     ("length", 4),
     ("kind", 2),
     ("refusal", 2),
     ("page", 2),
     ("value", 8),
+    ("run", 4),
     ("pages read", 4),
     ("moved", 4),
+    ("file", 2),
+    ("taken", 4),
     ("n0", 2),
     ("N", 2),
     ("s", 2),
     ("P", 2),
     ("cap", 2),
+    ("edition", 2),
     ("r", 4),
     ("due", 2),
-    ("area length", 4),
-    ("row length", 4),
 ];
+
+/// The strings behind the fields of a raw reply.
+const RAW_STRINGS: [&str; 3] = ["area", "row", "room"];
 
 const LOG_FIELDS: [Field; 9] = [
     ("length", 2),
@@ -68,24 +75,50 @@ fn fields(fields: &[Field], ours: &[u8], theirs: &[u8]) -> String {
         told += &format!("{name:12} {our:>20} {their:>20}{mark}\n");
         at += size;
     }
-    told + &first_difference(ours, theirs, at)
+    told
 }
 
-/// Where the bytes after the fields first differ.
-fn first_difference(ours: &[u8], theirs: &[u8], head: usize) -> String {
-    let longest = ours.len().max(theirs.len());
-    match (head..longest).find(|&at| ours.get(at) != theirs.get(at)) {
-        None => String::new(),
-        Some(at) => {
-            let past = at - head;
-            let (page, byte) = (past / 256, past % 256);
-            let (our, their) = (ours.get(at), theirs.get(at));
-            format!(
-                "byte {past} after the fields (area page {page}, its byte {byte}, if within \
-                 the area): {our:?} here, {their:?} there\n"
-            )
+/// The strings of a raw reply that differ, each told by its first difference.
+fn strings(ours: &[u8], theirs: &[u8]) -> String {
+    let (mut our_rest, mut their_rest) = (past_head(ours), past_head(theirs));
+    let mut told = String::new();
+    for name in RAW_STRINGS {
+        let (our, their) = (next_string(&mut our_rest), next_string(&mut their_rest));
+        if our != their {
+            told += &string_difference(name, our, their);
         }
     }
+    let (our, their) = (our_rest.len(), their_rest.len());
+    if our != their {
+        told += &format!("behind the strings: {our} bytes here, {their} there\n");
+    }
+    told
+}
+
+fn past_head(reply: &[u8]) -> &[u8] {
+    reply.get(REPLY_HEAD..).unwrap_or_default()
+}
+
+/// The next string, cut short where the reply ends within it.
+fn next_string<'a>(rest: &mut &'a [u8]) -> &'a [u8] {
+    let (head, after) = rest.split_at(STRING_HEAD.min(rest.len()));
+    let (string, after) = after.split_at(after.len().min(number(head) as usize));
+    *rest = after;
+    string
+}
+
+/// Two strings that differ: their lengths and the first byte that does.
+fn string_difference(name: &str, our: &[u8], their: &[u8]) -> String {
+    let same = our.iter().zip(their).take_while(|(one, two)| one == two);
+    let at = same.count();
+    let (page, byte) = (at / PAGE_BYTES, at % PAGE_BYTES);
+    let (our_byte, their_byte) = (our.get(at), their.get(at));
+    format!(
+        "{name} of {} bytes here, {} there, differs from byte {at} on (byte {byte} of page \
+         {page}): {our_byte:?} here, {their_byte:?} there\n",
+        our.len(),
+        their.len()
+    )
 }
 
 /// A raw call that the sides answer differently.
@@ -94,7 +127,7 @@ pub fn raw_difference(seed: u64, case: u64, kind: u16, ours: &[u8], theirs: &[u8
         "raw call {case} of seed {seed} differs: kind {kind} ({})\n",
         name(kind)
     );
-    title + &fields(&RAW_FIELDS, ours, theirs)
+    title + &fields(&RAW_FIELDS, ours, theirs) + &strings(ours, theirs)
 }
 
 /// A log that the sides answer differently, from the first differing reply.
@@ -145,4 +178,51 @@ pub fn keep(folder: &Path, file: &str, input: &[u8]) -> std::io::Result<PathBuf>
     let path = folder.join(file);
     std::fs::write(&path, input)?;
     Ok(path)
+}
+
+#[cfg(test)]
+mod tests {
+    use super::*;
+    use second::raw::Case;
+
+    fn bytes_of(fields: &[Field]) -> usize {
+        fields.iter().map(|(_, size)| size).sum()
+    }
+
+    #[test]
+    fn the_fields_are_the_whole_head() {
+        assert_eq!(bytes_of(&RAW_FIELDS), REPLY_HEAD);
+        assert_eq!(bytes_of(&LOG_FIELDS), second::log::REPLY_BYTES);
+    }
+
+    #[test]
+    fn a_difference_is_told_where_it_is() {
+        let mut case = Case {
+            area: vec![1; 300],
+            row: vec![2; 5],
+            room: vec![3; 7],
+            ..Case::default()
+        };
+        let (_, ours) = case.answer().ok().flatten().expect("due is answered");
+        let told = |at: usize| {
+            let mut theirs = ours.clone();
+            theirs[at] ^= 0x80;
+            let text = raw_difference(1, 2, 256, &ours, &theirs);
+            let marked = |line: &&str| line.ends_with('<') || line.contains("differs from");
+            let lines: Vec<String> = text.lines().filter(marked).map(str::to_string).collect();
+            lines.concat()
+        };
+        for (at, name) in [(5, "kind"), (18, "run"), (30, "file"), (32, "taken")] {
+            assert!(told(at).starts_with(name), "{}", told(at));
+        }
+        for (at, name) in [(46, "edition"), (48, "r "), (52, "due")] {
+            assert!(told(at).starts_with(name), "{}", told(at));
+        }
+        assert!(told(58 + 299).contains("area of 300 bytes here, 300 there, differs from byte 299"));
+        assert!(told(58 + 300 + 4 + 8).starts_with("row of 20 bytes"));
+        assert!(told(ours.len() - 1).starts_with("room of 7 bytes"));
+        let cut = raw_difference(1, 2, 256, &ours, &ours[..ours.len() - 1]);
+        assert!(cut.contains("room of 7 bytes here, 6 there, differs from byte 6"));
+        assert!(raw_difference(1, 2, 256, &ours, &[]).contains("nothing"));
+    }
 }

@@ -1,5 +1,7 @@
 //! Takes the generated cases, answers each and keeps both in batches.
 
+use crate::idle;
+use crate::random::Random;
 use crate::table::Table;
 use second::raw::Case;
 
@@ -15,14 +17,17 @@ pub struct Sink {
     pub asked: Vec<Asked>,
     pub table: Table,
     left: u64,
+    /// Draws for the idle fields only, so that they change no case otherwise.
+    idle: Random,
 }
 
 impl Sink {
-    pub fn new(wanted: u64) -> Sink {
+    pub fn new(seed: u64, wanted: u64) -> Sink {
         Sink {
             asked: Vec::new(),
             table: Table::default(),
             left: wanted,
+            idle: Random::new(seed, 1 << 62),
         }
     }
 
@@ -30,12 +35,13 @@ impl Sink {
         self.left == 0
     }
 
-    /// Answers a case and gives it back as the call left it. Cases beyond the
-    /// wanted number are answered but not kept. An error tells that this
-    /// program disagrees with itself.
+    /// Answers a case, with anything in its idle fields, and gives it back as
+    /// the call left it. Cases beyond the wanted number are answered but not
+    /// kept. An error tells that this program disagrees with itself.
     pub fn ask(&mut self, case: Case) -> Result<Case, String> {
-        let record = case.record();
         let mut after = case;
+        idle::fill(&mut self.idle, &mut after);
+        let record = after.record();
         let Some((answer, reply)) = after.answer()? else {
             return Ok(after);
         };

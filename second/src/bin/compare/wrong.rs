@@ -1,7 +1,8 @@
 //! States, lengths and formats that are wrong in one number.
 
 use crate::random::Random;
-use second::raw::{LONGEST_AREA, LONGEST_ROW};
+use second::page::PAGE_BYTES;
+use second::raw::{LONGEST_ROW, LONGEST_STRING};
 use second::state::State;
 
 /// Puts one number out of its range, low or high; the last ways stay in range
@@ -134,10 +135,10 @@ pub fn wrong_length(random: &mut Random, area: &mut Vec<u8>) {
         2 => length + 1,
         3 => length.saturating_sub(256 * random.within(1, 3) as usize),
         4 => length + 256 * random.within(1, 3) as usize,
-        5 => LONGEST_AREA,
+        5 => random.pick(&[64 * PAGE_BYTES, LONGEST_STRING]),
         _ => random.index(length + 300),
     };
-    area.resize(wrong.min(LONGEST_AREA), 0);
+    area.resize(wrong.min(LONGEST_STRING), 0);
 }
 
 /// Makes a row too short or too long.
@@ -147,7 +148,7 @@ pub fn wrong_row(random: &mut Random, row: &mut Vec<u32>) {
         0 => 0,
         1 => length.saturating_sub(1),
         2 => length + 1,
-        3 => LONGEST_ROW,
+        3 => random.pick(&[128, 4096, LONGEST_ROW]),
         _ => random.index(length + 5),
     };
     row.resize(wrong.min(LONGEST_ROW), 7);

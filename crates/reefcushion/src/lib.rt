@@ -42,10 +42,7 @@ pub extern "C" fn reefcushion_format(
     s: u16,
     cap: u16,
 ) -> u32
-    ensures { λ r. ⌜ r ≡ served (now (slip .entry)) (now (area .entry)) (format (params n0 n s) cap) .returned ⌝ }
-    ensures { λ _. ⌜ now (slip .exit) ≡ served (now (slip .entry)) (now (area .entry)) (format (params n0 n s) cap) .slip ⌝ }
-    ensures { λ _. ⌜ now (area .exit) ≡ served (now (slip .entry)) (now (area .entry)) (format (params n0 n s) cap) .file .area ⌝ }
-    ensures again { λ _. ⌜ stateIn (now (slip .exit)) ≡ served (now (slip .entry)) (now (area .entry)) (format (params n0 n s) cap) .file .state ⌝ }
+    ensures { λ r. let o = served (now (slip .entry)) (now (area .entry)) (format (params n0 n s) cap) in ⌜ (r ≡ o .returned) × ((now (slip .exit) ≡ o .slip) × ((now (area .exit) ≡ o .file .area) × (stateIn (now (slip .exit)) ≡ o .file .state))) ⌝ }
 {
     if slip.len() != SLIP {
         return NO_SLIP;
@@ -58,9 +55,7 @@ pub extern "C" fn reefcushion_format(
 
 #[no_mangle]
 pub extern "C" fn reefcushion_find(slip: &mut [u8], area: &[u8], key: u64) -> u32
-    ensures { λ r. ⌜ r ≡ served (now (slip .entry)) (now (area .entry)) (find key) .returned ⌝ }
-    ensures { λ _. ⌜ now (slip .exit) ≡ served (now (slip .entry)) (now (area .entry)) (find key) .slip ⌝ }
-    ensures again { λ _. ⌜ stateIn (now (slip .exit)) ≡ served (now (slip .entry)) (now (area .entry)) (find key) .file .state ⌝ }
+    ensures { λ r. let o = served (now (slip .entry)) (now (area .entry)) (find key) in ⌜ (r ≡ o .returned) × ((now (slip .exit) ≡ o .slip) × (stateIn (now (slip .exit)) ≡ o .file .state)) ⌝ }
 {
     if slip.len() != SLIP {
         return NO_SLIP;
@@ -72,10 +67,7 @@ pub extern "C" fn reefcushion_find(slip: &mut [u8], area: &[u8], key: u64) -> u3
 
 #[no_mangle]
 pub extern "C" fn reefcushion_put(slip: &mut [u8], area: &mut [u8], key: u64, value: u64) -> u32
-    ensures { λ r. ⌜ r ≡ served (now (slip .entry)) (now (area .entry)) (put (recordWith key value)) .returned ⌝ }
-    ensures { λ _. ⌜ now (slip .exit) ≡ served (now (slip .entry)) (now (area .entry)) (put (recordWith key value)) .slip ⌝ }
-    ensures { λ _. ⌜ now (area .exit) ≡ served (now (slip .entry)) (now (area .entry)) (put (recordWith key value)) .file .area ⌝ }
-    ensures again { λ _. ⌜ stateIn (now (slip .exit)) ≡ served (now (slip .entry)) (now (area .entry)) (put (recordWith key value)) .file .state ⌝ }
+    ensures { λ r. let o = served (now (slip .entry)) (now (area .entry)) (put (recordWith key value)) in ⌜ (r ≡ o .returned) × ((now (slip .exit) ≡ o .slip) × ((now (area .exit) ≡ o .file .area) × (stateIn (now (slip .exit)) ≡ o .file .state))) ⌝ }
 {
     if slip.len() != SLIP {
         return NO_SLIP;
@@ -87,10 +79,7 @@ pub extern "C" fn reefcushion_put(slip: &mut [u8], area: &mut [u8], key: u64, va
 
 #[no_mangle]
 pub extern "C" fn reefcushion_remove(slip: &mut [u8], area: &mut [u8], key: u64) -> u32
-    ensures { λ r. ⌜ r ≡ served (now (slip .entry)) (now (area .entry)) (remove key) .returned ⌝ }
-    ensures { λ _. ⌜ now (slip .exit) ≡ served (now (slip .entry)) (now (area .entry)) (remove key) .slip ⌝ }
-    ensures { λ _. ⌜ now (area .exit) ≡ served (now (slip .entry)) (now (area .entry)) (remove key) .file .area ⌝ }
-    ensures again { λ _. ⌜ stateIn (now (slip .exit)) ≡ served (now (slip .entry)) (now (area .entry)) (remove key) .file .state ⌝ }
+    ensures { λ r. let o = served (now (slip .entry)) (now (area .entry)) (remove key) in ⌜ (r ≡ o .returned) × ((now (slip .exit) ≡ o .slip) × ((now (area .exit) ≡ o .file .area) × (stateIn (now (slip .exit)) ≡ o .file .state))) ⌝ }
 {
     if slip.len() != SLIP {
         return NO_SLIP;
@@ -102,11 +91,7 @@ pub extern "C" fn reefcushion_remove(slip: &mut [u8], area: &mut [u8], key: u64)
 
 #[no_mangle]
 pub extern "C" fn reefcushion_grow(slip: &mut [u8], area: &mut [u8], row: &mut [u32]) -> u32
-    ensures { λ r. ⌜ r ≡ served (now (slip .entry)) (now (area .entry)) (grow (now (row .entry))) .returned ⌝ }
-    ensures { λ _. ⌜ now (slip .exit) ≡ served (now (slip .entry)) (now (area .entry)) (grow (now (row .entry))) .slip ⌝ }
-    ensures { λ _. ⌜ now (area .exit) ≡ served (now (slip .entry)) (now (area .entry)) (grow (now (row .entry))) .file .area ⌝ }
-    ensures { λ _. ⌜ now (row .exit) ≡ servedRow (now (slip .entry)) (now (area .entry)) (now (row .entry)) ⌝ }
-    ensures again { λ _. ⌜ stateIn (now (slip .exit)) ≡ served (now (slip .entry)) (now (area .entry)) (grow (now (row .entry))) .file .state ⌝ }
+    ensures { λ r. let o = served (now (slip .entry)) (now (area .entry)) (grow (now (row .entry))) in ⌜ (r ≡ o .returned) × ((now (slip .exit) ≡ o .slip) × ((now (area .exit) ≡ o .file .area) × ((now (row .exit) ≡ servedRow (now (slip .entry)) (now (area .entry)) (now (row .entry))) × (stateIn (now (slip .exit)) ≡ o .file .state)))) ⌝ }
 {
     if slip.len() != SLIP {
         return NO_SLIP;
@@ -118,9 +103,7 @@ pub extern "C" fn reefcushion_grow(slip: &mut [u8], area: &mut [u8], row: &mut [
 
 #[no_mangle]
 pub extern "C" fn reefcushion_check(slip: &mut [u8], area: &[u8]) -> u32
-    ensures { λ r. ⌜ r ≡ served (now (slip .entry)) (now (area .entry)) check .returned ⌝ }
-    ensures { λ _. ⌜ now (slip .exit) ≡ served (now (slip .entry)) (now (area .entry)) check .slip ⌝ }
-    ensures again { λ _. ⌜ stateIn (now (slip .exit)) ≡ served (now (slip .entry)) (now (area .entry)) check .file .state ⌝ }
+    ensures { λ r. let o = served (now (slip .entry)) (now (area .entry)) check in ⌜ (r ≡ o .returned) × ((now (slip .exit) ≡ o .slip) × (stateIn (now (slip .exit)) ≡ o .file .state)) ⌝ }
 {
     if slip.len() != SLIP {
         return NO_SLIP;

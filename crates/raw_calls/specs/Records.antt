@@ -1,5 +1,5 @@
 -- Where the strings of a record lie.
-use Prim.Native.Nat.{ℕ, _+_, _≤_}
+use Prim.Native.Nat.{_+_, _≤_}
 use Rattle.raw_calls.specs.declared.records.Asked.{Asked}
 
 -- one behind the other, each with its length in front, and no row longer than 4,100 counts

@@ -1,8 +1,8 @@
 -- An entry comes from another page than the one on which it is laid exactly where that page did not
 -- hold its key.
 use mathlib.Core.Path.{_≡_, refl, sym, ap, _∙_}
-use mathlib.Core.Bool.{Bool, true, false, cond}
-use mathlib.Core.Option.{Option, some}
+use mathlib.Core.Bool.{true}
+use mathlib.Core.Option.{Option}
 use mathlib.Core.List.{List, [], _∷_, _++_, map}
 use Prim.Native.Nat.{ℕ, zero, suc, _+_, _≤_, min}
 use native.Mathlib.Omega.{arith}
@@ -15,6 +15,7 @@ use Rattle.placing.specs.Rows.{isThere, strays, strayed}
 use Rattle.placing.specs.Walks.{seek}
 use Rattle.placing.proofs.Lists.{all-map, all-map₂, all-append, all-right, all-take, all-page}
 use Rattle.placing.proofs.Seek.{ne-seek}
+use Rattle.placing.proofs.Strays.{distinct-right, there}
 use Rattle.pages.specs.Page.{Record, key}
 use Rattle.entries.specs.declared.Entry.{Entry}
 use Rattle.entries.specs.steps.Entries.{rank, home}
@@ -31,10 +32,6 @@ module _ {R : Type 0} (key : R → ℕ) where
   apart-parts [] t d = tt
   apart-parts (x ∷ s) t d = (all-right (λ y. key y ≡ key x → ⊥) s t (d .0), apart-parts s t (d .1))
 
-  distinct-right : (s t : List R) → Distinct key (s ++ t) → Distinct key t
-  distinct-right [] t d = d
-  distinct-right (x ∷ s) t d = distinct-right s t (d .1)
-
   apart-none : (t : List R) → Apart [] t
   apart-none [] = tt
   apart-none (y ∷ t) = (tt, apart-none t)
@@ -44,19 +41,6 @@ module _ {R : Type 0} (key : R → ℕ) where
   apart-flip (x ∷ s) t h =
       all-map₂ (λ y. key y ≡ key x → ⊥) (λ y. All (λ w. key w ≡ key y → ⊥) s) (λ y. All (λ w. key w ≡ key y → ⊥) (x ∷ s))
       (λ y n k. ((λ q. n (sym q)), k)) t (h .0) (apart-flip s t (h .1))
-
-  -- a page holds the keys of its records
-  there : (s : List R) → All (λ x. isThere (seek key (key x) s) ≡ true) s
-  there [] = tt
-  there (y ∷ s) = (
-    rw (eq-eqb (key y) (key y) refl),
-    all-map (λ x. isThere (seek key (key x) s) ≡ true) (λ x. isThere (seek key (key x) (y ∷ s)) ≡ true)
-        (λ x h. more (eqb (key y) (key x)) (seek key (key x) s) h) s (there s),
-  )
-    where
-      more : (u : Bool) (o : Option R) → isThere o ≡ true → isThere (cond u (some y) o) ≡ true
-      more true o h = refl
-      more false o h = h
 
 -- an entry's page, of pages from address a on, is the one that holds its key
 abbrev pub Came : ℕ → List (List Record) → Entry → Type 0

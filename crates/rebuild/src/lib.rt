@@ -126,9 +126,8 @@ fn strange(from: u16, a: usize) -> u32
 // another page. Where all have room, a page ends below the first entry that is not yet read.
 pub fn unpack(area: &mut [u8], cap: usize, base: usize) -> u32
     requires { ⌜ (cap ≤ 4096) × (length (now area) ≡ 256 * cap) × (base ≤ 256 * cap) × (256 * cap ≡ base + 20 * ((256 * cap - base) / 20)) ⌝ }
-    requires { ⌜ Sorted rank (entriesIn (drop base (now area))) × (taken home 12 (entriesIn (drop base (now area))) cap ≡ length (entriesIn (drop base (now area)))) ⌝ }
-    ensures { λ r. ⌜ r ≡ hopsFrom 0 (lay home 12 cap 0 (entriesIn (drop base (now (area .entry))))) ⌝ }
-    ensures { λ r. ⌜ now (area .exit) ≡ areaFrom 0 (map (map recordIn) (lay home 12 cap 0 (entriesIn (drop base (now (area .entry)))))) ⌝ }
+    requires { let es = entriesIn (drop base (now area)) in ⌜ Sorted rank es × (taken home 12 es cap ≡ length es) ⌝ }
+    ensures { λ r. let ps = lay home 12 cap 0 (entriesIn (drop base (now (area .entry)))) in ⌜ (r ≡ hopsFrom 0 ps) × (now (area .exit) ≡ areaFrom 0 (map (map recordIn) ps)) ⌝ }
 {
     let mut moved = 0;
     let mut at = base;
@@ -149,9 +148,8 @@ pub fn unpack(area: &mut [u8], cap: usize, base: usize) -> u32
 pub fn rebuild(area: &mut [u8], cap: usize, shape: Shape, last: Stage) -> u32
     requires { ⌜ (cap ≤ 4096) × (length (now area) ≡ 256 * cap) × Ready shape ⌝ }
     requires { ⌜ Within last × ((a : ℕ) → a < cap → KnownAt (homeIn shape) (staysAt shape last) (now area) a) ⌝ }
-    requires { ⌜ RecordSet key (cat (heldFrom (now area) cap 0) []) × (taken (homeFor (homeIn shape)) 12 (cat (heldFrom (now area) cap 0) []) cap ≡ length (cat (heldFrom (now area) cap 0) [])) ⌝ }
-    ensures { λ r. ⌜ r ≡ strayed key (heldFrom (now (area .entry)) cap 0) (relaid (homeIn shape) cap (heldFrom (now (area .entry)) cap 0)) ⌝ }
-    ensures { λ r. ⌜ now (area .exit) ≡ areaFrom 0 (relaid (homeIn shape) cap (heldFrom (now (area .entry)) cap 0)) ⌝ }
+    requires { let held = cat (heldFrom (now area) cap 0) [] in ⌜ RecordSet key held × (taken (homeFor (homeIn shape)) 12 held cap ≡ length held) ⌝ }
+    ensures { λ r. let ps = heldFrom (now (area .entry)) cap 0 in let qs = relaid (homeIn shape) cap ps in ⌜ (r ≡ strayed key ps qs) × (now (area .exit) ≡ areaFrom 0 qs) ⌝ }
 {
     let base = pack(area, cap, shape, last);
     entries::sort_row(&mut area[base..], (shape.p - 1) as u16);

@@ -28,8 +28,10 @@ get-u32-requires-2 c κs = search needs
 
 returns : tie.Need-returns
 returns c =
-    let a = c .before .before .before .before .before .before .before .args in
-    cc (head-tests (now (a .part)) (a .address) (a .count))
+    let place = c .before .before .before in
+    let a = place .before .before .before .before .args in
+    rw (place .before .before .get-u16 .ensures, place .before .get-u162 .ensures, place .get-u32 .ensures, c .before .before .get-u163 .ensures, c .before .get-u164 .ensures, c .get-u322 .ensures)
+    (head-tests (now (a .part)) (a .address) (a .count))
 
 pub head-exact-spec : {M : Type 1} → statement M
 head-exact-spec =

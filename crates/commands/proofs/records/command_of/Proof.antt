@@ -30,7 +30,7 @@ get-u64-requires : tie.Need-get-u64-requires
 get-u64-requires c κs = omega (arith, long _ _ kind.Put (c .before .before .before .pre) (c .enum-told2 .given .1))
 
 get-u64-requires-2 : tie.Need-get-u64-requires-2
-get-u64-requires-2 c κs = long _ _ kind.Put (c .before .before .before .before .pre) (c .before .enum-told2 .given .1)
+get-u64-requires-2 c κs = omega (arith, long _ _ kind.Put (c .before .before .before .before .pre) (c .before .enum-told2 .given .1))
 
 enum-told-3 : tie.Need-enum-told-3
 enum-told-3 c = search needs

@@ -57,7 +57,7 @@ fn call(asked: Asked, area: &mut [u8], row: &mut [u32]) -> Done {
 }
 
 // The call of a record, with a row as long as the record's.
-fn carry_out(asked: Asked, bytes: &mut [u8], row: &mut [u32]) -> Done
+fn call_on(asked: Asked, bytes: &mut [u8], row: &mut [u32]) -> Done
     requires { ⌜ Lying asked × (asked .room ≡ length (now bytes)) × (asked .second + 4 + 4 * length (now row) ≤ asked .row) ⌝ }
 {
     let area = asked.area;
@@ -90,7 +90,7 @@ fn answer(bytes: &mut [u8], row: &mut [u32]) -> bool
         return false;
     }
     let counts = (asked.row - asked.second) / 4 - 1;
-    let done = carry_out(asked, bytes, &mut row[..counts]);
+    let done = call_on(asked, bytes, &mut row[..counts]);
     tell(asked, &bytes[..], done)
 }
 

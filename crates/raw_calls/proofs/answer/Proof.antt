@@ -33,16 +33,16 @@ sub-counts c = let w = lies (c .before) in omega arith
 sub-counts-2 : tie.Need-sub-counts-2
 sub-counts-2 c = let w = lies (c .before) in omega arith
 
-slice-relend-prefix-carry-out : tie.Need-slice-relend-prefix-carry-out
-slice-relend-prefix-carry-out c = let w = lies (c .before .before) in omega arith
+slice-relend-prefix-call-on : tie.Need-slice-relend-prefix-call-on
+slice-relend-prefix-call-on c = let w = lies (c .before .before) in omega arith
 
-slice-aggregate-carry-out : tie.Need-slice-aggregate-carry-out
-slice-aggregate-carry-out c = let w = lies (c .before .before .before) in sym (length-take-le _ _ (omega arith))
+slice-aggregate-call-on : tie.Need-slice-aggregate-call-on
+slice-aggregate-call-on c = let w = lies (c .before .before .before) in sym (length-take-le _ _ (omega arith))
 
-carry-out-requires : tie.Need-carry-out-requires
-carry-out-requires c κs =
+call-on-requires : tie.Need-call-on-requires
+call-on-requires c κs =
     let w = lies (c .before .before .before) in
-    (w .0, omega arith, omega (arith, slice-aggregate-carry-out c))
+    (w .0, omega arith, omega (arith, slice-aggregate-call-on c))
 
 tell-requires : tie.Need-tell-requires
 tell-requires c κs =
@@ -68,9 +68,9 @@ answer-spec =
     returns
     sub-counts
     sub-counts-2
-    slice-relend-prefix-carry-out
-    slice-aggregate-carry-out
-    carry-out-requires
+    slice-relend-prefix-call-on
+    slice-aggregate-call-on
+    call-on-requires
     tell-requires
     same-length-2
     same-length-3

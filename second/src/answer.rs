@@ -7,13 +7,16 @@ pub const WRONG_AREA: u16 = 2;
 pub const WRONG_ROW: u16 = 3;
 pub const BROKEN: u16 = 4;
 pub const ABSENT: u16 = 5;
-pub const HELD: u16 = 6;
+/// A put of a held key with the value that is held.
+pub const REPEAT: u16 = 6;
 pub const NO_ROOM: u16 = 7;
 pub const GROWN_OUT: u16 = 8;
 pub const NOT_THE_IMAGE: u16 = 9;
 pub const BAD_RECORD: u16 = 10;
 pub const CUT_OFF: u16 = 11;
 pub const TOO_MANY_PAGES: u16 = 12;
+/// A put of a held key with another value.
+pub const CLASH: u16 = 13;
 
 /// The kind of a reply.
 const REPLY_KIND: u16 = 513;
@@ -56,6 +59,17 @@ impl Answer {
         Answer {
             page: page as u16,
             ..Answer::refused(state, BROKEN, read)
+        }
+    }
+
+    /// Refused because the key of a put is held: a repeat where the held value
+    /// is offered, a clash otherwise. Both tell the held value, and no other
+    /// refusal tells one.
+    pub fn held(state: State, held: u64, offered: u64, read: usize) -> Answer {
+        let refusal = if held == offered { REPEAT } else { CLASH };
+        Answer {
+            value: held,
+            ..Answer::refused(state, refusal, read)
         }
     }
 

@@ -193,7 +193,7 @@ fn one_page() -> Result<Vec<String>, String> {
     let mut file = Trial::of_ones(1)?;
     file.put_up_to(11)?;
     let thirteenth = told(file.ask(KEY_TWELVE)?);
-    let held = told(file.ask(Call::Put { key: 5, value: 1 })?);
+    let held = told(file.ask(Call::Put { key: 5, value: 50 })?);
     Ok(vec![
         format!("cap 1, thirteenth key: {thirteenth}"),
         format!("cap 1, held key 5 (value 50) put again: {held}"),
@@ -203,7 +203,7 @@ fn one_page() -> Result<Vec<String>, String> {
 #[cfg(test)]
 mod tests {
     use super::*;
-    use crate::answer::{HELD, NO_ROOM};
+    use crate::answer::{CLASH, NO_ROOM, REPEAT};
 
     #[test]
     fn twelve_keys_then_grow() {
@@ -235,11 +235,13 @@ mod tests {
     fn one_page_alone() {
         let mut file = Trial::of_ones(1).expect("agrees");
         assert_eq!(file.put_up_to(12), Ok(NO_ROOM));
-        let held = file.ask(Call::Put { key: 5, value: 1 });
-        assert_eq!(
-            held.map(|a| (a.refusal, a.value, a.read)),
-            Ok((HELD, 50, 1))
-        );
+        for (value, refusal) in [(50, REPEAT), (1, CLASH)] {
+            let held = file.ask(Call::Put { key: 5, value });
+            assert_eq!(
+                held.map(|a| (a.refusal, a.value, a.read)),
+                Ok((refusal, 50, 1))
+            );
+        }
     }
 
     #[test]

@@ -2,11 +2,13 @@
 //!
 //! The calls follow the walks of the rules on any bytes. Two further parts
 //! don't walk: `image` lays the area out anew from a list of records, and
-//! `room` looks for an arrangement. `witness` holds every call against both.
+//! `room` looks for an arrangement. With these two `expected` says what a call
+//! on an image has to come to, and `witness` holds every call against it.
 
 pub mod answer;
 pub mod bytes;
 pub mod calls;
+pub mod expected;
 pub mod figures;
 pub mod grow;
 pub mod home;

@@ -201,6 +201,19 @@ mod tests {
         assert_eq!(answer_to(&bytes(input)), bytes(output));
     }
 
+    /// A put said again, one with another value, and what a find says then.
+    #[test]
+    fn a_repeat_and_a_clash() {
+        let put = |value: &str| format!("1400 0201 0500000000000000 {value}00000000000000");
+        let find = "0C00 0301 0500000000000000";
+        let input = format!("{FORMAT} {} {} {} {find}", put("09"), put("09"), put("08"));
+        let output = answer_to(&bytes(&input));
+        let second = "1C00 0102 0600 0000 0900000000000000 01000000 00000000 0100 0000
+            1C00 0102 0D00 0000 0900000000000000 01000000 00000000 0100 0000
+            1C00 0102 0000 0000 0900000000000000 01000000 00000000 0100 0000";
+        assert_eq!(output[2 * REPLY_BYTES..], bytes(second));
+    }
+
     #[test]
     fn stops_after_ten_and_eleven() {
         assert_eq!(refusals(""), []);

@@ -1,21 +1,12 @@
 //! Every call held against the image from scratch and the search for room.
 
-use crate::answer::{Answer, ABSENT, BROKEN, GROWN_OUT, HELD, NO_ROOM, WRONG_ROW};
+use crate::answer::{Answer, BROKEN, CLASH, NO_ROOM, REPEAT};
 use crate::calls::{call, Call};
+use crate::expected::{expect, Expected};
 use crate::home::home;
-use crate::image::{changed_page, lay_out, records_of};
+use crate::image::{changed_page, lay_out, records_of, standing};
 use crate::page::Record;
-use crate::room::fits;
 use crate::state::State;
-
-/// What a call has to come to on an image: its refusal, its value, and the
-/// records and the state that it leaves.
-struct Expected {
-    refusal: u16,
-    value: u64,
-    state: State,
-    records: Vec<Record>,
-}
 
 /// Makes a call and checks it. An error says what doesn't agree.
 pub fn witnessed(
@@ -29,6 +20,7 @@ pub fn witnessed(
     let answer = call(asked, state, area, row);
     let told = |what: String| format!("{what}: {asked:?} on {state:?} gave {answer:?}");
     refusal_changes_nothing(&answer, state, &before, area).map_err(told)?;
+    held_told_rightly(asked, &answer, &before).map_err(told)?;
     row_touched_rightly(asked, &answer, &row_before, row, area).map_err(told)?;
     if state.in_range() && before.len() == state.area_bytes() {
         against_the_image(asked, state, &before, area, row, &answer).map_err(told)?;
@@ -45,7 +37,7 @@ fn must(holds: bool, what: &str) -> Result<(), String> {
 }
 
 /// "A refusal leaves area and state unchanged; page is 0 except for 4, value
-/// 0 except for 6, moved 0."
+/// 0 except for 6, moved 0." A clash tells a value as 6 does.
 fn refusal_changes_nothing(
     answer: &Answer,
     state: State,
@@ -64,10 +56,33 @@ fn refusal_changes_nothing(
         "a page is told",
     )?;
     must(
-        answer.value == 0 || answer.refusal == HELD,
+        answer.value == 0 || [REPEAT, CLASH].contains(&answer.refusal),
         "a value is told",
     )?;
     must(answer.moved == 0, "a refusal moved something")
+}
+
+/// On any bytes, images or not: only a put repeats or clashes, the value told
+/// stands somewhere beside the key, and it is a repeat exactly where that
+/// value was offered.
+fn held_told_rightly(asked: Call, answer: &Answer, area: &[u8]) -> Result<(), String> {
+    if ![REPEAT, CLASH].contains(&answer.refusal) {
+        return Ok(());
+    }
+    let Call::Put { key, value } = asked else {
+        return must(false, "only a put is told what is held");
+    };
+    let told = Record {
+        key,
+        value: answer.value,
+    };
+    let stands = standing(area).iter().any(|(_, record)| *record == told);
+    must(stands, "the value told isn't held with the key")?;
+    let repeats = answer.refusal == REPEAT;
+    must(
+        repeats == (answer.value == value),
+        "a repeat and a clash are mixed up",
+    )
 }
 
 /// Only a grow that succeeds or finds no room may write the row, and then it
@@ -85,7 +100,7 @@ fn row_touched_rightly(
         _ => return must(before == row, "the row was touched"),
     };
     let mut counts = vec![0; row.len()];
-    for (_, record) in crate::image::standing(area) {
+    for (_, record) in standing(area) {
         counts[home(grown, record.key) as usize] += 1;
     }
     must(counts == row, "the row holds other counts")
@@ -124,144 +139,67 @@ fn answer_is(answer: &Answer, expected: &Expected) -> Result<(), String> {
     must(told == right, &what)
 }
 
-fn expect(
-    asked: Call,
-    state: State,
-    row_length: usize,
-    records: Vec<Record>,
-) -> Result<Expected, String> {
-    match asked {
-        Call::Put { key, value } => expect_put(state, records, Record { key, value }),
-        Call::Find { key } => Ok(expect_find(state, records, key)),
-        Call::Remove { key } => Ok(expect_remove(state, records, key)),
-        Call::Grow => expect_grow(state, row_length, records),
-        _ => Ok(Expected {
-            refusal: 0,
-            value: 0,
-            state,
-            records,
-        }),
-    }
-}
-
-fn held(records: &[Record], key: u64) -> Option<u64> {
-    records
-        .iter()
-        .find(|record| record.key == key)
-        .map(|record| record.value)
-}
-
-fn keys(records: &[Record]) -> Vec<u64> {
-    records.iter().map(|record| record.key).collect()
-}
-
-fn expect_put(state: State, mut records: Vec<Record>, new: Record) -> Result<Expected, String> {
-    if let Some(value) = held(&records, new.key) {
-        return Ok(Expected {
-            refusal: HELD,
-            value,
-            state,
-            records,
-        });
-    }
-    records.push(new);
-    if fits(state, &keys(&records))? {
-        return Ok(Expected {
-            refusal: 0,
-            value: 0,
-            state: state.one_more(),
-            records,
-        });
-    }
-    records.pop();
-    Ok(Expected {
-        refusal: NO_ROOM,
-        value: 0,
-        state,
-        records,
-    })
-}
-
-fn expect_find(state: State, records: Vec<Record>, key: u64) -> Expected {
-    let found = held(&records, key);
-    let refusal = if found.is_some() { 0 } else { ABSENT };
-    Expected {
-        refusal,
-        value: found.unwrap_or(0),
-        state,
-        records,
-    }
-}
-
-fn expect_remove(state: State, mut records: Vec<Record>, key: u64) -> Expected {
-    if held(&records, key).is_none() {
-        return Expected {
-            refusal: ABSENT,
-            value: 0,
-            state,
-            records,
-        };
-    }
-    records.retain(|record| record.key != key);
-    Expected {
-        refusal: 0,
-        value: 0,
-        state: state.one_less(),
-        records,
-    }
-}
-
-fn expect_grow(state: State, row_length: usize, records: Vec<Record>) -> Result<Expected, String> {
-    let refused = |refusal, records| {
-        Ok(Expected {
-            refusal,
-            value: 0,
-            state,
-            records,
-        })
-    };
-    if row_length != usize::from(state.cap) {
-        return refused(WRONG_ROW, records);
-    }
-    if state.pages == state.cap {
-        return refused(GROWN_OUT, records);
-    }
-    let grown = state.one_page_grown();
-    if fits(grown, &keys(&records))? {
-        return Ok(Expected {
-            refusal: 0,
-            value: 0,
-            state: grown,
-            records,
-        });
-    }
-    refused(NO_ROOM, records)
-}
-
 #[cfg(test)]
 mod tests {
     use super::*;
     use crate::answer::NOT_THE_IMAGE;
 
+    const STATE: State = State {
+        n0: 1,
+        groups: 1,
+        sweeps: 1,
+        pages: 1,
+        cap: 2,
+        records: 1,
+    };
+
+    /// The image of key 3 with value 4.
+    fn one_record() -> Vec<u8> {
+        lay_out(STATE, &[Record { key: 3, value: 4 }]).unwrap_or_default()
+    }
+
     #[test]
     fn a_check_of_an_image_and_of_none() {
-        let state = State {
-            n0: 1,
-            groups: 1,
-            sweeps: 1,
-            pages: 1,
-            cap: 2,
-            records: 1,
-        };
-        let one = [Record { key: 3, value: 4 }];
-        let mut area = lay_out(state, &one).unwrap_or_default();
-        let yes = witnessed(Call::Check, state, &mut area, &mut []);
+        let mut area = one_record();
+        let yes = witnessed(Call::Check, STATE, &mut area, &mut []);
         assert_eq!(yes.map(|answer| answer.refusal), Ok(0));
         let two = State {
             records: 2,
-            ..state
+            ..STATE
         };
         let no = witnessed(Call::Check, two, &mut area, &mut []);
         assert_eq!(no.map(|answer| answer.refusal), Ok(NOT_THE_IMAGE));
+    }
+
+    #[test]
+    fn a_repeat_and_a_clash_are_expected() {
+        for (value, refusal) in [(4, REPEAT), (5, CLASH), (0, CLASH)] {
+            let put = Call::Put { key: 3, value };
+            let answer = witnessed(put, STATE, &mut one_record(), &mut []);
+            assert_eq!(
+                answer.map(|told| (told.refusal, told.value)),
+                Ok((refusal, 4))
+            );
+        }
+    }
+
+    /// Answers that tell another value, mix the two up or come from another
+    /// call are noticed on any bytes.
+    #[test]
+    fn wrongly_told_values_are_noticed() {
+        let put = |value| Call::Put { key: 3, value };
+        let accepts = |asked, refusal, value| {
+            let answer = Answer {
+                value,
+                ..Answer::refused(STATE, refusal, 1)
+            };
+            held_told_rightly(asked, &answer, &one_record()).is_ok()
+        };
+        assert!(accepts(put(4), REPEAT, 4) && accepts(put(5), CLASH, 4));
+        assert!(!accepts(put(4), CLASH, 4) && !accepts(put(5), REPEAT, 4));
+        assert!(!accepts(put(5), CLASH, 5) && !accepts(put(5), CLASH, 0));
+        assert!(!accepts(put(5), REPEAT, 5));
+        assert!(!accepts(Call::Find { key: 3 }, REPEAT, 4));
+        assert!(!accepts(Call::Put { key: 2, value: 5 }, CLASH, 4));
     }
 }

@@ -1,0 +1,133 @@
+//! What a call on an image has to come to, worked out from its records alone.
+
+use crate::answer::{ABSENT, CLASH, GROWN_OUT, NO_ROOM, REPEAT, WRONG_ROW};
+use crate::calls::Call;
+use crate::page::Record;
+use crate::room::fits;
+use crate::state::State;
+
+/// The refusal and the value of an answer, and the records and the state that
+/// the call leaves.
+pub struct Expected {
+    pub refusal: u16,
+    pub value: u64,
+    pub state: State,
+    pub records: Vec<Record>,
+}
+
+/// Works it out without walking or judging a page. An error tells that the
+/// two ways of looking for room disagree.
+pub fn expect(
+    asked: Call,
+    state: State,
+    row_length: usize,
+    records: Vec<Record>,
+) -> Result<Expected, String> {
+    match asked {
+        Call::Put { key, value } => expect_put(state, records, Record { key, value }),
+        Call::Find { key } => Ok(expect_find(state, records, key)),
+        Call::Remove { key } => Ok(expect_remove(state, records, key)),
+        Call::Grow => expect_grow(state, row_length, records),
+        _ => Ok(Expected {
+            refusal: 0,
+            value: 0,
+            state,
+            records,
+        }),
+    }
+}
+
+fn held(records: &[Record], key: u64) -> Option<u64> {
+    records
+        .iter()
+        .find(|record| record.key == key)
+        .map(|record| record.value)
+}
+
+fn keys(records: &[Record]) -> Vec<u64> {
+    records.iter().map(|record| record.key).collect()
+}
+
+fn expect_put(state: State, mut records: Vec<Record>, new: Record) -> Result<Expected, String> {
+    if let Some(value) = held(&records, new.key) {
+        let repeats = records.contains(&new);
+        return Ok(Expected {
+            refusal: if repeats { REPEAT } else { CLASH },
+            value,
+            state,
+            records,
+        });
+    }
+    records.push(new);
+    if fits(state, &keys(&records))? {
+        return Ok(Expected {
+            refusal: 0,
+            value: 0,
+            state: state.one_more(),
+            records,
+        });
+    }
+    records.pop();
+    Ok(Expected {
+        refusal: NO_ROOM,
+        value: 0,
+        state,
+        records,
+    })
+}
+
+fn expect_find(state: State, records: Vec<Record>, key: u64) -> Expected {
+    let found = held(&records, key);
+    let refusal = if found.is_some() { 0 } else { ABSENT };
+    Expected {
+        refusal,
+        value: found.unwrap_or(0),
+        state,
+        records,
+    }
+}
+
+fn expect_remove(state: State, mut records: Vec<Record>, key: u64) -> Expected {
+    if held(&records, key).is_none() {
+        return Expected {
+            refusal: ABSENT,
+            value: 0,
+            state,
+            records,
+        };
+    }
+    records.retain(|record| record.key != key);
+    Expected {
+        refusal: 0,
+        value: 0,
+        state: state.one_less(),
+        records,
+    }
+}
+
+fn expect_grow(state: State, row_length: usize, records: Vec<Record>) -> Result<Expected, String> {
+    let refused = |refusal, records| {
+        Ok(Expected {
+            refusal,
+            value: 0,
+            state,
+            records,
+        })
+    };
+    if row_length != usize::from(state.cap) {
+        return refused(WRONG_ROW, records);
+    }
+    if state.pages == state.cap {
+        return refused(GROWN_OUT, records);
+    }
+    let grown = state.one_page_grown();
+    if fits(grown, &keys(&records))? {
+        return Ok(Expected {
+            refusal: 0,
+            value: 0,
+            state: grown,
+            records,
+        });
+    }
+    refused(NO_ROOM, records)
+}

@@ -3,16 +3,18 @@
 use crate::breaks::break_page;
 use crate::chains::chain;
 use crate::files::{image, parameters, File};
+use crate::held::held_again;
 use crate::loose::{loosen, scatter, wrong_count};
 use crate::random::Random;
 use crate::sink::Sink;
+use crate::values::offered;
 use crate::wrong::{wrong_format, wrong_length, wrong_row, wrong_state};
 use second::page::PAGE_BYTES;
 use second::raw::Case;
 
 /// Generates one scene: a file and some calls on it.
 pub fn scene(random: &mut Random, sink: &mut Sink) -> Result<(), String> {
-    match random.index(40) {
+    match random.index(43) {
         0..=2 => chain(random, sink),
         3..=8 => {
             let mut file = image(random);
@@ -25,7 +27,8 @@ pub fn scene(random: &mut Random, sink: &mut Sink) -> Result<(), String> {
         28..=33 => scattered(random, sink),
         34..=35 => mismatched(random, sink),
         36 => noise(random, sink),
-        _ => formats(random, sink),
+        37..=39 => formats(random, sink),
+        _ => held_again(random, sink),
     }
 }
 
@@ -42,10 +45,13 @@ pub fn call_of(random: &mut Random, file: &mut File, kind: u16) -> Case {
         random.index(3)
     };
     let row = (0..entries).map(|_| random.next() as u32).collect();
-    let (a, b) = match kind {
-        258 => (file.some_key(random), random.value()),
-        259 | 260 => (file.some_key(random), 0),
-        _ => (0, 0),
+    let a = match kind {
+        258..=260 => file.some_key(random),
+        _ => 0,
+    };
+    let b = match kind {
+        258 => offered(random, &file.area, a),
+        _ => 0,
     };
     Case {
         kind,

@@ -5,6 +5,7 @@ use crate::files::{parameters, parameters_for};
 use crate::keys::{key_with_home, Keys};
 use crate::random::Random;
 use crate::sink::Sink;
+use crate::values::offered;
 use second::raw::Case;
 use second::state::State;
 
@@ -100,7 +101,11 @@ impl Life {
             }
             let kind = self.next_kind(random, mood);
             let key = self.next_key(random, kind);
-            let value = if kind == 258 { random.value() } else { 0 };
+            let value = if kind == 258 {
+                offered(random, &self.area, key)
+            } else {
+                0
+            };
             self.ask(kind, key, value, sink)?;
         }
         Ok(())

@@ -2,8 +2,9 @@
 
 use crate::keys::{key_with_home, Keys};
 use crate::random::Random;
+use second::bytes::two;
 use second::image::page_bytes;
-use second::page::Record;
+use second::page::{Record, PAGE_BYTES, SLOTS};
 use second::put::put;
 use second::state::State;
 
@@ -81,13 +82,7 @@ fn aim(random: &mut Random, state: State) -> u64 {
 /// An image of a random filling.
 pub fn image(random: &mut Random) -> File {
     let state = parameters(random);
-    let keys = Keys::new(random, state);
-    let mut file = File {
-        state,
-        area: empty_area(state),
-        held: Vec::new(),
-        keys,
-    };
+    let mut file = File::empty(random, state);
     let aim = aim(random, state);
     for _ in 0..aim {
         let key = file.keys.draw(random, state);
@@ -102,7 +97,51 @@ pub fn image(random: &mut Random) -> File {
     file
 }
 
+/// A run of three full pages or more from one home up, and its last page.
+pub fn long_run(random: &mut Random) -> (File, usize) {
+    let cap = random.within(3, 9);
+    let state = parameters_for(random, cap as u16);
+    let home = random.within(0, u64::from(state.pages - 1).min(cap - 3));
+    let last = random.within(home + 2, cap - 1) as usize;
+    let mut file = File::empty(random, state);
+    // Keys of that home aren't always found, so some tries go elsewhere.
+    for _ in 0..4 * state.most_records() {
+        if file.full_page(last) {
+            break;
+        }
+        let key = key_with_home(random, state, home);
+        file.add(random, key);
+    }
+    (file, last)
+}
+
 impl File {
+    fn empty(random: &mut Random, state: State) -> File {
+        File {
+            state,
+            area: empty_area(state),
+            held: Vec::new(),
+            keys: Keys::new(random, state),
+        }
+    }
+
+    fn full_page(&self, address: usize) -> bool {
+        let head = &self.area[PAGE_BYTES * address..];
+        usize::from(two(head, 8)) == SLOTS
+    }
+
+    /// Adds keys of the lowest home until no slot is left, or nearly so where
+    /// such keys are hard to find.
+    pub fn fill_up(&mut self, random: &mut Random) {
+        for _ in 0..4 * self.state.most_records() {
+            if self.state.at_most_records() {
+                return;
+            }
+            let key = key_with_home(random, self.state, 0);
+            self.add(random, key);
+        }
+    }
+
     fn add(&mut self, random: &mut Random, key: u64) {
         let value = random.value();
         let answer = put(self.state, &mut self.area, Record { key, value });

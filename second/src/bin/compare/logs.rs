@@ -1,9 +1,8 @@
 //! Logs: sessions of commands, right and wrong, whole and cut off.
 
-use crate::files::parameters_for;
-use crate::keys::{extreme, Keys};
+use crate::keys::extreme;
 use crate::random::Random;
-use second::state::State;
+use crate::session::{command, format, put_again, session};
 
 /// Heads that the program has to refuse with 10: kinds and lengths.
 const WRONG_HEADS: [(u16, u16); 34] = [
@@ -43,20 +42,6 @@ const WRONG_HEADS: [(u16, u16); 34] = [
     (12, 262),
 ];
 
-fn command(kind: u16, body: &[u64]) -> Vec<u8> {
-    let mut bytes = Vec::new();
-    bytes.extend((4 + 8 * body.len() as u16).to_le_bytes());
-    bytes.extend(kind.to_le_bytes());
-    bytes.extend(body.iter().flat_map(|number| number.to_le_bytes()));
-    bytes
-}
-
-fn format(numbers: [u16; 4]) -> Vec<u8> {
-    let mut bytes = vec![12, 0, 1, 1];
-    bytes.extend(numbers.iter().flat_map(|number| number.to_le_bytes()));
-    bytes
-}
-
 /// The log of this number.
 pub fn log(seed: u64, number: u64) -> Vec<u8> {
     let mut random = Random::new(seed, number ^ (1 << 60));
@@ -71,6 +56,7 @@ pub fn log(seed: u64, number: u64) -> Vec<u8> {
         3 => noise(&mut random),
         4 => before_a_format(&mut random),
         5 => large(&mut random),
+        6 => put_again(&mut random),
         _ => sensible(&mut random),
     }
 }
@@ -185,86 +171,4 @@ fn sensible(random: &mut Random) -> Vec<u8> {
         bytes.truncate(length);
     }
     bytes
-}
-
-/// A format and commands after it: phases of filling, growing, emptying and
-/// mixed ones, as many as the number of commands lasts for.
-fn session(random: &mut Random, cap: u64, commands: u64) -> Vec<u8> {
-    let mut state = parameters_for(random, cap as u16);
-    state.pages = state.n0 * state.groups;
-    let mut bytes = format([state.n0, state.groups, state.sweeps, state.cap]);
-    let mut phase = Phase {
-        keys: Keys::new(random, state),
-        state,
-        put: Vec::new(),
-        weights: [0; 5],
-    };
-    for left in (0..commands).rev() {
-        if left == commands - 1 || random.one_in(40) {
-            phase.weights = random.pick(&PHASES);
-        }
-        bytes.extend(phase.command(random));
-    }
-    bytes
-}
-
-/// How often, of a hundred, each phase puts, finds, removes, grows, checks.
-const PHASES: [[u64; 5]; 5] = [
-    [88, 4, 2, 4, 2],
-    [70, 5, 3, 20, 2],
-    [8, 4, 82, 2, 4],
-    [40, 15, 30, 10, 5],
-    [40, 2, 2, 54, 2],
-];
-
-struct Phase {
-    state: State,
-    keys: Keys,
-    put: Vec<u64>,
-    weights: [u64; 5],
-}
-
-impl Phase {
-    fn command(&mut self, random: &mut Random) -> Vec<u8> {
-        let mut ticket = random.within(0, 99);
-        let mut chosen = 0;
-        while chosen < 4 && ticket >= self.weights[chosen] {
-            ticket -= self.weights[chosen];
-            chosen += 1;
-        }
-        match chosen {
-            0 => self.put(random),
-            1 => command(259, &[self.key(random)]),
-            2 => command(260, &[self.forget(random)]),
-            3 => command(261, &[]),
-            _ => command(262, &[]),
-        }
-    }
-
-    fn put(&mut self, random: &mut Random) -> Vec<u8> {
-        let again = random.one_in(10);
-        let key = if again {
-            self.key(random)
-        } else {
-            self.keys.draw(random, self.state)
-        };
-        self.put.push(key);
-        command(258, &[key, random.value()])
-    }
-
-    /// A key that was put, or another one.
-    fn key(&mut self, random: &mut Random) -> u64 {
-        if self.put.is_empty() || random.one_in(5) {
-            return self.keys.draw(random, self.state);
-        }
-        random.pick(&self.put)
-    }
-
-    fn forget(&mut self, random: &mut Random) -> u64 {
-        if self.put.is_empty() || random.one_in(10) {
-            return self.key(random);
-        }
-        let at = random.index(self.put.len());
-        self.put.swap_remove(at)
-    }
 }

@@ -1,0 +1,183 @@
+//! Sessions of sensible commands, for logs.
+
+use crate::files::parameters_for;
+use crate::keys::Keys;
+use crate::random::Random;
+use crate::values::{again, other};
+use second::state::State;
+
+pub fn command(kind: u16, body: &[u64]) -> Vec<u8> {
+    let mut bytes = Vec::new();
+    bytes.extend((4 + 8 * body.len() as u16).to_le_bytes());
+    bytes.extend(kind.to_le_bytes());
+    bytes.extend(body.iter().flat_map(|number| number.to_le_bytes()));
+    bytes
+}
+
+pub fn format(numbers: [u16; 4]) -> Vec<u8> {
+    let mut bytes = vec![12, 0, 1, 1];
+    bytes.extend(numbers.iter().flat_map(|number| number.to_le_bytes()));
+    bytes
+}
+
+/// A fresh file of so many lent pages, and the command that asks for it.
+fn fresh(random: &mut Random, cap: u64) -> (State, Vec<u8>) {
+    let mut state = parameters_for(random, cap as u16);
+    state.pages = state.n0 * state.groups;
+    let asked = format([state.n0, state.groups, state.sweeps, state.cap]);
+    (state, asked)
+}
+
+/// A format and commands after it: phases of filling, growing, emptying and
+/// mixed ones, as many as the number of commands lasts for.
+pub fn session(random: &mut Random, cap: u64, commands: u64) -> Vec<u8> {
+    let (state, mut bytes) = fresh(random, cap);
+    let mut phase = Phase {
+        keys: Keys::new(random, state),
+        state,
+        put: Vec::new(),
+        weights: [0; 5],
+    };
+    for left in (0..commands).rev() {
+        if left == commands - 1 || random.one_in(40) {
+            phase.weights = random.pick(&PHASES);
+        }
+        bytes.extend(phase.command(random));
+    }
+    bytes
+}
+
+/// A file filled with keys of the lowest home, half the time to its last
+/// slot, whose keys are then put again: with their values, with others, and
+/// with others once they were removed.
+pub fn put_again(random: &mut Random) -> Vec<u8> {
+    let cap = random.within(1, 4);
+    let (state, mut bytes) = fresh(random, cap);
+    let missing = if random.one_in(2) {
+        0
+    } else {
+        random.within(1, 12 * cap - 1)
+    };
+    let mut held: Vec<(u64, u64)> = (0..12 * cap - missing)
+        .map(|number| (number * state.start_pages(), random.value()))
+        .collect();
+    for &(key, value) in &held {
+        bytes.extend(command(258, &[key, value]));
+    }
+    for _ in 0..random.within(4, 40) {
+        let at = random.index(held.len());
+        let (key, value) = held[at];
+        bytes.extend(match random.index(10) {
+            0 => command(259, &[key]),
+            1 => command(261, &[]),
+            2 => {
+                held[at].1 = other(random, value);
+                [command(260, &[key]), command(258, &[key, held[at].1])].concat()
+            }
+            _ => command(258, &[key, again(random, value)]),
+        });
+    }
+    bytes
+}
+
+/// How often, of a hundred, each phase puts, finds, removes, grows, checks.
+const PHASES: [[u64; 5]; 5] = [
+    [88, 4, 2, 4, 2],
+    [70, 5, 3, 20, 2],
+    [8, 4, 82, 2, 4],
+    [40, 15, 30, 10, 5],
+    [40, 2, 2, 54, 2],
+];
+
+struct Phase {
+    state: State,
+    keys: Keys,
+    /// The keys that were put and not removed since, each with the value it
+    /// was first put with. Some of them found no room.
+    put: Vec<(u64, u64)>,
+    weights: [u64; 5],
+}
+
+impl Phase {
+    fn command(&mut self, random: &mut Random) -> Vec<u8> {
+        let mut ticket = random.within(0, 99);
+        let mut chosen = 0;
+        while chosen < 4 && ticket >= self.weights[chosen] {
+            ticket -= self.weights[chosen];
+            chosen += 1;
+        }
+        match chosen {
+            0 => self.put(random),
+            1 => command(259, &[self.key(random)]),
+            2 => command(260, &[self.forget(random)]),
+            3 => command(261, &[]),
+            _ => command(262, &[]),
+        }
+    }
+
+    fn put(&mut self, random: &mut Random) -> Vec<u8> {
+        let again = random.one_in(10);
+        let key = if again {
+            self.key(random)
+        } else {
+            self.keys.draw(random, self.state)
+        };
+        command(258, &[key, self.value(random, key)])
+    }
+
+    /// For a key that was put its value or another one, for a new one any.
+    fn value(&mut self, random: &mut Random, key: u64) -> u64 {
+        if let Some(&(_, value)) = self.put.iter().find(|(put, _)| *put == key) {
+            return again(random, value);
+        }
+        let value = random.value();
+        self.put.push((key, value));
+        value
+    }
+
+    /// A key that was put, or another one.
+    fn key(&mut self, random: &mut Random) -> u64 {
+        if self.put.is_empty() || random.one_in(5) {
+            return self.keys.draw(random, self.state);
+        }
+        random.pick(&self.put).0
+    }
+
+    fn forget(&mut self, random: &mut Random) -> u64 {
+        if self.put.is_empty() || random.one_in(10) {
+            return self.key(random);
+        }
+        let at = random.index(self.put.len());
+        self.put.swap_remove(at).0
+    }
+}
+
+#[cfg(test)]
+mod tests {
+    use super::*;
+    use crate::table::Table;
+    use second::bytes::two;
+    use second::log::REPLY_BYTES;
+
+    /// Keys put again are told to be held, as repeats and as clashes, and all
+    /// others find room.
+    #[test]
+    fn what_is_put_again_is_held() {
+        let mut table = Table::default();
+        for piece in 0..40 {
+            let input = put_again(&mut Random::new(5, piece));
+            let mut output = Vec::new();
+            assert!(second::log::run(&mut &input[..], &mut output).is_ok());
+            let mut rest = &input[..];
+            for reply in output.chunks_exact(REPLY_BYTES) {
+                table.count(two(rest, 2), two(reply, 4));
+                rest = &rest[usize::from(two(rest, 0))..];
+            }
+            assert!(rest.is_empty());
+        }
+        let put: [(u16, &[u16]); 1] = [(258, &[0, 6, 13])];
+        assert_eq!(table.missing(&put), []);
+        let beyond = table.beyond(&put);
+        assert!(beyond.iter().all(|&(kind, _)| kind != 258), "{beyond:?}");
+    }
+}

@@ -25,13 +25,15 @@ static const char *words(uint32_t refusal) {
     case REEFCUSHION_ABSENT:
         return "absent";
     case REEFCUSHION_HELD:
-        return "already held";
+        return "held already";
     case REEFCUSHION_NO_ROOM:
         return "no room";
     case REEFCUSHION_AT_CAP:
         return "all lent pages are grown to";
     case REEFCUSHION_NOT_IMAGE:
         return "the count or the image is wrong";
+    case REEFCUSHION_CLASH:
+        return "clash";
     case REEFCUSHION_NO_SLIP:
         return "the slip isn't 40 bytes";
     default:
@@ -45,7 +47,9 @@ static void say(const struct reefcushion_slip *told, uint32_t refusal) {
     if (refusal == REEFCUSHION_BROKEN)
         printf(", page %u", told->page);
     if (refusal == REEFCUSHION_HELD)
-        printf(", commit %llu", (unsigned long long)told->value);
+        printf(", as commit %llu", (unsigned long long)told->value);
+    if (refusal == REEFCUSHION_CLASH)
+        printf(": commit %llu is held", (unsigned long long)told->value);
     if (refusal != REEFCUSHION_NO_SLIP)
         printf(" (%u read, %u moved)", told->read, told->moved);
     printf("\n");
@@ -107,8 +111,10 @@ int main(void) {
     for (uint64_t i = 1; i <= 4; i++)
         put(70000 + i, 600 + i);
 
-    printf("A retry is told its commit, whatever it offers:\n");
+    printf("A retry is told its commit, and that another one was offered:\n");
+    put(1004, 504);
     put(1004, 999);
+    find(1004);
     find(70002);
     find(1007);
 
@@ -118,6 +124,8 @@ int main(void) {
     find(1001);
     check(&slip);
     check(&older);
+    printf("put 1002 by the older state");
+    say(&older, reefcushion_put(&older, sizeof older, area, sizeof area, 1002, 999));
 
     printf("A row that isn't there, no page left to grow to, a broken page:\n");
     grow(NULL, 0);

@@ -42,7 +42,7 @@ struct reefcushion_slip {
     uint16_t zero;    /* not read; written as 0 */
     uint32_t records; /* r, records held, at most 12 x cap */
     /* the answer */
-    uint64_t value;   /* the commit: of an accepted find, and of refusal 6; else 0 */
+    uint64_t value;   /* the commit that is held: of an accepted find, and of refusals 6 and 13; else 0 */
     uint32_t read;    /* how many pages were looked at */
     uint32_t moved;   /* put, remove: how often a held record went to a neighbouring page; grow: records whose page
                          differs; else 0 */
@@ -72,10 +72,11 @@ enum reefcushion_refusal {
     REEFCUSHION_WRONG_ROW = 3,    /* the row isn't cap counts */
     REEFCUSHION_BROKEN = 4,       /* a page that was looked at is broken; its address is in `page` */
     REEFCUSHION_ABSENT = 5,       /* the key isn't held */
-    REEFCUSHION_HELD = 6,         /* the key is held already; its value is in `value` */
+    REEFCUSHION_HELD = 6,         /* a repeat: the key is held already, with the value offered; it is in `value` too */
     REEFCUSHION_NO_ROOM = 7,      /* no room on the lent pages, each record at its home page or a higher one */
     REEFCUSHION_AT_CAP = 8,       /* all lent pages are grown to */
     REEFCUSHION_NOT_IMAGE = 9,    /* the count, or the order of the records on the pages, is wrong */
+    REEFCUSHION_CLASH = 13,       /* a clash: the key is held with another value, which is in `value` */
     REEFCUSHION_NO_SLIP = 100     /* slip_bytes isn't 40: nothing is done, and nothing written, the slip included */
 };
 
@@ -87,7 +88,8 @@ uint32_t reefcushion_format(void *slip, size_t slip_bytes, void *area, size_t ar
 /* The value of a key, in `value`. 100, 1, 2, then 4 or 5. */
 uint32_t reefcushion_find(void *slip, size_t slip_bytes, const void *area, size_t area_bytes, uint64_t key);
 
-/* A record more. A held key keeps its value, whatever is offered. 100, 1, 2, then 4, 6 or 7, then 9. */
+/* A record more. A held key keeps its value, whatever is offered: a repeat of what was put is told apart (6) from a key
+   that is used for a second value (13), and both have the value held. 100, 1, 2, then 4, 6, 7 or 13, then 9. */
 uint32_t reefcushion_put(void *slip, size_t slip_bytes, void *area, size_t area_bytes, uint64_t key, uint64_t value);
 
 /* A record less. 100, 1, 2, then 4 or 5, then 9. */

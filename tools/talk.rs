@@ -81,13 +81,14 @@ fn refusal(reply: &[u8]) -> String {
         3 => String::from("the row has another length"),
         4 => format!("page {} is broken", number(reply, 6, 2)),
         5 => String::from("absent"),
-        6 => format!("already held, as commit {}", number(reply, 8, 8)),
+        6 => format!("held already, as commit {}", number(reply, 8, 8)),
         7 => String::from("no room"),
         8 => String::from("the file has grown to all of its pages"),
         9 => String::from("the count or the image is wrong"),
         10 => String::from("the program doesn't know this record"),
         11 => String::from("the input ended within a record"),
         12 => String::from("more than 128 pages asked"),
+        13 => format!("clash: commit {} is held", number(reply, 8, 8)),
         other => format!("an unknown number, {other}"),
     }
 }

@@ -125,9 +125,10 @@ uint32_t baseline_put(struct reefcushion_slip *slip, uint8_t *area, size_t bytes
     struct chain chain;
     uint32_t refusal = arrive(&walk, slip, area, bytes, key);
     if (refusal == REEFCUSHION_ACCEPTED) {
-        answer(slip, &walk, REEFCUSHION_HELD);
-        slip->value = value_at(&walk, area);
-        return REEFCUSHION_HELD;
+        uint64_t held = value_at(&walk, area);
+        refusal = answer(slip, &walk, held == value ? REEFCUSHION_HELD : REEFCUSHION_CLASH);
+        slip->value = held;
+        return refusal;
     }
     if (refusal != REEFCUSHION_ABSENT)
         return refusal;

@@ -66,7 +66,7 @@ static uint32_t put(const struct record *records, uint32_t count) {
         uint32_t refusal = put_record(records[i]);
         if (refusal == REEFCUSHION_ACCEPTED)
             stored++;
-        else if (refusal != REEFCUSHION_HELD)
+        else if (refusal != REEFCUSHION_CLASH) // a key is offered again with another value only
             fail(store->name, "a put was refused");
     }
     return stored;

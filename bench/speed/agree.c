@@ -49,12 +49,14 @@ static uint64_t key_in_style(uint32_t style, uint32_t i, uint32_t start) {
     }
 }
 
+// Most keys are put with a value of their own, so that a held key is offered its value again, or another, about as often.
 static struct asked right_for_the_file(void) {
     const struct reefcushion_slip *slip = &plain.slip;
+    const uint64_t key = pool[below(pool_size)];
     return (struct asked){.bytes = page_start(slip->cap),
                           .counts = slip->cap,
-                          .key = pool[below(pool_size)],
-                          .value = any(),
+                          .key = key,
+                          .value = one_in(4) ? any() : ~key,
                           .n0 = slip->n0,
                           .groups = slip->groups,
                           .sweeps = slip->sweeps,

@@ -31,7 +31,7 @@ uint32_t ask(enum call call, const struct asked *asked);
 // Makes each call with a slip of another length and ends the program where it does anything.
 void ask_with_wrong_slip(const struct asked *asked);
 
-// Prints how often each call gave each refusal; whether all that the scope's table gives were seen, in either way.
+// Prints how often each call gave each refusal; whether all that the calls give were seen, in either way.
 bool tell_what_was_seen(void);
 
 // A file's pages and numbers as no call leaves them.

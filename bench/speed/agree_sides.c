@@ -6,17 +6,19 @@
 #include "../common/grouped.h"
 #include "agree.h"
 
-enum { REFUSALS = 10 };
+// The answers that calls give, by number; 10 to 12 are the log's own.
+enum { ANSWERS = 11, LARGEST = 13 };
+static const uint32_t answers[ANSWERS] = {0, 1, 2, 3, 4, 5, 6, 7, 8, 9, LARGEST};
 struct side ours, plain;
 unsigned long calls_made;
 static const char *const names[CALLS] = {"format", "find", "put", "remove", "grow", "check", "due"};
-static unsigned long seen[2][CALLS][REFUSALS]; // by the way that the plain side worked
+static unsigned long seen[2][CALLS][LARGEST + 1]; // by the way that the plain side worked
 
-// The refusals of the scope's table, by call, as bits; for due its two answers.
+// The refusals that each call gives by the documents, as bits; for due its two answers.
 static const unsigned expected[CALLS] = {
     1 << 0 | 1 << 1 | 1 << 2,
     1 << 0 | 1 << 1 | 1 << 2 | 1 << 4 | 1 << 5,
-    1 << 0 | 1 << 1 | 1 << 2 | 1 << 4 | 1 << 6 | 1 << 7 | 1 << 9,
+    1 << 0 | 1 << 1 | 1 << 2 | 1 << 4 | 1 << 6 | 1 << 7 | 1 << 9 | 1 << 13,
     1 << 0 | 1 << 1 | 1 << 2 | 1 << 4 | 1 << 5 | 1 << 9,
     1 << 0 | 1 << 1 | 1 << 2 | 1 << 3 | 1 << 4 | 1 << 7 | 1 << 8 | 1 << 9,
     1 << 0 | 1 << 1 | 1 << 2 | 1 << 4 | 1 << 9,
@@ -81,8 +83,8 @@ static void compare_sides(enum call call, uint32_t left, uint32_t right, size_t 
 uint32_t ask(enum call call, const struct asked *asked) {
     uint32_t left = ask_ours(call, asked, &ours.slip, sizeof ours.slip), right = ask_plain(call, asked);
     compare_sides(call, left, right, asked->bytes);
-    if (right >= REFUSALS)
-        differ(call, "a refusal that no call gives", left, right);
+    if (right > LARGEST || !(expected[call] >> right & 1))
+        differ(call, "a refusal that the call doesn't give", left, right);
     seen[asked->in_step][call][right]++;
     calls_made++;
     return right;
@@ -103,32 +105,30 @@ void ask_with_wrong_slip(const struct asked *asked) {
     }
 }
 
-// A cell of the table; whether it was reached in both ways if the scope's table has it, and in none otherwise.
+// A cell of the table; whether it was reached in both ways if the call gives that answer.
 static bool tell_cell(enum call call, uint32_t refusal) {
     unsigned long key_by_key = seen[false][call][refusal], in_step = seen[true][call][refusal];
     bool given = expected[call] >> refusal & 1;
-    if (given || key_by_key || in_step)
+    if (given)
         printf(" %s |", grouped((double)(key_by_key + in_step)));
     else
         printf("  |");
-    return given ? key_by_key && in_step : !key_by_key && !in_step;
+    return !given || (key_by_key && in_step);
 }
 
 bool tell_what_was_seen(void) {
     bool all = true;
-    puts("| call | 0 | 1 | 2 | 3 | 4 | 5 | 6 | 7 | 8 | 9 |");
-    puts("|---|--:|--:|--:|--:|--:|--:|--:|--:|--:|--:|");
+    puts("| call | 0 | 1 | 2 | 3 | 4 | 5 | 6 | 7 | 8 | 9 | 13 |");
+    puts("|---|--:|--:|--:|--:|--:|--:|--:|--:|--:|--:|--:|");
     for (int call = 0; call < CALLS; call++) {
         printf("| %s |", names[call]);
-        for (uint32_t refusal = 0; refusal < REFUSALS; refusal++)
-            all &= tell_cell(call, refusal);
+        for (uint32_t i = 0; i < ANSWERS; i++)
+            all &= tell_cell(call, answers[i]);
         puts("");
     }
     if (all)
-        puts("\nNothing differed. Every answer that the scope's table gives was met with either way of C, and no "
-             "other.");
+        puts("\nNothing differed. Every answer that a call gives was met with either way of C, and no other.");
     else
-        puts("\nNothing differed, but with one way of C an answer of the scope's table wasn't met, or one was met that "
-             "it doesn't give.");
+        puts("\nNothing differed, but with one way of C an answer that a call gives wasn't met.");
     return all;
 }

@@ -194,9 +194,11 @@ fn one_page() -> Result<Vec<String>, String> {
     file.put_up_to(11)?;
     let thirteenth = told(file.ask(KEY_TWELVE)?);
     let held = told(file.ask(Call::Put { key: 5, value: 50 })?);
+    let clash = told(file.ask(Call::Put { key: 5, value: 1 })?);
     Ok(vec![
         format!("cap 1, thirteenth key: {thirteenth}"),
         format!("cap 1, held key 5 (value 50) put again: {held}"),
+        format!("cap 1, held key 5 (value 50) put with value 1: {clash}"),
     ])
 }
 

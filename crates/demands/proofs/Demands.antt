@@ -1,8 +1,8 @@
 -- The demands, proved: of any file after a fresh history (`Fresh`).
 use mathlib.Core.Path.{_≡_, refl, sym, ap, _∙_}
-use mathlib.Core.Logic.{_↔_, _⊎_, ⊎-elim}
+use mathlib.Core.Logic.{_↔_, _⊎_, inl, inr, ⊎-elim}
 use mathlib.Core.Option.{Option, none, some}
-use mathlib.Core.List.{List, _∷_}
+use mathlib.Core.List.{List, [], _∷_}
 use Prim.Native.Nat.{ℕ}
 use native.Mathlib.Omega.{arith}
 use Rattle.placing.specs.Image.{Image}
@@ -10,17 +10,19 @@ use Rattle.placing.specs.Rows.{counts}
 use Rattle.placing.proofs.Images.{one-image}
 use Rattle.placing.proofs.Perms.{perm-length}
 use Rattle.placing.proofs.Seek.{clash}
-use Rattle.pages.specs.Page.{Record, key, homeFor}
+use Rattle.pages.specs.Page.{Record, key, value, homeFor}
 use Rattle.state.specs.State.{homes, grown}
 use Rattle.register.specs.Files.{Call, find, put, remove, grow, due, File, Left, left, numbersOf}
 use Rattle.demands.specs.Histories.{refusal, Kept, stateOf, commitOf}
-use Rattle.demands.specs.Demands.{Fresh, Tells, Row, Found, Retried, Removed, Sound, TheImage, RoomPut, RoomGrow, Counted, Agree, AfterFresh, Demands}
+use Rattle.demands.specs.Demands.{Fresh, Tells, Row, Found, PutTold, Retried, Removed, Sound, TheImage, RoomPut, RoomGrow, Counted, Agree, AfterFresh, Demands}
+use Rattle.demands.specs.Refusals.{OneOf}
 use Rattle.demands.specs.ReadMoved.{ReadHeld, ReadAbsent, ReadWithin, Moved}
+use Rattle.demands.proofs.InOrder.{none-of}
 use Rattle.demands.proofs.OnImage.{on-clean}
 use Rattle.demands.proofs.Sets.{set-put, same-records}
 use Rattle.demands.proofs.Standing.{Stands, fileOf, find-held, find-absent, remove-absent, remove-held, put-full, put-new}
 use Rattle.demands.proofs.Unchanged.{total}
-use Rattle.demands.proofs.Steps.{Step, refused, accepted, said, plain-number, Puts, was, turned-away, joined, Grows, other-row, at-cap, crowded, larger, room-told, grow-no-room, grow-with-room, put-comes, grow-comes, check-stands, due-stands, step, history}
+use Rattle.demands.proofs.Steps.{Step, refused, accepted, said, plain-number, Puts, repeats, clashes, turned-away, joined, Grows, other-row, at-cap, crowded, larger, room-told, grow-no-room, grow-with-room, put-comes, grow-comes, check-stands, due-stands, step, history}
 use Rattle.demands.proofs.ReadMoved.{read-held-stands, read-absent-stands, read-within-stands, moved-stands}
 
 -- after a fresh history the file is the image of what is kept
@@ -62,19 +64,36 @@ module _ (m : Kept) (ps : List (List Record)) (s : Stands m ps) where
           let n : refusal f (find k) ≡ 5 = number (find-absent s k l e .1) in
           ((λ v. (λ t. absurd (omega (arith, t .0)), λ q. absurd (clash (sym e ∙ q)))), (λ z. e, λ z. n))
 
+  -- a put of what isn't held
+  told-new : (x : Record) → commitOf (key x) (m .held) ≡ none → (OneOf (refusal f (put x)) (0 ∷ 7 ∷ [])) → PutTold m f x
+  told-new x e n =
+      let apart : (k : ℕ) → (OneOf k (0 ∷ 7 ∷ []) → ⊥) → refusal f (put x) ≡ k → ⊥ = λ k d q. d (rw q at n) in
+      let six = apart 6 (none-of 6 (0 ∷ 7 ∷ []) refl) in
+      let thirteen = apart 13 (none-of 13 (0 ∷ 7 ∷ []) refl) in
+      record {
+        repeat = λ w. (λ t. absurd (six (t .0)), λ t. absurd (clash (sym e ∙ t .0)));
+        clash = λ w. (λ t. absurd (thirteen (t .0)), λ t. absurd (clash (sym e ∙ t .0)));
+        neither = (λ z. e, λ z. (six, thirteen));
+      }
+
   retried-stands : Retried m f
-  retried-stands x fits w = go (put-comes s x fits)
+  retried-stands x fits = go (put-comes s x fits)
     where
-      Same : Type 0
-      Same = Tells f (put x) 6 w ↔ (commitOf (key x) (m .held) ≡ some w)
-
-      other : commitOf (key x) (m .held) ≡ none → (refusal f (put x) ≡ 6 → ⊥) → Same
-      other e n = (λ t. absurd (n (t .0)), λ q. absurd (clash (sym e ∙ q)))
-
-      go : Puts m ps x → Same
-      go (was c n e a) = (λ t. told e .0 (sym (commit a) ∙ t .1), λ q. (number a, commit a ∙ told e .1 q))
-      go (turned-away n e a) = other e (λ z. omega (arith, number a))
-      go (joined e a) = other e (λ z. omega (arith, number (a .left)))
+      go : Puts m ps x → PutTold m f x
+      go (repeats c n e o a) =
+          record {
+            repeat = λ w. (λ t. let q : c ≡ w = sym (commit a) ∙ t .1 in (told e .0 q, o ∙ q), λ t. (number a, commit a ∙ told e .1 (t .0)));
+            clash = λ w. (λ t. absurd (omega (arith, number a, t .0)), λ t. absurd (t .1 (o ∙ told e .1 (t .0))));
+            neither = (λ z. absurd (z .0 (number a)), λ q. absurd (clash (sym q ∙ e)));
+          }
+      go (clashes c n e o a) =
+          record {
+            repeat = λ w. (λ t. absurd (omega (arith, number a, t .0)), λ t. absurd (o (t .1 ∙ sym (told e .1 (t .0)))));
+            clash = λ w. (λ t. let q : c ≡ w = sym (commit a) ∙ t .1 in (told e .0 q, λ z. o (z ∙ sym q)), λ t. (number a, commit a ∙ told e .1 (t .0)));
+            neither = (λ z. absurd (z .1 (number a)), λ q. absurd (clash (sym q ∙ e)));
+          }
+      go (turned-away n e a) = told-new x e (inr (inl (number a)))
+      go (joined e a) = told-new x e (inl (number (a .left)))
 
   removed-stands : Removed m f
   removed-stands k l = go (commitOf k (m .held)) refl

@@ -23,4 +23,5 @@ pub mod WalkNumbers
 pub mod CallNumbers
 pub mod Decided
 pub mod WalkCalls
+pub mod Retries
 pub mod Refusals

@@ -13,7 +13,8 @@ use Rattle.placing.specs.Lay.{rankIn, ins}
 use Rattle.placing.specs.Walks.{lastAfter, findIn, carry as carried, put, putIn}
 use Rattle.pages.specs.Page.{Record, key, value}
 use Rattle.pages.specs.Area.{pagesFrom, areaFrom}
-use Rattle.state.specs.declared.Answer.the-variants.{Held, NoRoom}
+use Rattle.state.specs.declared.Answer.the-variants.{NoRoom}
+use Rattle.state.specs.Answer.{again}
 use Rattle.walks.specs.declared.Met.{Met}
 use Rattle.walks.specs.declared.Met.the-variants.{Found, Ends}
 use Rattle.walks.specs.declared.Met.the-variants as mets
@@ -29,10 +30,10 @@ abbrev pub Poured : (ps qs : List (List Record)) → List Record → Walked → 
 Poured ps qs [] w = Went ps qs w
 Poured ps qs (y ∷ over) w = (n : ℕ) × (w ≡ stopped (NoRoom n))
 
--- how a put goes, by the record found, if any, and by what the walk on the pages comes to
-abbrev pub PutGoes : List (List Record) → Option Record → (List (List Record) × List Record) → Walked → Type 0
-PutGoes ps (some y) o w = (n : ℕ) × (w ≡ stopped (Held (value y) n))
-PutGoes ps none o w = Poured ps (o .0) (o .1) w
+-- how a put of x goes, by the record found, if any, and by what the walk on the pages comes to
+abbrev pub PutGoes : List (List Record) → Record → Option Record → (List (List Record) × List Record) → Walked → Type 0
+PutGoes ps x (some y) o w = (n : ℕ) × (w ≡ stopped (again (value x) (value y) n))
+PutGoes ps x none o w = Poured ps (o .0) (o .1) w
 
 -- the first page that a walk writes
 poured-on : (front : List (List Record)) (a : ℕ) → length front ≡ a → (was p : List Record) (qs new : List (List Record)) (over : List Record) (w : Walked)
@@ -95,7 +96,7 @@ module _ (h : ℕ → ℕ) where
       -- how a put goes that starts after the pages in front, by what its walk meets
       abbrev Goes : (front qs : List (List Record)) → Met → Type 0
       Goes front qs m =
-          PutGoes (front ++ qs) (recordOf (key x) m) (front ++ put rank 12 x qs .0, put rank 12 x qs .1) (putMet h (areaFrom 0 (front ++ qs)) n x m)
+          PutGoes (front ++ qs) x (recordOf (key x) m) (front ++ put rank 12 x qs .0, put rank 12 x qs .1) (putMet h (areaFrom 0 (front ++ qs)) n x m)
 
       -- from the ending page on the record is carried
       put-ends : (front way : List (List Record)) (last : List Record) (rest : List (List Record)) (b i c r : ℕ) → length (front ++ way) ≡ b
@@ -118,7 +119,7 @@ module _ (h : ℕ → ℕ) where
 
 -- put makes of good bytes what the walk on the pages makes
 pub put-clean : {h : ℕ → ℕ} {n : ℕ} {ps : List (List Record)} → Clean h n ps → (x : Record) → key x < 2 ^ 64 → h (key x) ≤ n
-    → PutGoes ps (findIn key h 12 (key x) ps) (putIn key h 12 x ps) (putWalk h (areaFrom 0 ps) n x)
+    → PutGoes ps x (findIn key h 12 (key x) ps) (putIn key h 12 x ps) (putWalk h (areaFrom 0 ps) n x)
 unfolding putWalk
 put-clean {h} {n} {ps} c x l g =
     let a : ℕ = h (key x) in

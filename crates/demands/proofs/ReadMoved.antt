@@ -6,7 +6,7 @@ use native.Mathlib.Omega.{arith}
 use Rattle.placing.proofs.Strays.{strayed-none}
 use Rattle.pages.specs.Page.{Record, key}
 use Rattle.state.specs.declared.Answer.{Answer}
-use Rattle.state.specs.declared.Answer.the-variants.{Accepted, OutOfRange, WrongArea, WrongRow, Broken, Absent, Held, NoRoom, AtCap, NotImage}
+use Rattle.state.specs.declared.Answer.the-variants.{Accepted, OutOfRange, WrongArea, WrongRow, Broken, Absent, Held, NoRoom, AtCap, NotImage, Clash}
 use Rattle.state.specs.Answer.{numbers}
 use Rattle.register.specs.Files.{Call, format, find, put, remove, grow, check, due, Left, left, numbersOf}
 use Rattle.demands.specs.Histories.{Kept}
@@ -15,7 +15,7 @@ use Rattle.demands.proofs.Clean.{clean-held}
 use Rattle.demands.proofs.OnImage.{on-clean}
 use Rattle.demands.proofs.Standing.{Stands, fileOf}
 use Rattle.demands.proofs.FindReads.{read-held, read-within, read-new}
-use Rattle.demands.proofs.Steps.{Plain, Step, refused, accepted, said, Puts, was, turned-away, joined, put-comes, step}
+use Rattle.demands.proofs.Steps.{Plain, Step, refused, accepted, said, Puts, repeats, clashes, turned-away, joined, put-comes, step}
 
 -- no refusal moves a record
 plain-moved : (why : Answer) → Plain why → numbers why .moved ≡ 0
@@ -29,6 +29,7 @@ plain-moved (Held value read) p = refl
 plain-moved (NoRoom read) p = refl
 plain-moved AtCap p = refl
 plain-moved (NotImage read) p = refl
+plain-moved (Clash value read) p = refl
 
 -- where nothing was written nothing differs
 none-differ : (c : Call) (ps : List (List Record)) → differ c ps ps ≡ 0
@@ -55,7 +56,8 @@ module _ (m : Kept) (ps : List (List Record)) (s : Stands m ps) where
       taken e = sym (ap (λ (o : Left). numbersOf (o .said) .refusal) e) ∙ n
 
       go : Puts m ps x → readTo (fileOf m ps) (key x) ≡ b + 1
-      go (was c i e a) = absurd (omega (arith, taken a))
+      go (repeats c i e q a) = absurd (omega (arith, taken a))
+      go (clashes c i e q a) = absurd (omega (arith, taken a))
       go (turned-away i e a) = absurd (omega (arith, taken a))
       go (joined e a) = read-new s x (fits .0) e a b w (rw (a .left) at t)
 

@@ -12,21 +12,32 @@ use Rattle.state.proofs.Promises.{state-promises}
 use Rattle.numbers.specs.Little.{Bytes}
 use Rattle.numbers.proofs.Records.{and-left, and-right}
 use Rattle.state.specs.declared.Answer.{Answer}
-use Rattle.state.specs.declared.Answer.the-variants.{Accepted, OutOfRange, WrongArea, WrongRow, Broken, Absent, Held, NoRoom, AtCap, NotImage}
+use Rattle.state.specs.declared.Answer.the-variants.{Accepted, OutOfRange, WrongArea, WrongRow, Broken, Absent, Held, NoRoom, AtCap, NotImage, Clash}
 use Rattle.state.specs.Answer.{told, numbers}
 use Rattle.state.specs.State.{inRange, isDue}
 use Rattle.register.specs.Files.{Call, format, find, put, remove, grow, check, due, File, Said, answers, says, left, numbersOf}
 use Rattle.demands.specs.Refusals.{order, tells, Plain, Refusals}
-use Rattle.demands.proofs.InOrder.{ranks, differ, listed, none-of, in-order}
+use Rattle.demands.proofs.InOrder.{ranks, differ, listed, one-of, none-of, in-order}
 use Rattle.demands.proofs.CallNumbers.{Known}
 use Rattle.demands.proofs.Decided.{format-decided, check-decided, grow-decided}
 use Rattle.demands.proofs.WalkCalls.{find-known, put-settled, remove-settled}
+use Rattle.demands.proofs.Retries.{repeat-told, clash-told}
 
 -- what stands beside a refusal's number
 module _ (k : ℕ) where
   -- a refusal that reads pages
   looked : (read : ℕ) → listed k (1 ∷ 2 ∷ 3 ∷ 8 ∷ []) ≡ false → Plain (told k 0 0 read 0)
   looked read d = record { page = λ e. refl; value = λ z e. refl; moved = λ z. refl; read = λ w. absurd (none-of k (1 ∷ 2 ∷ 3 ∷ 8 ∷ []) d w) }
+
+  -- one that tells the value held
+  telling : (value read : ℕ) → listed k (6 ∷ 13 ∷ []) ≡ true → listed k (1 ∷ 2 ∷ 3 ∷ 8 ∷ []) ≡ false → Plain (told k 0 value read 0)
+  telling value read g d =
+      record {
+        page = λ e. refl;
+        value = λ z e. absurd (e (one-of k (6 ∷ 13 ∷ []) g));
+        moved = λ z. refl;
+        read = λ w. absurd (none-of k (1 ∷ 2 ∷ 3 ∷ 8 ∷ []) d w);
+      }
 
   -- one that reads none
   unread : Plain (told k 0 0 0 0)
@@ -41,11 +52,11 @@ plain-answer WrongRow = unread 3
 plain-answer (Broken page read) =
     record { page = λ e. absurd (e refl); value = λ z e. refl; moved = λ z. refl; read = λ w. absurd (none-of 4 (1 ∷ 2 ∷ 3 ∷ 8 ∷ []) refl w) }
 plain-answer (Absent read) = looked 5 read refl
-plain-answer (Held value read) =
-    record { page = λ e. refl; value = λ z e. absurd (e refl); moved = λ z. refl; read = λ w. absurd (none-of 6 (1 ∷ 2 ∷ 3 ∷ 8 ∷ []) refl w) }
+plain-answer (Held value read) = telling 6 value read refl refl
 plain-answer (NoRoom read) = looked 7 read refl
 plain-answer AtCap = unread 8
 plain-answer (NotImage read) = looked 9 read refl
+plain-answer (Clash value read) = telling 13 value read refl refl
 
 plain-said : (t : Said) → Plain (numbersOf t)
 plain-said (answers a) = plain-answer a
@@ -98,6 +109,8 @@ refusals f b =
       check-judges = check-decided f b .judges;
       grow-judges = λ row. grow-decided f row b .judges;
       broken = λ c. known f b c .broken;
+      repeat = repeat-told f;
+      clash = clash-told f;
       put-count = λ x. put-settled f x .count;
       remove-count = λ k. remove-settled f k .count;
       due-yes = due-says f .0;

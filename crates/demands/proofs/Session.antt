@@ -23,9 +23,9 @@ use Rattle.demands.specs.Demands.{Fresh}
 abbrev start : File
 start = record { state = record { params = params 0 0 0; p = 0; cap = 0; r = 0 }; area = replicate 512 255 }
 
--- 01's whole session first; then a record more, a removal and one page more
+-- 01's whole session first; then a repeat and a clash, a record more, a removal and one page more
 abbrev calls : List Call
-calls = format (params 1 1 1) 2 ∷ put (recordWith 5 9) ∷ find 5 ∷ put (recordWith 7 1) ∷ remove 5 ∷ grow (0 ∷ 0 ∷ []) ∷ check ∷ due ∷ []
+calls = format (params 1 1 1) 2 ∷ put (recordWith 5 9) ∷ find 5 ∷ put (recordWith 5 9) ∷ put (recordWith 5 8) ∷ put (recordWith 7 1) ∷ remove 5 ∷ grow (0 ∷ 0 ∷ []) ∷ check ∷ due ∷ []
 
 -- it keeps one record, on two pages
 abbrev outcome : Kept
@@ -37,7 +37,7 @@ session =
     record {
       start = start;
       calls = calls;
-      fits = (tt, ((omega arith, omega arith), (omega arith, ((omega arith, omega arith), (omega arith, (tt, (tt, (tt, tt))))))));
+      fits = (tt, ((omega arith, omega arith), (omega arith, ((omega arith, omega arith), ((omega arith, omega arith), ((omega arith, omega arith), (omega arith, (tt, (tt, (tt, tt))))))))));
       keeps = refl;
       leaves = refl;
     }

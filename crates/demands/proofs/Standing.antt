@@ -16,8 +16,9 @@ use Rattle.placing.proofs.Changes.{put-image, put-room, remove-image}
 use Rattle.pages.specs.Page.{Record, key, value, recordWith}
 use Rattle.pages.specs.Area.{areaFrom}
 use Rattle.state.specs.declared.Answer.{Answer}
-use Rattle.state.specs.declared.Answer.the-variants.{Accepted, Absent, Held, NoRoom}
+use Rattle.state.specs.declared.Answer.the-variants.{Accepted, Absent, NoRoom}
 use Rattle.state.specs.State.{homes}
+use Rattle.state.specs.Answer.{again}
 use Rattle.state.proofs.Ranges.{more-range, less-range}
 use Rattle.walks.specs.Walks.{stopped, walk, findAnswer, putWalk, removeWalk}
 use Rattle.register.specs.Calls.{done}
@@ -146,13 +147,13 @@ module _ {m : Kept} {ps : List (List Record)} (s : Stands m ps) where
         })
 
   module _ (x : Record) (l : key x < 2 ^ 64) where
-    comes : PutGoes ps (findIn key h 12 (key x) ps) (putIn key h 12 x ps) (putWalk h (areaFrom 0 ps) (m .cap) x)
+    comes : PutGoes ps x (findIn key h 12 (key x) ps) (putIn key h 12 x ps) (putWalk h (areaFrom 0 ps) (m .cap) x)
     comes = put-clean (on-clean s) x l (home-low s (key x))
 
-    pub put-held : (w : ℕ) → commitOf (key x) (m .held) ≡ some w → (n : ℕ) × Refused m ps (put x) (Held w n) []
+    pub put-held : (w : ℕ) → commitOf (key x) (m .held) ≡ some w → (n : ℕ) × Refused m ps (put x) (again (value x) w n) []
     put-held w e =
-        let g : PutGoes ps (some (recordWith (key x) w)) (putIn key h 12 x ps) (putWalk h (areaFrom 0 ps) (m .cap) x) = rw (finds (key x) l w e) at comes in
-        (g .0, put-stopped x (Held w (g .0)) (g .1))
+        let g : PutGoes ps x (some (recordWith (key x) w)) (putIn key h 12 x ps) (putWalk h (areaFrom 0 ps) (m .cap) x) = rw (finds (key x) l w e) at comes in
+        (g .0, put-stopped x (again (value x) w (g .0)) (g .1))
 
     module _ (e : commitOf (key x) (m .held) ≡ none) where
       pub with-new : RecordSet key (x ∷ m .held)

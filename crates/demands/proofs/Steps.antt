@@ -13,13 +13,14 @@ use Rattle.homes.specs.declared.Params.{Params}
 use Rattle.placing.specs.Image.{All, RecordSet, Room}
 use Rattle.placing.specs.Lay.{taken}
 use Rattle.placing.proofs.Images.{room-taken}
-use Rattle.pages.specs.Page.{Record, key, homeFor}
+use Rattle.pages.specs.Page.{Record, key, value, homeFor}
 use Rattle.pages.specs.Area.{areaFrom}
 use Rattle.state.specs.declared.Answer.{Answer}
-use Rattle.state.specs.declared.Answer.the-variants.{Accepted, OutOfRange, WrongArea, WrongRow, Broken, Absent, Held, NoRoom, AtCap, NotImage}
+use Rattle.state.specs.declared.Answer.the-variants.{Accepted, OutOfRange, WrongArea, WrongRow, Broken, Absent, Held, NoRoom, AtCap, NotImage, Clash}
 use Rattle.state.specs.State.{homes, grown}
-use Rattle.state.specs.Answer.{numbers}
+use Rattle.state.specs.Answer.{numbers, again}
 use Rattle.state.proofs.Ranges.{ranged, grown-range}
+use Rattle.state.proofs.Answers.{again-same, again-other}
 use Rattle.register.specs.Calls.{done, Growth, grew}
 use Rattle.register.specs.Files.{Call, format, find, put, remove, grow, check, due, File, says, Left, leaves, ofGrowth, left, numbersOf}
 use Rattle.demands.specs.Histories.{Fits, after, refusal, Kept, stateOf, without, commitOf, begun, holding, paged, makes, kept}
@@ -40,6 +41,7 @@ Plain (Held value read) = Unit {0}
 Plain (NoRoom read) = Unit {0}
 Plain AtCap = Unit {0}
 Plain (NotImage read) = ⊥
+Plain (Clash value read) = Unit {0}
 
 pub plain-number : (why : Answer) → Plain why → (numbers why .refusal ≡ 0 → ⊥) × (numbers why .refusal ≡ 4 → ⊥) × (numbers why .refusal ≡ 9 → ⊥)
 plain-number (Accepted value read moved) p = absurd p
@@ -52,6 +54,7 @@ plain-number (Held value read) p = (λ e. omega arith, λ e. omega arith, λ e. 
 plain-number (NoRoom read) p = (λ e. omega arith, λ e. omega arith, λ e. omega arith)
 plain-number AtCap p = (λ e. omega arith, λ e. omega arith, λ e. omega arith)
 plain-number (NotImage read) p = absurd p
+plain-number (Clash value read) p = (λ e. omega arith, λ e. omega arith, λ e. omega arith)
 
 -- what a call comes to on a file that stands
 pub data Step (m : Kept) (ps : List (List Record)) (c : Call) : Type 0 where
@@ -59,9 +62,11 @@ pub data Step (m : Kept) (ps : List (List Record)) (c : Call) : Type 0 where
   accepted : (new : Kept) (v : ℕ) (row : List ℕ) → makes (some m) c ≡ some new → Accepts m new ps c v row → Step m ps c
   said : (u : Bool) → makes (some m) c ≡ some m → left (fileOf m ps) c ≡ record { said = says u; file = fileOf m ps; row = [] } → Step m ps c
 
--- what a put comes to: its number was held, or there is no room, or it is new
+-- what a put comes to: its number was held, with the commit that it offers or with another, or
+-- there is no room, or it is new
 pub data Puts (m : Kept) (ps : List (List Record)) (x : Record) : Type 0 where
-  was : (w n : ℕ) → commitOf (key x) (m .held) ≡ some w → Refused m ps (put x) (Held w n) [] → Puts m ps x
+  repeats : (w n : ℕ) → commitOf (key x) (m .held) ≡ some w → value x ≡ w → Refused m ps (put x) (Held w n) [] → Puts m ps x
+  clashes : (w n : ℕ) → commitOf (key x) (m .held) ≡ some w → (value x ≡ w → ⊥) → Refused m ps (put x) (Clash w n) [] → Puts m ps x
   turned-away : (n : ℕ) → commitOf (key x) (m .held) ≡ none → Refused m ps (put x) (NoRoom n) [] → Puts m ps x
   joined : commitOf (key x) (m .held) ≡ none → Accepts m (holding m (x ∷ m .held)) ps (put x) 0 [] → Puts m ps x
 
@@ -154,12 +159,17 @@ module _ {m : Kept} {ps : List (List Record)} (s : Stands m ps) where
       room e (yes r) = joined e (put-new s x (f .0) e (f .1) r)
       room e (no n) = let w = put-full s x (f .0) e n in turned-away (w .0) e (w .1)
 
+      held : (w n : ℕ) → commitOf (key x) (m .held) ≡ some w → Refused m ps (put x) (again (value x) w n) [] → Dec (value x ≡ w) → Puts m ps x
+      held w n e a (yes q) = repeats w n e q (rw (again-same (value x) w n q) at a)
+      held w n e a (no q) = clashes w n e q (rw (again-other (value x) w n q) at a)
+
       go : (o : Option ℕ) → commitOf (key x) (m .held) ≡ o → Puts m ps x
-      go (some w) e = let t = put-held s x (f .0) w e in was w (t .0) e (t .1)
+      go (some w) e = let t = put-held s x (f .0) w e in held w (t .0) e (t .1) (ℕ-discrete (value x) w)
       go none e = room e (room-told (homes (stateOf m)) (m .cap) (x ∷ m .held) (set-put x (s .set) (f .0) e))
 
   put-step : (x : Record) → Puts m ps x → Step m ps (put x)
-  put-step x (was w n e a) = refused (Held w n) [] tt a
+  put-step x (repeats w n e q a) = refused (Held w n) [] tt a
+  put-step x (clashes w n e q a) = refused (Clash w n) [] tt a
   put-step x (turned-away n e a) = refused (NoRoom n) [] tt a
   put-step x (joined e a) = accepted (holding m (x ∷ m .held)) 0 [] refl a
 

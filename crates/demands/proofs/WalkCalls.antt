@@ -40,7 +40,7 @@ module _ (f : File) where
   area = f .area
 
   module _ (k : ℕ) where
-    find-tells : tells f (find k) ≡ onGate (gateOf s (length area)) numbers (numbers (findAnswer (walk (homes s) area (s .cap) k)))
+    pub find-tells : tells f (find k) ≡ onGate (gateOf s (length area)) numbers (numbers (findAnswer (walk (homes s) area (s .cap) k)))
     unfolding left
     find-tells = looks s (done s (findAnswer (walk (homes s) area (s .cap) k))) (gateOf s (length area))
 
@@ -103,10 +103,10 @@ module _ (f : File) where
   equal a b = (eqb-true a b, eq-eqb a b)
 
   module _ (x : Record) where
-    abbrev puts : Numbers
+    abbrev pub puts : Numbers
     puts = numbers (putOpen s area x .done .answer)
 
-    put-tells : tells f (put x) ≡ onGate (gateOf s (length area)) numbers puts
+    pub put-tells : tells f (put x) ≡ onGate (gateOf s (length area)) numbers puts
     unfolding left
     put-tells = gated s area (putOpen s area x) (gateOf s (length area))
 

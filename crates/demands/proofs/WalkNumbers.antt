@@ -2,17 +2,18 @@
 -- is broken.
 use mathlib.Core.Path.{_≡_, refl}
 use mathlib.Core.Bool.{Bool, true, false, cond}
-use mathlib.Core.Logic.{inl, inr}
+use mathlib.Core.Logic.{inl, inr, ⊎-elim}
 use mathlib.Core.Option.{Option, none, some}
 use mathlib.Core.List.{List, [], _∷_}
 use Prim.Native.Nat.{ℕ, zero, suc, _-_, _≤_}
 use native.Mathlib.Omega.{arith}
-use lib.Dec.{leb, ltb}
+use lib.Dec.{leb, ltb, eqb}
 use lib.ListN.{length, take, getD}
 use Rattle.placing.specs.Lay.{rankOf, rankIn, ins}
-use Rattle.pages.specs.Page.{Record, vacant, key, recordsIn, readPage}
+use Rattle.pages.specs.Page.{Record, vacant, key, value, recordsIn, readPage}
 use Rattle.pages.specs.Places.{closed, ahead}
 use Rattle.pages.specs.Area.{partAt, pagesFrom}
+use Rattle.state.specs.declared.Answer.the-variants.{Held, Clash}
 use Rattle.state.specs.declared.Numbers.{Numbers}
 use Rattle.state.specs.Answer.{told, numbers}
 use Rattle.state.specs.State.{homes}
@@ -87,34 +88,52 @@ module _ (f : File) where
   wrote-stops ks a p (went ws n m) t = tt
   wrote-stops ks a p (stopped why) t = t
 
-  -- the numbers of any put
-  abbrev putStops : List ℕ
-  putStops = gives (put vacant)
+  -- from the ending page on a put gives 4 or 7
+  abbrev carryStops : List ℕ
+  carryStops = 4 ∷ 7 ∷ []
 
-  carry-stops : (m a n c : ℕ) (x : Record) → m ≤ cap - a → StopsWith putStops (carry h a n c x (from m a))
-  carry-stops zero a n c x l = stop putStops 7 0 n refl refl
+  pub carry-stops : (m a n c : ℕ) (x : Record) → m ≤ cap - a → StopsWith carryStops (carry h a n c x (from m a))
+  carry-stops zero a n c x l = stop carryStops 7 0 n refl refl
   carry-stops (suc m) a n c x l = go (readPage h a (partAt (f .area) a)) refl (λ y. carry-stops m (suc a) (suc n) (suc c) y (omega arith))
     where
-      room : (q : List Record) (u : Bool) (on : Walked) → StopsWith putStops on → StopsWith putStops (cond u (went ((a, q) ∷ []) (suc n) c) (andPage a (take 12 q) on))
+      room : (q : List Record) (u : Bool) (on : Walked) → StopsWith carryStops on → StopsWith carryStops (cond u (went ((a, q) ∷ []) (suc n) c) (andPage a (take 12 q) on))
       room q true on t = tt
-      room q false on t = wrote-stops putStops a (take 12 q) on t
+      room q false on t = wrote-stops carryStops a (take 12 q) on t
 
-      go : (o : Option (List Record)) → readPage h a (partAt (f .area) a) ≡ o → ((y : Record) → StopsWith putStops (carry h (suc a) (suc n) (suc c) y (from m (suc a))))
-          → StopsWith putStops (carry h a n c x (o ∷ from m (suc a)))
-      go none q on = stop-broken putStops a (suc n) refl (omega arith, q)
+      go : (o : Option (List Record)) → readPage h a (partAt (f .area) a) ≡ o → ((y : Record) → StopsWith carryStops (carry h (suc a) (suc n) (suc c) y (from m (suc a))))
+          → StopsWith carryStops (carry h a n c x (o ∷ from m (suc a)))
+      go none q on = stop-broken carryStops a (suc n) refl (omega arith, q)
       go (some p) q on =
           let r = ins (rankIn key h) x p in
           let y = getD r 12 x in
           room r (ltb (length p) 12) (carry h (suc a) (suc n) (suc c) y (from m (suc a))) (on y)
 
+  -- the numbers of any put
+  abbrev putStops : List ℕ
+  putStops = gives (put vacant)
+
+  carry-put : (w : Walked) → StopsWith carryStops w → StopsWith putStops w
+  carry-put (went ws n m) t = tt
+  carry-put (stopped why) t = record { gives = ⊎-elim four (⊎-elim seven absurd) (t .gives); met = t .met; broken = t .broken }
+    where
+      four : numbers why .refusal ≡ 4 → OneOf (numbers why .refusal) putStops
+      four e = rw e (one-of 4 putStops refl)
+
+      seven : numbers why .refusal ≡ 7 → OneOf (numbers why .refusal) putStops
+      seven e = rw e (one-of 7 putStops refl)
+
   pub put-stops : (x : Record) → StopsWith putStops (putWalk h (f .area) cap x)
   unfolding putWalk
   put-stops x = go (walk h (f .area) cap (key x)) (walk-broken (key x))
     where
+      held : (u : Bool) (v n : ℕ) → Stop putStops (numbers (cond u (Held v n) (Clash v n)))
+      held true v n = stop putStops 6 v n refl refl
+      held false v n = stop putStops 13 v n refl refl
+
       go : (m : Met) → MetBroken m → StopsWith putStops (putMet h (f .area) cap x m)
-      go (Found a i c v n) t = stop putStops 6 v n refl refl
+      go (Found a i c v n) t = held (eqb (value x) v) v n
       go (mets.Broken a n) t = stop-broken putStops a n refl t
-      go (Ends a i c n) t = carry-stops (cap - a) a (n - 1) 0 x (omega arith)
+      go (Ends a i c n) t = carry-put (carry h a (n - 1) 0 x (from (cap - a) a)) (carry-stops (cap - a) a (n - 1) 0 x (omega arith))
       go (mets.AtEnd n) t = stop putStops 7 0 n refl refl
 
   -- and of any removal

@@ -9,7 +9,7 @@ use lib.ListN.{length}
 use lib.Dec.{ltb}
 use Rattle.placing.specs.Image.{All, RecordSet, Room}
 use Rattle.placing.specs.Rows.{counts}
-use Rattle.pages.specs.Page.{Record, key, homeFor}
+use Rattle.pages.specs.Page.{Record, key, value, homeFor}
 use Rattle.state.specs.State.{homes, grown}
 use Rattle.register.specs.OneImage.{AreaImage}
 use Rattle.register.specs.Files.{Call, format, find, put, remove, grow, check, due, File, says, left, numbersOf}
@@ -56,9 +56,16 @@ module _ (m : Kept) (f : File) where
   Found = (k : ℕ) → k < 2 ^ 64
       → ((v : ℕ) → Tells f (find k) 0 v ↔ (commitOf k (m .held) ≡ some v)) × ((refusal f (find k) ≡ 5) ↔ (commitOf k (m .held) ≡ none))
 
-  -- and a retry of what is held is told its commit (6), whatever commit it offers; no other put is
+  -- and a put of what is held is told its commit. 02, request 1: "A put with the same value is a
+  -- repeat and keeps 6. A put with another value is a clash and must be told apart" (13), "with the
+  -- held value"; a put of what isn't held is neither
+  pub record PutTold (x : Record) : Type 0 where
+    pub repeat : (w : ℕ) → Tells f (put x) 6 w ↔ ((commitOf (key x) (m .held) ≡ some w) × (value x ≡ w))
+    pub clash : (w : ℕ) → Tells f (put x) 13 w ↔ ((commitOf (key x) (m .held) ≡ some w) × (value x ≡ w → ⊥))
+    pub neither : ((refusal f (put x) ≡ 6 → ⊥) × (refusal f (put x) ≡ 13 → ⊥)) ↔ (commitOf (key x) (m .held) ≡ none)
+
   abbrev pub Retried : Type 0
-  Retried = (x : Record) → Fits (put x) → (w : ℕ) → Tells f (put x) 6 w ↔ (commitOf (key x) (m .held) ≡ some w)
+  Retried = (x : Record) → Fits (put x) → PutTold x
 
   -- a removal is accepted where the request is held, and otherwise refused with 5
   abbrev pub Removed : Type 0

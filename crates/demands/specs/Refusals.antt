@@ -11,7 +11,7 @@ use lib.ListN.{length}
 use Rattle.numbers.specs.Little.{Bytes}
 use Rattle.homes.specs.declared.Params.{Params}
 use Rattle.placing.specs.Image.{Room}
-use Rattle.pages.specs.Page.{Record, key, readPage}
+use Rattle.pages.specs.Page.{Record, key, value, readPage}
 use Rattle.pages.specs.Area.{partAt}
 use Rattle.state.specs.declared.State.{State}
 use Rattle.state.specs.declared.Numbers.{Numbers}
@@ -75,7 +75,8 @@ entry s area = unless 1 (Ranged s) ∷ unless 2 (RightArea s area) ∷ []
 
 -- "Order: format 1, 2 (judged on the numbers it is asked for, not on the state before it). Find 1,
 -- 2, then the walk. Put and remove 1, 2, the walk (4, 5, 6 or 7 as met), then 9. Grow 1, 2, 3, 8,
--- 4, 9, 7. Check 1, 2, 4, 9." Due gives none. What a walk meets is its definition's to say.
+-- 4, 9, 7. Check 1, 2, 4, 9." 02, request 1: 13 "stands where 6 stood in the walk". Due gives none.
+-- What a walk meets is its definition's to say.
 abbrev pub order : File → Call → List Cause
 order f (format q cap) = entry (fresh q cap) (f .area)
 order f (find k) = entry (f .state) (f .area)
@@ -93,11 +94,11 @@ abbrev pub OneOf : (n : ℕ) → List ℕ → Type 0
 OneOf n [] = ⊥
 OneOf n (k ∷ ks) = (n ≡ k) ⊎ OneOf n ks
 
--- the column "Given by", call by call; "refusal 0 means accepted"
+-- the column "Given by", call by call, with 13 by put (02, request 1); "refusal 0 means accepted"
 abbrev pub gives : Call → List ℕ
 gives (format q cap) = 0 ∷ 1 ∷ 2 ∷ []
 gives (find k) = 0 ∷ 1 ∷ 2 ∷ 4 ∷ 5 ∷ []
-gives (put x) = 0 ∷ 1 ∷ 2 ∷ 4 ∷ 6 ∷ 7 ∷ 9 ∷ []
+gives (put x) = 0 ∷ 1 ∷ 2 ∷ 4 ∷ 6 ∷ 7 ∷ 9 ∷ 13 ∷ []
 gives (remove k) = 0 ∷ 1 ∷ 2 ∷ 4 ∷ 5 ∷ 9 ∷ []
 gives (grow row) = 0 ∷ 1 ∷ 2 ∷ 3 ∷ 4 ∷ 7 ∷ 8 ∷ 9 ∷ []
 gives check = 0 ∷ 1 ∷ 2 ∷ 4 ∷ 9 ∷ []
@@ -111,8 +112,8 @@ tells f c = numbersOf (left f c .said)
 pub record Plain (n : Numbers) : Type 0 where
   -- "page is 0 except for 4"; "For accepted calls page is 0"
   pub page : (n .refusal ≡ 4 → ⊥) → n .page ≡ 0
-  -- of a refusal "value 0 except for 6"
-  pub value : (n .refusal ≡ 0 → ⊥) → (n .refusal ≡ 6 → ⊥) → n .value ≡ 0
+  -- of a refusal "value 0 except for 6", and for a clash
+  pub value : (n .refusal ≡ 0 → ⊥) → (OneOf (n .refusal) (6 ∷ 13 ∷ []) → ⊥) → n .value ≡ 0
   -- of a refusal "moved 0"
   pub moved : (n .refusal ≡ 0 → ⊥) → n .moved ≡ 0
   -- "refusals 1, 2, 3, 8 .. read 0"
@@ -158,6 +159,11 @@ pub record RefusalsOf (f : File) : Type 0 where
   pub grow-judges : (row : List ℕ) → Judges f (tells f (grow row))
   -- of every call: "4 a page looked at is broken; its address"
   pub broken : (c : Call) → refusal f c ≡ 4 → BrokenAt f (tells f c .page)
+  -- 02, request 1, of any bytes: "A put with the same value is a repeat and keeps 6. A put with
+  -- another value is a clash", 13, "with the held value": each is given exactly where a find of the
+  -- key is accepted, and tells what the find tells, its value and the pages read
+  pub repeat : (x : Record) (w n : ℕ) → (tells f (put x) ≡ told 6 0 w n 0) ↔ ((tells f (find (key x)) ≡ told 0 0 w n 0) × (value x ≡ w))
+  pub clash : (x : Record) (w n : ℕ) → (tells f (put x) ≡ told 13 0 w n 0) ↔ ((tells f (find (key x)) ≡ told 0 0 w n 0) × (value x ≡ w → ⊥))
   -- "the walk (4, 5, 6 or 7 as met), then 9": where the walk meets no cause, 9 is given exactly
   -- "where r = 12 x cap" by put, "where r = 0" by remove
   pub put-count : (x : Record) → OneOf (refusal f (put x)) (0 ∷ 9 ∷ []) → (refusal f (put x) ≡ 9) ↔ (f .state .r ≡ 12 * f .state .cap)

@@ -81,9 +81,10 @@ then12 g = (refusal (stored (g .done .state) (g .area) (recordWith 12 12) .done)
 abbrev thirteen : Outcome → List (List ℕ)
 thirteen o = keysOn (o .area) 0 ∷ keysOn (o .area) 1 ∷ (refusal (grow o .done) ∷ []) ∷ []
 
--- "cap 1: the thirteenth key is refused with 7, a held key still gets 6."
+-- "cap 1: the thirteenth key is refused with 7, a held key still gets 6." With another value than
+-- its own it gets 13 (02, request 1).
 abbrev onePage : Outcome → List (List ℕ)
-onePage o = (refusal (stored (o .done .state) (o .area) (recordWith 12 12) .done) ∷ refusal (stored (o .done .state) (o .area) (recordWith 5 12) .done) ∷ []) ∷ []
+onePage o = map (λ x. refusal (stored (o .done .state) (o .area) x .done)) (recordWith 12 12 ∷ recordWith 5 5 ∷ recordWith 5 12 ∷ []) ∷ []
 
 -- what takes no call
 abbrev alone : List (List ℕ)
@@ -97,7 +98,7 @@ given =
     ++ (moves (grow (putAll twelve (file 2)))
     ++ (then12 (grow (putAll twelve (file 2))) ++ (thirteen (putAll (twelve ++ 12 ∷ []) (file 2)) ++ onePage (putAll twelve (file 1)))))
 
--- .. and as 01 prints it
+-- .. and as 01 and 02 print it
 abbrev pub printed : List (List ℕ)
 printed =
     (16807 ∷ 282475249 ∷ 1622650073 ∷ 984943658 ∷ [])
@@ -113,7 +114,7 @@ printed =
     ∷ (0 ∷ 1 ∷ 2 ∷ 3 ∷ 4 ∷ 5 ∷ 6 ∷ 7 ∷ 8 ∷ 9 ∷ 10 ∷ 11 ∷ [])
     ∷ (12 ∷ [])
     ∷ (7 ∷ [])
-    ∷ (7 ∷ 6 ∷ [])
+    ∷ (7 ∷ 6 ∷ 13 ∷ [])
     ∷ []
 
 -- the rows that take a run of the calls, each run worked out by itself
@@ -129,7 +130,7 @@ run-thirteen : thirteen (putAll (twelve ++ 12 ∷ []) (file 2)) ≡ (twelve ∷ 
 unfolding draw mover swept movedTo nextGroups steps home little bytesOf numberAt written encode pageBytes recordsIn wellFormed readPage inMemory partAt opened closed all inRange walk putWalk isImage surveyed gateOf imageGate growGate relaid grownFile
 run-thirteen = refl
 
-run-one : onePage (putAll twelve (file 1)) ≡ ((7 ∷ 6 ∷ []) ∷ [])
+run-one : onePage (putAll twelve (file 1)) ≡ ((7 ∷ 6 ∷ 13 ∷ []) ∷ [])
 unfolding draw mover swept movedTo nextGroups steps home little bytesOf numberAt written encode pageBytes recordsIn wellFormed readPage inMemory partAt opened closed all inRange walk putWalk isImage surveyed gateOf imageGate growGate relaid grownFile
 run-one = refl
 

@@ -108,7 +108,7 @@ fn print_spilt(area: &mut [u8], row: &mut [u32])
     print_answer(b"  then grow", grown);
 }
 
-// The held key is put again with another value.
+// The held key is put again, with its value and with another.
 fn print_full(area: &mut [u8]) {
     let state = file_of(area, 1, 12);
     let new = Record {
@@ -117,9 +117,12 @@ fn print_full(area: &mut [u8]) {
     };
     let thirteenth = register::put(state, area, new);
     print_answer(b"cap 1, thirteenth key", thirteenth);
-    let again = Record { key: 5, value: 1 };
+    let again = Record { key: 5, value: 50 };
     let held = register::put(thirteenth.state, area, again);
     print_answer(b"cap 1, held key 5 (value 50) put again", held);
+    let other = Record { key: 5, value: 1 };
+    let clash = register::put(held.state, area, other);
+    print_answer(b"cap 1, held key 5 (value 50) put with value 1", clash);
 }
 
 // Each file in an area that held other bytes before.

@@ -7,7 +7,7 @@ ghost use mathlib.Core.Bool.{true};
 ghost use Prim.Native.Nat.{_≤_, _<_};
 ghost use Rattle.homes.specs.Homes.{Ready, firstPages, shapeOf};
 ghost use Rattle.state.specs.State.{inRange, isDue, fresh, oneMore, oneLess, grown};
-ghost use Rattle.state.specs.Answer.{numbers};
+ghost use Rattle.state.specs.Answer.{numbers, again};
 
 // The parameters, pages grown to, pages lent, records held.
 pub struct State {
@@ -30,6 +30,7 @@ pub enum Answer {
     NoRoom { read: u32 },
     AtCap,
     NotImage { read: u32 },
+    Clash { value: u64, read: u32 },
 }
 
 // An answer in the numbers of the refusal table.
@@ -139,7 +140,18 @@ fn told(refusal: u16, page: u16, value: u64, read: u32, moved: u32) -> Numbers
 }
 
 impl Answer {
-    // The answer in 01's numbers.
+    // The answer to a put of a key that is held: a repeat where it offers the value held, and else a
+    // clash. Both tell the value held.
+    pub fn again(offered: u64, held: u64, read: u32) -> Self
+        ensures { λ r. ⌜ r ≡ again offered held read ⌝ }
+    {
+        if offered == held {
+            return Answer::Held { value: held, read };
+        }
+        Answer::Clash { value: held, read }
+    }
+
+    // The answer in 01's numbers, and 02's.
     pub fn numbers(self) -> Numbers
         ensures { λ r. ⌜ r ≡ numbers self ⌝ }
     {
@@ -154,6 +166,7 @@ impl Answer {
             Answer::NoRoom { read } => told(7, 0, 0, read, 0),
             Answer::AtCap => told(8, 0, 0, 0, 0),
             Answer::NotImage { read } => told(9, 0, 0, read, 0),
+            Answer::Clash { value, read } => told(13, 0, value, read, 0),
         }
     }
 }

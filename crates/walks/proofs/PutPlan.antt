@@ -14,11 +14,12 @@ use lib.Seq.{take-all}
 use Rattle.placing.specs.Lay.{rankOf, rankIn, ins}
 use Rattle.placing.proofs.Order.{ins-length}
 use Rattle.pages.specs.declared.Judged.{Judged}
-use Rattle.pages.specs.Page.{Record, key, readPage}
+use Rattle.pages.specs.Page.{Record, key, value, readPage}
 use Rattle.pages.specs.Places.{ahead}
 use Rattle.pages.specs.Area.{partAt, pagesFrom}
 use Rattle.pages.proofs.RoundTrip.{read-good}
-use Rattle.state.specs.declared.Answer.the-variants.{Broken, NoRoom, Held}
+use Rattle.state.specs.declared.Answer.the-variants.{Broken, NoRoom}
+use Rattle.state.specs.Answer.{again}
 use Rattle.walks.specs.declared.Met.{Met}
 use Rattle.walks.specs.declared.Met.the-variants.{Found, Ends}
 use Rattle.walks.specs.declared.Met.the-variants as mets
@@ -178,7 +179,7 @@ module _ (h : ℕ → ℕ) (area : List ℕ) (x : Record) where
     unfolding putWalk
     put-met met e = rw (← e, is)
 
-    pub put-found : (a i c old n : ℕ) → m ≡ Found a i c old n → stopped (Held old n) ≡ putWalk h area cap x
+    pub put-found : (a i c old n : ℕ) → m ≡ Found a i c old n → stopped (again (value x) old n) ≡ putWalk h area cap x
     put-found a i c old n e = put-met (Found a i c old n) e
 
     pub put-sick : (a n : ℕ) → m ≡ mets.Broken a n → stopped (Broken a n) ≡ putWalk h area cap x

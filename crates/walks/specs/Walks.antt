@@ -12,7 +12,8 @@ use Rattle.pages.specs.Page.{Record, key, value, recordsIn}
 use Rattle.pages.specs.Places.{closed, ahead}
 use Rattle.pages.specs.Area.{partAt, pagesFrom, withPage}
 use Rattle.state.specs.declared.Answer.{Answer}
-use Rattle.state.specs.declared.Answer.the-variants.{Accepted, Broken, Absent, Held, NoRoom}
+use Rattle.state.specs.declared.Answer.the-variants.{Accepted, Broken, Absent, NoRoom}
+use Rattle.state.specs.Answer.{again}
 use Rattle.walks.specs.declared.Met.{Met}
 use Rattle.walks.specs.declared.Met.the-variants.{Found, Ends}
 use Rattle.walks.specs.declared.Met.the-variants as mets
@@ -77,7 +78,7 @@ andPage a p (stopped why) = stopped why
 module _ (h : ℕ → ℕ) where
   -- Put, from the ending page on: "the record goes to its place in order on the ending page. If
   -- that page was full, its last record (the new one counted) goes to its place on the next page,
-  -- and so on to the first page that wasn't full. mets.AtEnd the end ..: 7."
+  -- and so on to the first page that wasn't full. Past the end ..: 7."
   abbrev pub carry : (a n m : ℕ) → Record → List (Option (List Record)) → Walked
   carry a n m x [] = stopped (NoRoom n)
   carry a n m x (none ∷ ps) = stopped (Broken a (suc n))
@@ -86,10 +87,11 @@ module _ (h : ℕ → ℕ) where
       let on = carry (suc a) (suc n) (suc m) (getD q 12 x) ps in
       cond (ltb (length p) 12) (went ((a, q) ∷ []) (suc n) m) (andPage a (take 12 q) on)
 
-  -- "Put walks likewise; a found key is 6, with the value held"; "where the walk met only full
-  -- pages to the end of the area: 7". The ending page counts once.
+  -- "Put walks likewise; a found key is 6, with the value held", or a clash (02, request 1: "13 ..
+  -- stands where 6 stood in the walk; 6 is now given only for equal values"); "where the walk met
+  -- only full pages to the end of the area: 7". The ending page counts once.
   abbrev pub putMet : List ℕ → (cap : ℕ) → Record → Met → Walked
-  putMet area cap x (Found a i c v n) = stopped (Held v n)
+  putMet area cap x (Found a i c v n) = stopped (again (value x) v n)
   putMet area cap x (mets.Broken a n) = stopped (Broken a n)
   putMet area cap x (Ends a i c n) = carry a (n - 1) 0 x (pagesFrom h area (cap - a) a)
   putMet area cap x (mets.AtEnd n) = stopped (NoRoom n)

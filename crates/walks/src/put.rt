@@ -68,7 +68,7 @@ pub fn plan_put(area: &[u8], cap: usize, shape: Shape, new: Record) -> Plan
             value: old,
             read,
         } => Plan::Stop {
-            why: Answer::Held { value: old, read },
+            why: Answer::again(new.value, old, read),
         },
         Met::Broken { page, read } => Plan::Stop {
             why: Answer::Broken {

@@ -67,6 +67,12 @@ enum-known-self-6 c = search needs
 told-requires-10 : tie.Need-told-requires-10
 told-requires-10 c κs = search needs
 
+enum-known-self-7 : tie.Need-enum-known-self-7
+enum-known-self-7 c = search needs
+
+told-requires-11 : tie.Need-told-requires-11
+told-requires-11 c κs = search needs
+
 returns : tie.Need-returns
 returns c = c .told .ensures ∙ sym (ap numbers (c .before .before .self .given .1))
 
@@ -97,6 +103,9 @@ returns-9 c = c .told9 .ensures ∙ sym (ap numbers (c .before .enum-told4 .give
 returns-10 : tie.Need-returns-10
 returns-10 c = c .told10 .ensures ∙ sym (ap numbers (c .before .before .self6 .given .1))
 
+returns-11 : tie.Need-returns-11
+returns-11 c = c .told11 .ensures ∙ sym (ap numbers (c .before .before .self7 .given .1))
+
 pub numbers-spec : {M : Type 1} → statement M
 numbers-spec =
     tie.close
@@ -121,6 +130,8 @@ numbers-spec =
     told-requires-9
     enum-known-self-6
     told-requires-10
+    enum-known-self-7
+    told-requires-11
     returns
     returns-2
     returns-3
@@ -130,4 +141,5 @@ numbers-spec =
     returns-7
     returns-8
     returns-9
-    returns-10)
+    returns-10
+    returns-11)

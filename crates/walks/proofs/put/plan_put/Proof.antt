@@ -1,12 +1,13 @@
 -- `walks::plan_put` meets its contract: the pages that the walk meets decide, and from an ending
 -- page that is full on the first page with room.
-use mathlib.Core.Path.{subst}
+use mathlib.Core.Path.{ap, subst, _∙_}
 use native.Mathlib.Omega.{arith}
 use borrow.Author.Needs.{needs}
 use denote.Ref.{now}
 use Rattle.homes.specs.Homes.{homeIn}
 use Rattle.walks.specs.declared.Met.the-variants.{Ends}
 use Rattle.walks.specs.declared.Met.the-variants as mets
+use Rattle.walks.specs.Walks.{stopped}
 use Rattle.walks.specs.steps.Plans.{metIn}
 use Rattle.walks.proofs.PutPlan.{put-found, put-sick, put-past, put-at, put-here, put-on, put-placed}
 use Rattle.walks.proofs.put.plan_put.Statement.{statement}
@@ -17,6 +18,9 @@ meet-requires c κs = search needs
 
 enum-known-old : tie.Need-enum-known-old
 enum-known-old c = search needs
+
+again-requires : tie.Need-again-requires
+again-requires c κs = search needs
 
 enum-known-page : tie.Need-enum-known-page
 enum-known-page c = search needs
@@ -66,10 +70,11 @@ reach-requires c κs =
 
 returns-2 : tie.Need-returns-2
 returns-2 c =
-    let g = c .before .old .given in
-    let m = c .before .before .before .meet in
-    let a = c .before .before .before .before .before .args in (
-      put-found (homeIn (a .shape)) (now (a .area)) (a .new) (a .cap) (m .result) (m .ensures .0) (g .0 .0) (g .0 .1 .0) (g .0 .1 .1 .0) (g .0 .1 .1 .1 .0)
+    let g = c .before .before .old .given in
+    let m = c .before .before .before .before .meet in
+    let a = c .before .before .before .before .before .before .args in (
+      ap stopped (c .again .ensures)
+          ∙ put-found (homeIn (a .shape)) (now (a .area)) (a .new) (a .cap) (m .result) (m .ensures .0) (g .0 .0) (g .0 .1 .0) (g .0 .1 .1 .0) (g .0 .1 .1 .1 .0)
           (g .0 .1 .1 .1 .1 .0) (g .1),
       (tt, tt),
     )
@@ -110,6 +115,7 @@ plan-put-spec =
     (tie.spec
     meet-requires
     enum-known-old
+    again-requires
     enum-known-page
     cast-t17
     enum-known-read

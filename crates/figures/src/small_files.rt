@@ -109,6 +109,15 @@ fn print_spilt(area: &mut [u8], row: &mut [u32])
 }
 
 // The held key is put again, with its value and with another.
+fn print_held(state: State, area: &mut [u8]) {
+    let again = Record { key: 5, value: 50 };
+    let held = register::put(state, area, again);
+    print_answer(b"cap 1, held key 5 (value 50) put again", held);
+    let other = Record { key: 5, value: 1 };
+    let clash = register::put(held.state, area, other);
+    print_answer(b"cap 1, held key 5 (value 50) put with value 1", clash);
+}
+
 fn print_full(area: &mut [u8]) {
     let state = file_of(area, 1, 12);
     let new = Record {
@@ -117,12 +126,7 @@ fn print_full(area: &mut [u8]) {
     };
     let thirteenth = register::put(state, area, new);
     print_answer(b"cap 1, thirteenth key", thirteenth);
-    let again = Record { key: 5, value: 50 };
-    let held = register::put(thirteenth.state, area, again);
-    print_answer(b"cap 1, held key 5 (value 50) put again", held);
-    let other = Record { key: 5, value: 1 };
-    let clash = register::put(held.state, area, other);
-    print_answer(b"cap 1, held key 5 (value 50) put with value 1", clash);
+    print_held(thirteenth.state, area);
 }
 
 // Each file in an area that held other bytes before.

@@ -65,11 +65,10 @@ module _ (m : Kept) (ps : List (List Record)) (s : Stands m ps) where
           ((λ v. (λ t. absurd (omega (arith, t .0)), λ q. absurd (clash (sym e ∙ q)))), (λ z. e, λ z. n))
 
   -- a put of what isn't held
-  told-new : (x : Record) → commitOf (key x) (m .held) ≡ none → (OneOf (refusal f (put x)) (0 ∷ 7 ∷ [])) → PutTold m f x
+  told-new : (x : Record) → commitOf (key x) (m .held) ≡ none → OneOf (refusal f (put x)) (0 ∷ 7 ∷ []) → PutTold m f x
   told-new x e n =
-      let apart : (k : ℕ) → (OneOf k (0 ∷ 7 ∷ []) → ⊥) → refusal f (put x) ≡ k → ⊥ = λ k d q. d (rw q at n) in
-      let six = apart 6 (none-of 6 (0 ∷ 7 ∷ []) refl) in
-      let thirteen = apart 13 (none-of 13 (0 ∷ 7 ∷ []) refl) in
+      let six : refusal f (put x) ≡ 6 → ⊥ = λ q. none-of 6 (0 ∷ 7 ∷ []) refl (rw q at n) in
+      let thirteen : refusal f (put x) ≡ 13 → ⊥ = λ q. none-of 13 (0 ∷ 7 ∷ []) refl (rw q at n) in
       record {
         repeat = λ w. (λ t. absurd (six (t .0)), λ t. absurd (clash (sym e ∙ t .0)));
         clash = λ w. (λ t. absurd (thirteen (t .0)), λ t. absurd (clash (sym e ∙ t .0)));

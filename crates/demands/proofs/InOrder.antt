@@ -9,6 +9,7 @@ use Prim.Native.Nat.{ℕ}
 use lib.Dec.{eqb}
 use borrow.Author.Tests.{not-true, eqb-true, eqb-false}
 use Rattle.numbers.proofs.Records.{and-left, and-right}
+use Rattle.placing.specs.Image.{All}
 use Rattle.demands.specs.Refusals.{Cause, when, unless, number, Holds, Fails, InOrder, OneOf}
 
 -- whether a number is one of a list, as a test
@@ -31,6 +32,11 @@ none-of n (k ∷ ks) e = go (eqb n k) refl e (none-of n ks)
     go : (u : Bool) → eqb n k ≡ u → (u || listed n ks) ≡ false → (listed n ks ≡ false → OneOf n ks → ⊥) → OneOf n (k ∷ ks) → ⊥
     go true q e on = absurd (false≢true (sym e))
     go false q e on = ⊎-elim (eqb-false n k q) (on e)
+
+-- what holds of each number of a list holds of one of them
+pub each-of : (P : ℕ → Type 0) (n : ℕ) (ks : List ℕ) → All P ks → OneOf n ks → P n
+each-of P n [] a w = absurd w
+each-of P n (k ∷ ks) a w = ⊎-elim (λ e. rw e (a .0)) (each-of P n ks (a .1)) w
 
 -- the numbers of causes, and whether they all differ
 abbrev pub ranks : List Cause → List ℕ

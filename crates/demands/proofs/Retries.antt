@@ -1,7 +1,7 @@
 -- A put of a held key beside a find of it, on any bytes.
 use mathlib.Core.Path.{_≡_, refl, sym, ap, _∙_}
 use mathlib.Core.Bool.{Bool, true, false}
-use mathlib.Core.Logic.{_↔_, inl, inr, ⊎-elim}
+use mathlib.Core.Logic.{_↔_, inl, inr}
 use mathlib.Core.List.{List, [], _∷_}
 use Prim.Native.Nat.{ℕ, _-_, _*_}
 use native.Mathlib.Decide.{ℕ-discrete}
@@ -23,7 +23,7 @@ use Rattle.gates.specs.Gates.{onGate, gateOf}
 use Rattle.register.specs.Calls.{settled}
 use Rattle.register.specs.Files.{find, put, File}
 use Rattle.demands.specs.Refusals.{OneOf, tells}
-use Rattle.demands.proofs.InOrder.{listed, none-of}
+use Rattle.demands.proofs.InOrder.{listed, none-of, each-of}
 use Rattle.demands.proofs.Causes.{Enters, out, other, entered, enter}
 use Rattle.demands.proofs.WalkNumbers.{StopsWith, carry-stops}
 use Rattle.demands.proofs.WalkCalls.{find-tells, puts, put-tells}
@@ -60,13 +60,8 @@ module _ (f : File) (x : Record) where
 
   -- no carry ends in one of the two
   carried : (u : Bool) (w : Walked) → StopsWith f (4 ∷ 7 ∷ []) w → OneOf (numbers (settled s area (oneMore s) u w .done .answer) .refusal) (6 ∷ 13 ∷ []) → ⊥
-  carried u (stopped why) t = ⊎-elim four (⊎-elim seven absurd) (t .gives)
-    where
-      four : numbers why .refusal ≡ 4 → OneOf (numbers why .refusal) (6 ∷ 13 ∷ []) → ⊥
-      four e w = none-of 4 (6 ∷ 13 ∷ []) refl (rw e at w)
-
-      seven : numbers why .refusal ≡ 7 → OneOf (numbers why .refusal) (6 ∷ 13 ∷ []) → ⊥
-      seven e w = none-of 7 (6 ∷ 13 ∷ []) refl (rw e at w)
+  carried u (stopped why) t =
+      each-of (λ k. OneOf k (6 ∷ 13 ∷ []) → ⊥) (numbers why .refusal) (4 ∷ 7 ∷ []) (none-of 4 (6 ∷ 13 ∷ []) refl, (none-of 7 (6 ∷ 13 ∷ []) refl, tt)) (t .gives)
   carried true (went ws n m) t = none-of 9 (6 ∷ 13 ∷ []) refl
   carried false (went ws n m) t = none-of 0 (6 ∷ 13 ∷ []) refl
 

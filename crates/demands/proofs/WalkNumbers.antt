@@ -2,7 +2,7 @@
 -- is broken.
 use mathlib.Core.Path.{_≡_, refl}
 use mathlib.Core.Bool.{Bool, true, false, cond}
-use mathlib.Core.Logic.{inl, inr, ⊎-elim}
+use mathlib.Core.Logic.{inl, inr}
 use mathlib.Core.Option.{Option, none, some}
 use mathlib.Core.List.{List, [], _∷_}
 use Prim.Native.Nat.{ℕ, zero, suc, _-_, _≤_}
@@ -23,7 +23,7 @@ use Rattle.walks.specs.declared.Met.the-variants as mets
 use Rattle.walks.specs.Walks.{heldAt, onHeld, endsOn, meets, walk, Walked, went, stopped, andPage, carry, putMet, putWalk, pullBack, removeMet, removeWalk}
 use Rattle.register.specs.Files.{put, remove, File}
 use Rattle.demands.specs.Refusals.{BrokenAt, OneOf, gives}
-use Rattle.demands.proofs.InOrder.{listed, one-of, none-of}
+use Rattle.demands.proofs.InOrder.{listed, one-of, none-of, each-of}
 
 module _ (f : File) where
   abbrev h : ℕ → ℕ
@@ -114,13 +114,12 @@ module _ (f : File) where
 
   carry-put : (w : Walked) → StopsWith carryStops w → StopsWith putStops w
   carry-put (went ws n m) t = tt
-  carry-put (stopped why) t = record { gives = ⊎-elim four (⊎-elim seven absurd) (t .gives); met = t .met; broken = t .broken }
-    where
-      four : numbers why .refusal ≡ 4 → OneOf (numbers why .refusal) putStops
-      four e = rw e (one-of 4 putStops refl)
-
-      seven : numbers why .refusal ≡ 7 → OneOf (numbers why .refusal) putStops
-      seven e = rw e (one-of 7 putStops refl)
+  carry-put (stopped why) t =
+      record {
+        gives = each-of (λ k. OneOf k putStops) (numbers why .refusal) carryStops (one-of 4 putStops refl, (one-of 7 putStops refl, tt)) (t .gives);
+        met = t .met;
+        broken = t .broken;
+      }
 
   pub put-stops : (x : Record) → StopsWith putStops (putWalk h (f .area) cap x)
   unfolding putWalk

@@ -52,8 +52,8 @@ module _ (f : File) (x : Record) where
   abbrev area : List ℕ
   area = f .area
 
-  neither-number : (k l : ℕ) {p q : Numbers} → p .refusal ≡ k → q .refusal ≡ l → listed k (6 ∷ 13 ∷ []) ≡ false → (l ≡ 0 → ⊥) → Beside x p q
-  neither-number k l a b d e = neither (λ w. none-of k (6 ∷ 13 ∷ []) d (rw a at w)) (λ w. e (sym b ∙ w))
+  away : (p q : Numbers) → listed (p .refusal) (6 ∷ 13 ∷ []) ≡ false → listed (q .refusal) (0 ∷ []) ≡ false → Beside x p q
+  away p q a b = neither (none-of (p .refusal) (6 ∷ 13 ∷ []) a) (λ e. none-of (q .refusal) (0 ∷ []) b (inl e))
 
   abbrev comesTo : Walked → Numbers
   comesTo w = numbers (settled s area (oneMore s) (eqb (s .r) (12 * s .cap)) w .done .answer)
@@ -71,11 +71,11 @@ module _ (f : File) (x : Record) where
 
   met : (m : Met) → Beside x (comesTo (putMet (homes s) area (s .cap) x m)) (numbers (findAnswer m))
   met (Found a i c v n) = held v n (ℕ-discrete (value x) v)
-  met (mets.Broken a n) = neither-number 4 4 refl refl refl (λ e. omega arith)
+  met (mets.Broken a n) = away _ _ refl refl
   met (Ends a i c n) =
       neither (carried (eqb (s .r) (12 * s .cap)) (carry (homes s) a (n - 1) 0 x (pagesFrom (homes s) area (s .cap - a) a)) (carry-stops f (s .cap - a) a (n - 1) 0 x (omega arith)))
       (λ e. omega arith)
-  met (mets.AtEnd n) = neither-number 7 5 refl refl refl (λ e. omega arith)
+  met (mets.AtEnd n) = away _ _ refl refl
 
   beside : Beside x (tells f (put x)) (tells f (find (key x)))
   unfolding putWalk
@@ -83,8 +83,8 @@ module _ (f : File) (x : Record) where
     where
       go : Enters s area
           → Beside x (onGate (gateOf s (length area)) numbers (puts f x)) (onGate (gateOf s (length area)) numbers (numbers (findAnswer (walk (homes s) area (s .cap) (key x)))))
-      go (out r g) = rw g (neither-number 1 1 refl refl refl (λ e. omega arith))
-      go (other r l g) = rw g (neither-number 2 2 refl refl refl (λ e. omega arith))
+      go (out r g) = rw g (away _ _ refl refl)
+      go (other r l g) = rw g (away _ _ refl refl)
       go (entered r l g) = rw g (met (walk (homes s) area (s .cap) (key x)))
 
   module _ (w n : ℕ) where

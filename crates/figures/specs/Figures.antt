@@ -98,7 +98,7 @@ given =
     ++ (moves (grow (putAll twelve (file 2)))
     ++ (then12 (grow (putAll twelve (file 2))) ++ (thirteen (putAll (twelve ++ 12 ∷ []) (file 2)) ++ onePage (putAll twelve (file 1)))))
 
--- .. and as 01 and 02 print it
+-- .. and as 01 prints it, with the 13 of 02
 abbrev pub printed : List (List ℕ)
 printed =
     (16807 ∷ 282475249 ∷ 1622650073 ∷ 984943658 ∷ [])

@@ -44,8 +44,8 @@ formatted old q cap area =
 abbrev pub found : State → List ℕ → (k : ℕ) → Done
 found s area k = onGate (gateOf s (length area)) (done s) (done s (findAnswer (walk (homes s) area (s .cap) k)))
 
--- "Put and remove 1, 2, the walk (4, 5, 6 or 7 as met), then 9": where it went well, the state
--- after it is `next`, unless the count is wrong
+-- "Put and remove 1, 2, the walk (4, 5, 6 or 7 as met), then 9", with 13 beside 6 (02, request 1):
+-- where it went well, the state after it is `next`, unless the count is wrong
 abbrev pub settled : State → List ℕ → (next : State) → (wrong : Bool) → Walked → Outcome
 settled s area next wrong (stopped why) = refused s area why
 settled s area next wrong (went pages read moved) =

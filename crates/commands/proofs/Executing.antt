@@ -11,10 +11,11 @@ use Rattle.state.specs.declared.State.{State}
 use Rattle.state.specs.declared.Numbers.{Numbers}
 use Rattle.register.specs.Calls.{formatted, found, stored, removed, checked, grew}
 use Rattle.register.specs.Files.{left}
-use Rattle.commands.specs.declared.Command.{Command}
-use Rattle.commands.specs.declared.Command.the-variants.{Format, Put, Find, Remove, Grow, Check}
-use Rattle.commands.specs.declared.Told.{Told}
-use Rattle.commands.specs.Execute.{Executed, site, refusedBy, executed, tells, toldOf}
+use Rattle.records.specs.declared.Command.{Command}
+use Rattle.records.specs.declared.Command.the-variants.{Format, Put, Find, Remove, Grow, Check}
+use Rattle.records.specs.declared.Told.{Told}
+use Rattle.records.specs.Records.{refusedBy, tells}
+use Rattle.commands.specs.Execute.{Executed, site, executed, toldOf}
 use Rattle.commands.proofs.Lending.{Back, GrowsBack, written-first}
 
 -- what is told of a command, and the bytes and the row that it leaves

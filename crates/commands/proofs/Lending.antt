@@ -11,8 +11,8 @@ use Rattle.numbers.proofs.Laws.{written-same}
 use Rattle.state.specs.declared.Done.{Done}
 use Rattle.register.specs.Calls.{Outcome, Growth}
 use Rattle.register.proofs.Answers.{Comes, Grows}
-use Rattle.commands.specs.declared.Told.{Told}
-use Rattle.commands.specs.Execute.{tells}
+use Rattle.records.specs.declared.Told.{Told}
+use Rattle.records.specs.Records.{tells}
 
 -- what a call on lent bytes comes to: what is told, and its outcome written over them
 abbrev pub Back : Told → (space new : List ℕ) → Outcome → Type 0

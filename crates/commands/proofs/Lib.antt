@@ -1,6 +1,3 @@
-pub mod Reading
-pub mod Replying
-pub mod ToTheByte
 pub mod Lending
 pub mod Executing
 pub mod Turning

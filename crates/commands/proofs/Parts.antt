@@ -11,17 +11,17 @@ use lib.Seq.{drop-append-le, drop-drop}
 use borrow.Author.Tests.{ltb-false, le-ltb, eqb-false, eq-eqb, ne-eqb}
 use Rattle.numbers.specs.Little.{numberAt}
 use Rattle.numbers.proofs.Laws.{number-front}
-use Rattle.commands.specs.declared.Kind.{Kind}
-use Rattle.commands.specs.declared.Kind.the-variants as kind
-use Rattle.commands.specs.declared.Form.{Form}
-use Rattle.commands.specs.declared.Form.the-variants as form
-use Rattle.commands.specs.declared.Item.{Item}
-use Rattle.commands.specs.declared.Item.the-variants.{Asks, Unknown, Cut}
-use Rattle.commands.specs.Records.{lengthOf, formOf, commandOf, formed, firstOf}
+use Rattle.records.specs.declared.Kind.{Kind}
+use Rattle.records.specs.declared.Kind.the-variants as kind
+use Rattle.records.specs.declared.Form.{Form}
+use Rattle.records.specs.declared.Form.the-variants as form
+use Rattle.records.specs.declared.Item.{Item}
+use Rattle.records.specs.declared.Item.the-variants.{Asks, Unknown, Cut}
+use Rattle.records.specs.Records.{lengthOf, formOf, commandOf, formed, firstOf}
 use Rattle.commands.specs.Execute.{Site, Executed}
 use Rattle.commands.specs.Log.{Turn, waits, stops, goes, onItem, turn, Log, rests, answered, onTurn, log, wholeLog}
 use Rattle.commands.specs.Promises.{joined}
-use Rattle.commands.proofs.Reading.{head-low, of-number}
+use Rattle.records.proofs.Reading.{head-low, of-number}
 
 -- the command of a whole record is the same with more behind it
 command-front : (k : Kind) (l m : List ℕ) → lengthOf k ≤ length l → commandOf k (l ++ m) ≡ commandOf k l

@@ -5,26 +5,27 @@ use mathlib.Core.List.{List, [], _∷_, _++_, append-assoc, append-nil}
 use Prim.Native.Nat.{ℕ, suc, _+_, _-_, _*_, _≤_, _<_}
 use native.Mathlib.Nat.{add-assoc, add-zero, zero-add}
 use native.Mathlib.Omega.{arith}
-use lib.ListN.{length, take, drop, length-append, length-drop}
-use lib.Seq.{take-all, drop-drop}
+use lib.ListN.{length, drop, length-append, length-drop}
+use lib.Seq.{drop-drop}
 use borrow.Author.Tests.{eq-eqb, ne-eqb}
-use borrow.Rule.Slice.PartMut.{putMid, put-same}
+use borrow.Rule.Slice.PartMut.{put-same}
 use Rattle.numbers.specs.Little.{written}
 use Rattle.numbers.specs.Fields.{Field, width, encode}
 use Rattle.numbers.proofs.Laws.{written-nil, written-written}
 use Rattle.numbers.proofs.Records.{length-encode}
 use Rattle.state.specs.declared.State.{State}
 use Rattle.state.specs.declared.Numbers.{Numbers}
-use Rattle.commands.specs.declared.Command.{Command}
-use Rattle.commands.specs.declared.Item.{Item}
-use Rattle.commands.specs.declared.Item.the-variants.{Asks, Unknown, Cut}
+use Rattle.records.specs.declared.Command.{Command}
+use Rattle.records.specs.declared.Item.{Item}
+use Rattle.records.specs.declared.Item.the-variants.{Asks, Unknown, Cut}
+use Rattle.records.proofs.Lent.{from, from-drop, place, placed, placed-written}
 use Rattle.commands.specs.declared.Step.{Step}
 use Rattle.commands.specs.declared.Step.the-variants.{Waits, Stops, Goes}
-use Rattle.commands.specs.declared.Told.{Told}
+use Rattle.records.specs.declared.Told.{Told}
 use Rattle.commands.specs.declared.Ran.{Ran}
-use Rattle.commands.specs.Records.{firstOf, replyOf}
-use Rattle.commands.specs.Execute.{Site, site, Executed, executed, refusedBy, toldOf}
-use Rattle.commands.specs.Log.{Turn, waits, stops, goes, turn, Log, rests, onTurn, log, bytesOfAll, ranOf}
+use Rattle.records.specs.Records.{firstOf, replyOf, refusedBy, bytesOfAll}
+use Rattle.commands.specs.Execute.{Site, site, Executed, executed, toldOf}
+use Rattle.commands.specs.Log.{Turn, waits, stops, goes, turn, Log, rests, onTurn, log, ranOf}
 use Rattle.commands.specs.steps.Within.{Lies, stepOf, siteAfter, replyAfter, Takes, RanIn}
 
 -- what the code gives back of a turn: the step, the space, the row, and the bytes of the reply
@@ -86,25 +87,6 @@ bytes-more : (rs : List (List Field)) (r : List Field) → bytesOfAll (rs ++ (r 
 unfolding bytesOfAll
 bytes-more [] r = append-nil (encode r)
 bytes-more (x ∷ rs) r = rw (bytes-more rs r, append-assoc)
-
--- the input from an offset on, as the code lends it
-abbrev from : List ℕ → ℕ → List ℕ
-from l n = take (length l - n) (drop n l)
-
-from-drop : (l : List ℕ) (n : ℕ) → from l n ≡ drop n l
-from-drop l n = take-all (length l - n) (drop n l) (omega (arith, length-drop n l))
-
--- the bytes of a reply's place, as the code lends them, and all bytes with others in that place
-abbrev place : List ℕ → ℕ → List ℕ
-place l k = take (28 * k + 28 - 28 * k) (drop (28 * k) l)
-
-abbrev placed : List ℕ → ℕ → List ℕ → List ℕ
-placed l k v = putMid (28 * k) (28 * k + 28 - 28 * k) l v
-
--- a reply in its place is a write
-placed-written : (l v : List ℕ) (k : ℕ) → length v ≡ 28 → placed l k v ≡ written l (28 * k) v
-unfolding written
-placed-written l v k n = let m : 28 * k + 28 - 28 * k ≡ length v = omega arith in rw (m, drop-drop)
 
 -- a log behind replies that are given and bytes that are taken
 abbrev pub behind : List (List Field) → (taken : ℕ) → Log → Log

@@ -6,13 +6,12 @@ use lib.ListN.{take}
 use lib.Dec.{ltb}
 use Rattle.numbers.specs.Little.{written}
 use Rattle.state.specs.declared.State.{State}
-use Rattle.state.specs.declared.Done.{Done}
 use Rattle.state.specs.declared.Numbers.{Numbers}
-use Rattle.state.specs.Answer.{told, numbers}
-use Rattle.register.specs.Files.{Call, format, find, put, remove, grow, check, Left, left, numbersOf}
-use Rattle.commands.specs.declared.Command.{Command}
-use Rattle.commands.specs.declared.Command.the-variants.{Format, Put, Find, Remove, Grow, Check}
-use Rattle.commands.specs.declared.Told.{Told}
+use Rattle.register.specs.Files.{Call, format, find, put, remove, grow, check, fileOf, Left, left, numbersOf}
+use Rattle.records.specs.declared.Command.{Command}
+use Rattle.records.specs.declared.Command.the-variants.{Format, Put, Find, Remove, Grow, Check}
+use Rattle.records.specs.declared.Told.{Told}
+use Rattle.records.specs.Records.{refusedBy}
 
 -- what a log keeps from one command to the next: the state, the bytes of its pages, and a row of
 -- counts
@@ -59,7 +58,7 @@ leaving d l =
 -- the call on the first of the pages: as many as are lent, or all where there are fewer
 abbrev pub calledWith : Site → Command → (lent : ℕ) → Executed
 calledWith d c lent =
-    leaving d (left (record { state = d .state; area = take (256 * lent) (d .space) }) (callOf c (take lent (d .row))))
+    leaving d (left (fileOf (d .state) (take (256 * lent) (d .space))) (callOf c (take lent (d .row))))
 
 -- 12: "more than 128 pages asked"
 abbrev pub tooMany : Command → Bool
@@ -70,17 +69,10 @@ tooMany (Remove k) = false
 tooMany Grow = false
 tooMany Check = false
 
--- a refusal of the log's own: all other numbers of its reply are 0
-abbrev pub refusedBy : ℕ → Numbers
-refusedBy n = told n 0 0 0 0
-
--- "then 12, then the call"
+-- "then 12, then the call": a refusal of the log's own has no other number in its reply
 unfoldable pub executed : Site → Command → Executed
 executed d c = cond (tooMany c) (carries (refusedBy 12) d) (calledWith d c (lentTo (d .state) c))
 
 -- what the code gives back of it
-abbrev pub tells : Done → Told
-tells d = record { state = d .state; numbers = numbers (d .answer) }
-
 abbrev pub toldOf : Executed → Told
 toldOf c = record { state = c .site .state; numbers = c .numbers }

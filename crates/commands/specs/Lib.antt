@@ -1,4 +1,3 @@
-pub mod Records
 pub mod Execute
 pub mod Log
 pub mod Promises

@@ -1,15 +1,15 @@
 -- A whole log, from bytes to replies (01, 'The log program'). What is quoted is 01's.
 use Prim.Native.Nat.{ℕ, zero, suc, _+_, _*_}
 use mathlib.Core.Bool.{Bool, true, false, cond}
-use mathlib.Core.List.{List, [], _∷_, _++_}
+use mathlib.Core.List.{List, [], _∷_}
 use lib.ListN.{length, drop}
 use lib.Dec.{eqb}
-use Rattle.numbers.specs.Fields.{Field, encode}
-use Rattle.commands.specs.declared.Item.{Item}
-use Rattle.commands.specs.declared.Item.the-variants.{Asks, Unknown, Cut}
+use Rattle.numbers.specs.Fields.{Field}
+use Rattle.records.specs.declared.Item.{Item}
+use Rattle.records.specs.declared.Item.the-variants.{Asks, Unknown, Cut}
+use Rattle.records.specs.Records.{firstOf, refusedBy, replyOf}
 use Rattle.commands.specs.declared.Ran.{Ran}
-use Rattle.commands.specs.Records.{firstOf, replyOf}
-use Rattle.commands.specs.Execute.{Site, Executed, executed, refusedBy}
+use Rattle.commands.specs.Execute.{Site, Executed, executed}
 
 -- what comes of the first record of an input: no reply yet, a refusal after which the log stops, or
 -- a command of so many bytes
@@ -63,11 +63,6 @@ log last (suc room) d l = onTurn d (turn last d l) (λ e n. log last room e (dro
 -- a whole log: it never has more replies than bytes
 abbrev pub wholeLog : Site → List ℕ → Log
 wholeLog d l = log true (length l) d l
-
--- the bytes of replies
-unfoldable pub bytesOfAll : List (List Field) → List ℕ
-bytesOfAll [] = []
-bytesOfAll (r ∷ rs) = encode r ++ bytesOfAll rs
 
 -- what the code gives back of it: a reply takes 28 bytes
 abbrev pub ranOf : Log → Ran

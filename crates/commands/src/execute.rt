@@ -1,17 +1,16 @@
 // One command carried out on a state, its pages and its row.
-use crate::Command;
-use crate::Told;
 use homes::Params;
 use pages::Record;
-use state::Done;
-use state::Numbers;
+use records::Command;
+use records::Told;
 use state::State;
 ghost use mathlib.Core.Path.{_≡_};
 ghost use Prim.Native.Nat.{_*_, _≤_, min};
 ghost use lib.ListN.{length, take};
 ghost use Rattle.numbers.specs.Little.{written};
 ghost use Rattle.register.specs.Calls.{formatted, found, stored, removed, checked, grew};
-ghost use Rattle.commands.specs.Execute.{site, refusedBy, executed, tells, toldOf};
+ghost use Rattle.records.specs.Records.{tells};
+ghost use Rattle.commands.specs.Execute.{site, executed, toldOf};
 
 // How many of the bytes of the space a file of so many pages is lent.
 fn lent(cap: u16, space: &[u8]) -> usize
@@ -26,34 +25,12 @@ fn lent(cap: u16, space: &[u8]) -> usize
     }
 }
 
-// A refusal of the log's own.
-pub(crate) fn refused(refusal: u16) -> Numbers
-    ensures { λ r. ⌜ r ≡ refusedBy refusal ⌝ }
-{
-    Numbers {
-        refusal,
-        page: 0,
-        value: 0,
-        read: 0,
-        moved: 0,
-    }
-}
-
-fn tell(done: Done) -> Told
-    ensures { λ r. ⌜ r ≡ tells done ⌝ }
-{
-    let state = done.state;
-    let answer = done.answer;
-    let numbers = answer.numbers();
-    Told { state, numbers }
-}
-
 fn format_lent(state: State, params: Params, cap: u16, space: &mut [u8]) -> Told
     ensures { λ r. let o = formatted state params cap (take (256 * cap) (now (space .entry))) in ⌜ (r ≡ tells (o .done)) × (now (space .exit) ≡ written (now (space .entry)) 0 (o .area)) ⌝ }
 {
     let end = lent(cap, &space[..]);
     let done = register::format(state, params, cap, &mut space[..end]);
-    tell(done)
+    records::tell(done)
 }
 
 fn put_lent(state: State, space: &mut [u8], new: Record) -> Told
@@ -61,7 +38,7 @@ fn put_lent(state: State, space: &mut [u8], new: Record) -> Told
 {
     let end = lent(state.cap, &space[..]);
     let done = register::put(state, &mut space[..end], new);
-    tell(done)
+    records::tell(done)
 }
 
 fn find_lent(state: State, space: &[u8], key: u64) -> Told
@@ -69,7 +46,7 @@ fn find_lent(state: State, space: &[u8], key: u64) -> Told
 {
     let end = lent(state.cap, space);
     let done = register::find(state, &space[..end], key);
-    tell(done)
+    records::tell(done)
 }
 
 fn remove_lent(state: State, space: &mut [u8], key: u64) -> Told
@@ -77,7 +54,7 @@ fn remove_lent(state: State, space: &mut [u8], key: u64) -> Told
 {
     let end = lent(state.cap, &space[..]);
     let done = register::remove(state, &mut space[..end], key);
-    tell(done)
+    records::tell(done)
 }
 
 fn grow_lent(state: State, space: &mut [u8], row: &mut [u32]) -> Told
@@ -87,7 +64,7 @@ fn grow_lent(state: State, space: &mut [u8], row: &mut [u32]) -> Told
     let cap = state.cap as usize;
     let counts = if cap < row.len() { cap } else { row.len() };
     let done = register::grow(state, &mut space[..end], &mut row[..counts]);
-    tell(done)
+    records::tell(done)
 }
 
 fn check_lent(state: State, space: &[u8]) -> Told
@@ -95,7 +72,7 @@ fn check_lent(state: State, space: &[u8]) -> Told
 {
     let end = lent(state.cap, space);
     let done = register::check(state, &space[..end]);
-    tell(done)
+    records::tell(done)
 }
 
 // A format is lent the pages that it asks for, every other command those that the state tells of;
@@ -108,7 +85,7 @@ pub fn execute(state: State, space: &mut [u8], row: &mut [u32], command: Command
             if 128 < cap {
                 return Told {
                     state,
-                    numbers: refused(12),
+                    numbers: records::refused(12),
                 };
             }
             format_lent(state, params, cap, space)

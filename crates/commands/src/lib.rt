@@ -1,57 +1,16 @@
 // The log: commands read from bytes, carried out on a state and lent pages, and answered in bytes.
 pub mod execute;
-pub mod records;
 
-use homes::Params;
-use pages::Record;
-use state::Numbers;
+use records::Item;
 use state::State;
 ghost use mathlib.Core.Path.{_≡_};
 ghost use Prim.Native.Nat.{_/_};
 ghost use lib.ListN.{length};
 ghost use Rattle.numbers.specs.Little.{written};
+ghost use Rattle.records.specs.Records.{bytesOfAll};
 ghost use Rattle.commands.specs.Execute.{site};
-ghost use Rattle.commands.specs.Log.{turn, log, bytesOfAll, ranOf};
+ghost use Rattle.commands.specs.Log.{turn, log, ranOf};
 ghost use Rattle.commands.specs.steps.Within.{stepOf, siteAfter, replyAfter, Takes, RanIn};
-
-// What a kind stands for.
-pub enum Kind {
-    Format,
-    Put,
-    Find,
-    Remove,
-    Grow,
-    Check,
-}
-
-// A kind's command, and the length of its record.
-pub enum Form {
-    Known { kind: Kind, length: u16 },
-    Unknown,
-}
-
-// A command with its numbers.
-pub enum Command {
-    Format { params: Params, cap: u16 },
-    Put { new: Record },
-    Find { key: u64 },
-    Remove { key: u64 },
-    Grow,
-    Check,
-}
-
-// The first record of an input: a command and how many bytes it takes, no command, or cut off.
-pub enum Item {
-    Asks { command: Command, length: usize },
-    Unknown,
-    Cut,
-}
-
-// The state after a command, and the numbers of its reply.
-pub struct Told {
-    pub state: State,
-    pub numbers: Numbers,
-}
 
 // What comes of one record: nothing yet, a reply that is the last, or a reply after which the log
 // goes on.
@@ -97,14 +56,14 @@ fn serve_one(
             }
         }
         Item::Unknown => {
-            records::reply(part, execute::refused(10), state);
+            records::reply(part, records::refused(10), state);
             Step::Stops
         }
         Item::Cut => {
             if !last {
                 return Step::Waits;
             }
-            records::reply(part, execute::refused(11), state);
+            records::reply(part, records::refused(11), state);
             Step::Stops
         }
     }

@@ -16,8 +16,8 @@ use Rattle.survey.specs.Survey.{isImage, surveyed}
 use Rattle.rebuild.specs.Relaid.{relaid}
 use Rattle.gates.specs.Gates.{gateOf, imageGate, growGate}
 use Rattle.register.specs.Calls.{grownFile}
-use Rattle.register.specs.Files.{Call, format, find, put, remove, grow, check, due, File, left}
-use Rattle.demands.specs.Histories.{after, Kept, without, kept}
+use Rattle.register.specs.Files.{Call, format, find, put, remove, grow, check, due, File, left, after}
+use Rattle.demands.specs.Histories.{Kept, without, kept}
 use Rattle.demands.specs.Demands.{Fresh}
 
 abbrev start : File

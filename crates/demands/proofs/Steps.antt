@@ -22,8 +22,8 @@ use Rattle.state.specs.Answer.{numbers, again}
 use Rattle.state.proofs.Ranges.{ranged, grown-range}
 use Rattle.state.proofs.Answers.{again-same, again-other}
 use Rattle.register.specs.Calls.{done, Growth, grew}
-use Rattle.register.specs.Files.{Call, format, find, put, remove, grow, check, due, File, says, Left, leaves, ofGrowth, left, numbersOf}
-use Rattle.demands.specs.Histories.{Fits, after, refusal, Kept, stateOf, without, commitOf, begun, holding, paged, makes, kept}
+use Rattle.register.specs.Files.{Call, format, find, put, remove, grow, check, due, File, says, Left, leaves, ofGrowth, left, numbersOf, after}
+use Rattle.demands.specs.Histories.{Fits, refusal, Kept, stateOf, without, commitOf, begun, holding, paged, makes, kept}
 use Rattle.demands.proofs.GrownImage.{grownPages, grownRow, accepts, refuses, check-yes, grow-refused-row, grow-at-cap, grow-room, grow-full, grown-image}
 use Rattle.demands.proofs.Standing.{Stands, fileOf, Refused, Accepts, find-held, find-absent, remove-absent, remove-held, put-held, put-full, put-new}
 use Rattle.demands.proofs.Sets.{set-put}

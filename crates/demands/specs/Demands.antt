@@ -12,8 +12,8 @@ use Rattle.placing.specs.Rows.{counts}
 use Rattle.pages.specs.Page.{Record, key, value, homeFor}
 use Rattle.state.specs.State.{homes, grown}
 use Rattle.register.specs.OneImage.{AreaImage}
-use Rattle.register.specs.Files.{Call, format, find, put, remove, grow, check, due, File, says, left, numbersOf}
-use Rattle.demands.specs.Histories.{Fits, after, refusal, Kept, stateOf, commitOf, kept}
+use Rattle.register.specs.Files.{Call, format, find, put, remove, grow, check, due, File, says, left, numbersOf, after}
+use Rattle.demands.specs.Histories.{Fits, refusal, Kept, stateOf, commitOf, kept}
 use Rattle.demands.specs.ReadMoved.{ReadHeld, ReadAbsent, ReadWithin, Moved}
 
 -- A file that a history left "from a fresh file": calls from any bytes and any state, a format

@@ -24,11 +24,6 @@ Fits (grow row) = Unit {0}
 Fits check = Unit {0}
 Fits due = Unit {0}
 
--- "each call given the pages and state that the last one left"
-unfoldable pub after : File → List Call → File
-after f [] = f
-after f (c ∷ cs) = after (left f c .file) cs
-
 -- 01: "refusal 0 means accepted"
 abbrev pub refusal : File → Call → ℕ
 refusal f c = numbersOf (left f c .said) .refusal

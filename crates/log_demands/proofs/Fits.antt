@@ -11,16 +11,16 @@ use Rattle.numbers.specs.Little.{Bytes, numberAt}
 use Rattle.numbers.proofs.Laws.{bytes-drop, number-bound}
 use Rattle.placing.specs.Image.{All}
 use Rattle.demands.specs.Histories.{Fits}
-use Rattle.commands.specs.declared.Kind.{Kind}
-use Rattle.commands.specs.declared.Kind.the-variants as kind
-use Rattle.commands.specs.declared.Form.{Form}
-use Rattle.commands.specs.declared.Form.the-variants as form
-use Rattle.commands.specs.declared.Command.{Command}
-use Rattle.commands.specs.declared.Item.{Item}
-use Rattle.commands.specs.declared.Item.the-variants.{Asks, Unknown, Cut}
-use Rattle.commands.specs.Records.{lengthOf, formOf, commandOf, formed, firstOf}
+use Rattle.records.specs.declared.Kind.{Kind}
+use Rattle.records.specs.declared.Kind.the-variants as kind
+use Rattle.records.specs.declared.Form.{Form}
+use Rattle.records.specs.declared.Form.the-variants as form
+use Rattle.records.specs.declared.Command.{Command}
+use Rattle.records.specs.declared.Item.{Item}
+use Rattle.records.specs.declared.Item.the-variants.{Asks, Unknown, Cut}
+use Rattle.records.specs.Records.{lengthOf, formOf, commandOf, formed, firstOf}
 use Rattle.commands.specs.Execute.{callOf}
-use Rattle.commands.proofs.Reading.{of-number}
+use Rattle.records.proofs.Reading.{of-number}
 use Rattle.log_demands.specs.LogDemands.{onFirst, asked}
 
 -- a command's numbers fit: its call's do, with any row

@@ -15,14 +15,14 @@ use Rattle.register.specs.Files.{left}
 use Rattle.demands.specs.Histories.{Kept}
 use Rattle.demands.specs.Demands.{Fresh}
 use Rattle.demands.proofs.Demands.{demands}
-use Rattle.commands.specs.declared.Command.{Command}
-use Rattle.commands.specs.declared.Command.the-variants.{Format, Put, Find, Remove, Grow, Check}
-use Rattle.commands.specs.declared.Item.{Item}
-use Rattle.commands.specs.declared.Item.the-variants.{Asks, Unknown, Cut}
-use Rattle.commands.specs.Records.{firstOf}
+use Rattle.records.specs.declared.Command.{Command}
+use Rattle.records.specs.declared.Command.the-variants.{Format, Put, Find, Remove, Grow, Check}
+use Rattle.records.specs.declared.Item.{Item}
+use Rattle.records.specs.declared.Item.the-variants.{Asks, Unknown, Cut}
+use Rattle.records.specs.Records.{firstOf}
 use Rattle.commands.specs.Execute.{Site, executed}
 use Rattle.commands.specs.Log.{waits, stops, onItem, turn, onTurn, log}
-use Rattle.commands.proofs.Reading.{head-cut}
+use Rattle.records.proofs.Reading.{head-cut}
 use Rattle.log_demands.specs.LogDemands.{onFirst, asked, keptBy, fileAt, AsCalled, AnswersOne, After, LogDemands}
 use Rattle.log_demands.proofs.Fits.{Fit, asked-fits}
 use Rattle.log_demands.proofs.OneCommand.{Holds, command-keeps}

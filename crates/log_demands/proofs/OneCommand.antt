@@ -17,9 +17,10 @@ use Rattle.register.specs.Files.{Call, format, find, put, remove, grow, check, 
 use Rattle.demands.specs.Histories.{Fits, refusal, Kept, without, holding, paged, begun, makes}
 use Rattle.demands.specs.Demands.{Fresh}
 use Rattle.demands.proofs.Demands.{demands}
-use Rattle.commands.specs.declared.Command.{Command}
-use Rattle.commands.specs.declared.Command.the-variants.{Format, Put, Find, Remove, Grow, Check}
-use Rattle.commands.specs.Execute.{Site, callOf, Executed, carries, refusedBy, calledWith, executed}
+use Rattle.records.specs.declared.Command.{Command}
+use Rattle.records.specs.declared.Command.the-variants.{Format, Put, Find, Remove, Grow, Check}
+use Rattle.records.specs.Records.{refusedBy}
+use Rattle.commands.specs.Execute.{Site, callOf, Executed, carries, calledWith, executed}
 use Rattle.commands.proofs.Lending.{written-first}
 use Rattle.log_demands.proofs.Fits.{Fit}
 use Rattle.log_demands.proofs.OneMore.{fresh-more, fresh-format, format-lent, fresh-cap, fresh-length}

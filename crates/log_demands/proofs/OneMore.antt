@@ -18,8 +18,8 @@ use Rattle.state.specs.State.{inRange, fresh}
 use Rattle.gates.specs.declared.Gate.the-variants.{Open, Shut}
 use Rattle.gates.specs.Gates.{onGate, gateOf}
 use Rattle.register.specs.Calls.{done, Outcome, refused}
-use Rattle.register.specs.Files.{Call, format, File, ofOutcome, left, numbersOf}
-use Rattle.demands.specs.Histories.{Fits, after, refusal, Kept, begun, makes, kept}
+use Rattle.register.specs.Files.{Call, format, File, ofOutcome, left, numbersOf, after}
+use Rattle.demands.specs.Histories.{Fits, refusal, Kept, begun, makes, kept}
 use Rattle.demands.specs.Demands.{Fresh}
 use Rattle.demands.proofs.Demands.{demands}
 

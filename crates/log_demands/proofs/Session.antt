@@ -19,10 +19,10 @@ use Rattle.walks.specs.Walks.{walk, putWalk, removeWalk}
 use Rattle.gates.specs.Gates.{gateOf}
 use Rattle.register.specs.Files.{left}
 use Rattle.demands.specs.Histories.{Kept}
-use Rattle.commands.specs.declared.Command.the-variants.{Format, Put, Find}
-use Rattle.commands.specs.Records.{formOf, firstOf, layoutOf}
+use Rattle.records.specs.declared.Command.the-variants.{Format, Put, Find}
+use Rattle.records.specs.Records.{formOf, firstOf, layoutOf, bytesOfAll}
 use Rattle.commands.specs.Execute.{Site, site, executed}
-use Rattle.commands.specs.Log.{turn, log, wholeLog, bytesOfAll}
+use Rattle.commands.specs.Log.{turn, log, wholeLog}
 use Rattle.log_demands.specs.LogDemands.{asked, keptBy, noFile, After}
 
 -- two pages and a row of zeros, and no file yet

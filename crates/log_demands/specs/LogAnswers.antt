@@ -6,13 +6,13 @@ use lib.ListN.{length}
 use denote.Ref.{now}
 use Rattle.numbers.specs.Little.{written}
 use Rattle.demands.specs.Answers.{Settled}
-use Rattle.commands.proofs.records.first as First
+use Rattle.records.proofs.first as First
 use Rattle.commands.proofs.execute.execute as Execute
 use Rattle.commands.proofs.log as Whole
 use Rattle.commands.specs.declared.Ran.{Ran}
-use Rattle.commands.specs.Records.{firstOf}
+use Rattle.records.specs.Records.{firstOf, bytesOfAll}
 use Rattle.commands.specs.Execute.{site, carries, executed}
-use Rattle.commands.specs.Log.{Log, log, bytesOfAll, ranOf}
+use Rattle.commands.specs.Log.{Log, log, ranOf}
 
 -- what the code of a log comes to: how far it went, the bytes of its pages, the row, and the bytes
 -- where its replies stand

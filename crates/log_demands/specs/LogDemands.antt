@@ -11,15 +11,15 @@ use lib.Dec.{eqb}
 use Rattle.homes.specs.Homes.{params}
 use Rattle.numbers.specs.Little.{Bytes}
 use Rattle.state.specs.declared.State.{State}
-use Rattle.register.specs.Files.{File, left, numbersOf}
+use Rattle.register.specs.Files.{File, fileOf, left, numbersOf}
 use Rattle.demands.specs.Histories.{Kept, commitOf, makes}
 use Rattle.demands.specs.Demands.{Fresh}
-use Rattle.commands.specs.declared.Command.{Command}
-use Rattle.commands.specs.declared.Command.the-variants.{Format, Put, Find, Remove, Grow, Check}
-use Rattle.commands.specs.declared.Item.{Item}
-use Rattle.commands.specs.declared.Item.the-variants.{Asks, Unknown, Cut}
-use Rattle.commands.specs.Records.{firstOf}
-use Rattle.commands.specs.Execute.{Site, site, callOf, refusedBy, executed}
+use Rattle.records.specs.declared.Command.{Command}
+use Rattle.records.specs.declared.Command.the-variants.{Format, Put, Find, Remove, Grow, Check}
+use Rattle.records.specs.declared.Item.{Item}
+use Rattle.records.specs.declared.Item.the-variants.{Asks, Unknown, Cut}
+use Rattle.records.specs.Records.{firstOf, refusedBy}
+use Rattle.commands.specs.Execute.{Site, site, callOf, executed}
 use Rattle.commands.specs.Log.{log}
 
 -- a command that is read goes before those behind it; at what is no command they end
@@ -41,7 +41,7 @@ keptBy o d (c ∷ cs) = keptBy (cond (eqb (executed d c .numbers .refusal) 0) (m
 
 -- the file at a site: the state, and the pages that it tells of
 abbrev pub fileAt : Site → File
-fileAt d = record { state = d .state; area = take (256 * d .state .cap) (d .space) }
+fileAt d = fileOf (d .state) (take (256 * d .state .cap) (d .space))
 
 -- something of every command but a format
 abbrev pub ButFormat : (Command → Type 0) → Command → Type 0

@@ -10,7 +10,7 @@ use Rattle.state.specs.declared.State.{State}
 use Rattle.state.specs.declared.Numbers.{Numbers}
 use Rattle.state.specs.State.{isDue}
 use Rattle.slips.specs.Slips.{stateAt, stateFields, answerFields}
-use Rattle.register.specs.Files.{Call, grow, File, Left, left, numbersOf}
+use Rattle.register.specs.Files.{Call, grow, File, fileOf, Left, left, numbersOf}
 
 abbrev pub isSlip : List ℕ → Bool
 isSlip l = eqb (length l) 40
@@ -25,7 +25,7 @@ slipOf s n = encode (stateFields s 0 ++ answerFields n)
 
 -- the file that a slip and an area are
 abbrev pub fileIn : (slip area : List ℕ) → File
-fileIn slip area = record { state = stateIn slip; area = area }
+fileIn slip area = fileOf (stateIn slip) area
 
 -- what a call comes to: the number that it returns, the slip, and the file that it leaves
 pub record Served : Type 0 where

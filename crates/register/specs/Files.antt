@@ -2,7 +2,7 @@
 -- leaves. What is quoted is 01's.
 use Prim.Native.Nat.{ℕ}
 use mathlib.Core.Bool.{Bool}
-use mathlib.Core.List.{List, []}
+use mathlib.Core.List.{List, [], _∷_}
 use Rattle.homes.specs.declared.Params.{Params}
 use Rattle.pages.specs.Page.{Record}
 use Rattle.state.specs.declared.State.{State}
@@ -29,6 +29,9 @@ pub record File : Type 0 where
   pub state : State
   pub area : List ℕ
 
+abbrev pub fileOf : State → (area : List ℕ) → File
+fileOf s area = record { state = s; area = area }
+
 -- what a call says: an answer or, where it was asked whether growth is due, yes or no
 pub data Said : Type 0 where
   answers : Answer → Said
@@ -43,7 +46,7 @@ pub record Left : Type 0 where
 
 -- where the area is left as `area`
 abbrev pub leaves : Done → (area row : List ℕ) → Left
-leaves d area row = record { said = answers (d .answer); file = record { state = d .state; area = area }; row = row }
+leaves d area row = record { said = answers (d .answer); file = fileOf (d .state) area; row = row }
 
 abbrev pub ofOutcome : Outcome → Left
 ofOutcome o = leaves (o .done) (o .area) []
@@ -60,6 +63,11 @@ left f (remove k) = ofOutcome (removed (f .state) (f .area) k)
 left f (grow row) = ofGrowth (grew (f .state) (f .area) row)
 left f check = leaves (checked (f .state) (f .area)) (f .area) []
 left f due = record { said = says (isDue (f .state)); file = f; row = [] }
+
+-- demands 2 and 3: "each call given the pages and state that the last one left"
+unfoldable pub after : File → List Call → File
+after f [] = f
+after f (c ∷ cs) = after (left f c .file) cs
 
 -- 01's numbers of what was said; due is never refused and has no others
 abbrev pub numbersOf : Said → Numbers

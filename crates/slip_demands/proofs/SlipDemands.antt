@@ -5,8 +5,7 @@ use Prim.Native.Nat.{ℕ}
 use lib.ListN.{length}
 use borrow.Author.Tests.{eq-eqb}
 use Rattle.numbers.proofs.Records.{length-encode}
-use Rattle.register.specs.Files.{Call, left}
-use Rattle.demands.specs.Histories.{after}
+use Rattle.register.specs.Files.{Call, left, after}
 use Rattle.reefcushion.specs.Slip.{fileIn, servedBy, served}
 use Rattle.slip_demands.specs.SlipDemands.{Handed, no-call, one-call, SlipDemands}
 

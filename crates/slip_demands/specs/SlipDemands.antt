@@ -6,8 +6,8 @@ use mathlib.Core.List.{List, [], _∷_}
 use Prim.Native.Nat.{ℕ}
 use lib.ListN.{length}
 use Rattle.placing.specs.Image.{All}
-use Rattle.register.specs.Files.{Call}
-use Rattle.demands.specs.Histories.{Fits, after, Kept, kept}
+use Rattle.register.specs.Files.{Call, after}
+use Rattle.demands.specs.Histories.{Fits, Kept, kept}
 use Rattle.demands.specs.Demands.{Fresh}
 use Rattle.reefcushion.specs.Slip.{fileIn, served}
 

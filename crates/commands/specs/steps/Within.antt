@@ -1,30 +1,14 @@
--- What the code knows of what it has read, and one turn in the code's terms: steps between code and
--- definition.
+-- One turn in the code's terms: steps between code and definition.
 use Prim.Native.Nat.{ℕ, _≤_}
 use mathlib.Core.Path.{_≡_}
 use mathlib.Core.List.{List}
 use Rattle.numbers.specs.Fields.{encode}
-use Rattle.commands.specs.declared.Form.{Form}
-use Rattle.commands.specs.declared.Form.the-variants as form
-use Rattle.commands.specs.declared.Item.{Item}
-use Rattle.commands.specs.declared.Item.the-variants.{Asks, Unknown, Cut}
+use Rattle.records.specs.Records.{refusedBy, replyOf}
 use Rattle.commands.specs.declared.Step.{Step}
 use Rattle.commands.specs.declared.Step.the-variants.{Waits, Stops, Goes}
 use Rattle.commands.specs.declared.Ran.{Ran}
-use Rattle.commands.specs.Records.{lengthOf, replyOf}
-use Rattle.commands.specs.Execute.{Site, refusedBy}
+use Rattle.commands.specs.Execute.{Site}
 use Rattle.commands.specs.Log.{Turn, waits, stops, goes}
-
--- a known kind comes with the length of its record
-abbrev pub Formed : Form → Type 0
-Formed form.Unknown = Unit {0}
-Formed (form.Known k n) = n ≡ lengthOf k
-
--- a command's record lies within the bytes that are there
-abbrev pub Lies : ℕ → Item → Type 0
-Lies n Unknown = Unit {0}
-Lies n Cut = Unit {0}
-Lies n (Asks c k) = k ≤ n
 
 -- a turn as the code tells it
 abbrev pub stepOf : Turn → Step

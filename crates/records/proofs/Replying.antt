@@ -11,7 +11,7 @@ use Rattle.numbers.proofs.Records.{puts, length-encode, puts-written}
 use Rattle.state.specs.declared.State.{State}
 use Rattle.state.specs.declared.Numbers.{Numbers}
 use Rattle.state.specs.State.{isDue}
-use Rattle.commands.specs.Records.{bit, replyOf}
+use Rattle.records.specs.Records.{bit, replyOf}
 
 module _ (n : Numbers) (s : State) (l : List ℕ) (h : length l ≡ 28) where
   -- stored over as many bytes as they take, the fields leave their bytes and no others

@@ -1,18 +1,55 @@
-// The log's records: a command read, a reply written.
-use crate::Command;
-use crate::Form;
-use crate::Item;
-use crate::Kind;
+// The log's records: a command read, a reply written. They stand by themselves, so that a pay run
+// needs no log.
 use homes::Params;
 use pages::Record;
+use state::Done;
 use state::Numbers;
 use state::State;
 ghost use mathlib.Core.Path.{_≡_};
 ghost use Prim.Native.Nat.{_≤_};
 ghost use lib.ListN.{length};
 ghost use Rattle.numbers.specs.Fields.{encode};
-ghost use Rattle.commands.specs.Records.{lengthOf, formOf, commandOf, firstOf, replyOf};
-ghost use Rattle.commands.specs.steps.Within.{Formed, Lies};
+ghost use Rattle.records.specs.Records.{lengthOf, formOf, recordIn, commandOf, firstOf, asksPut, isPut, refusedBy, tells, replyOf};
+ghost use Rattle.records.specs.steps.Within.{Formed, Lies};
+
+// What a kind stands for.
+pub enum Kind {
+    Format,
+    Put,
+    Find,
+    Remove,
+    Grow,
+    Check,
+}
+
+// A kind's command, and the length of its record.
+pub enum Form {
+    Known { kind: Kind, length: u16 },
+    Unknown,
+}
+
+// A command with its numbers.
+pub enum Command {
+    Format { params: Params, cap: u16 },
+    Put { new: Record },
+    Find { key: u64 },
+    Remove { key: u64 },
+    Grow,
+    Check,
+}
+
+// The first record of an input: a command and how many bytes it takes, no command, or cut off.
+pub enum Item {
+    Asks { command: Command, length: usize },
+    Unknown,
+    Cut,
+}
+
+// The state after a call, and the numbers that it is answered with.
+pub struct Told {
+    pub state: State,
+    pub numbers: Numbers,
+}
 
 // The command that a kind stands for, and the length of its record.
 fn form_of(kind: u16) -> Form
@@ -49,6 +86,17 @@ fn form_of(kind: u16) -> Form
     }
 }
 
+// The request and the commit of a put record.
+pub fn record_in(input: &[u8]) -> Record
+    requires { ⌜ 20 ≤ length (now input) ⌝ }
+    ensures { λ r. ⌜ r ≡ recordIn (now (input .entry)) ⌝ }
+{
+    Record {
+        key: numbers::get_u64(input, 4),
+        value: numbers::get_u64(input, 12),
+    }
+}
+
 // The command of a whole record, from its body.
 fn command_of(kind: Kind, input: &[u8]) -> Command
     requires { ⌜ lengthOf kind ≤ length (now input) ⌝ }
@@ -67,10 +115,7 @@ fn command_of(kind: Kind, input: &[u8]) -> Command
             }
         }
         Kind::Put => Command::Put {
-            new: Record {
-                key: numbers::get_u64(input, 4),
-                value: numbers::get_u64(input, 12),
-            },
+            new: record_in(input),
         },
         Kind::Find => Command::Find {
             key: numbers::get_u64(input, 4),
@@ -110,8 +155,57 @@ pub fn first(input: &[u8]) -> Item
     }
 }
 
+// Whether a command is a put.
+fn asks_put(command: Command) -> bool
+    ensures { λ r. ⌜ r ≡ asksPut command ⌝ }
+{
+    match command {
+        Command::Format { params, cap } => false,
+        Command::Put { new } => true,
+        Command::Find { key } => false,
+        Command::Remove { key } => false,
+        Command::Grow => false,
+        Command::Check => false,
+    }
+}
+
+// Whether an input begins with a whole put record.
+pub fn is_put(input: &[u8]) -> bool
+    ensures { λ r. ⌜ r ≡ isPut (firstOf (now (input .entry))) ⌝ }
+{
+    let item = first(input);
+    match item {
+        Item::Asks { command, length } => asks_put(command),
+        Item::Unknown => false,
+        Item::Cut => false,
+    }
+}
+
+// The numbers of an answer that has none but its refusal, or 0.
+pub fn refused(refusal: u16) -> Numbers
+    ensures { λ r. ⌜ r ≡ refusedBy refusal ⌝ }
+{
+    Numbers {
+        refusal,
+        page: 0,
+        value: 0,
+        read: 0,
+        moved: 0,
+    }
+}
+
+// What one of the register's calls came to, in numbers.
+pub fn tell(done: Done) -> Told
+    ensures { λ r. ⌜ r ≡ tells done ⌝ }
+{
+    let state = done.state;
+    let answer = done.answer;
+    let numbers = answer.numbers();
+    Told { state, numbers }
+}
+
 // A reply, with P and due of the state after the command.
-pub(crate) fn reply(part: &mut [u8], told: Numbers, state: State)
+pub fn reply(part: &mut [u8], told: Numbers, state: State)
     requires { ⌜ length (now part) ≡ 28 ⌝ }
     ensures { λ _. ⌜ now (part .exit) ≡ encode (replyOf told state) ⌝ }
 {

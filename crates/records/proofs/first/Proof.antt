@@ -1,10 +1,10 @@
--- `commands::records::first` meets its contract: its tests are those of the definition, in the same
+-- `records::first` meets its contract: its tests are those of the definition, in the same
 -- order.
 use native.Mathlib.Omega.{arith}
 use borrow.Author.Needs.{needs}
-use Rattle.commands.proofs.Reading.{formed-length, head-cut, kind-unknown, length-wrong, body-cut, whole}
-use Rattle.commands.proofs.records.first.Statement.{statement}
-use Rattle.commands.proofs.records.first.Tie as tie
+use Rattle.records.proofs.Reading.{formed-length, head-cut, kind-unknown, length-wrong, body-cut, whole}
+use Rattle.records.proofs.first.Statement.{statement}
+use Rattle.records.proofs.first.Tie as tie
 
 returns : tie.Need-returns
 returns c = (head-cut _ (c .if1 .taken), tt)

@@ -1,10 +1,10 @@
--- `commands::records::form_of` meets its contract: each of the six numbers has its kind's form, and
+-- `records::form_of` meets its contract: each of the six numbers has its kind's form, and
 -- any other has none.
 use mathlib.Core.Path.{refl}
-use Rattle.commands.specs.declared.Kind.the-variants as kind
-use Rattle.commands.proofs.Reading.{known-form, other-form}
-use Rattle.commands.proofs.records.form_of.Statement.{statement}
-use Rattle.commands.proofs.records.form_of.Tie as tie
+use Rattle.records.specs.declared.Kind.the-variants as kind
+use Rattle.records.proofs.Reading.{known-form, other-form}
+use Rattle.records.proofs.form_of.Statement.{statement}
+use Rattle.records.proofs.form_of.Tie as tie
 
 returns : tie.Need-returns
 returns c = (known-form kind.Format _ (c .match .keys1), refl)

@@ -1,14 +1,14 @@
--- `commands::records::reply` meets its contract: its fields, stored one after the other, are all of
+-- `records::reply` meets its contract: its fields, stored one after the other, are all of
 -- the reply's bytes.
 use mathlib.Core.Path.{_≡_}
 use mathlib.Core.Logic.{⊎-elim}
 use native.Mathlib.Omega.{arith}
 use borrow.Author.Needs.{needs}
 use Rattle.state.specs.State.{isDue}
-use Rattle.commands.specs.Records.{bit}
-use Rattle.commands.proofs.Replying.{reply-stored}
-use Rattle.commands.proofs.records.reply.Statement.{statement}
-use Rattle.commands.proofs.records.reply.Tie as tie
+use Rattle.records.specs.Records.{bit}
+use Rattle.records.proofs.Replying.{reply-stored}
+use Rattle.records.proofs.reply.Statement.{statement}
+use Rattle.records.proofs.reply.Tie as tie
 
 due-requires : tie.Need-due-requires
 due-requires c κs = search needs

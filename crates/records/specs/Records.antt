@@ -1,24 +1,27 @@
 -- The log's records to the byte (01, 'The log program'). What is quoted is 01's.
 use Prim.Native.Nat.{ℕ}
-use mathlib.Core.Bool.{Bool, cond}
-use mathlib.Core.List.{List, [], _∷_}
+use mathlib.Core.Bool.{Bool, true, false, cond}
+use mathlib.Core.List.{List, [], _∷_, _++_}
 use lib.ListN.{length}
 use lib.Dec.{eqb, ltb}
 use Rattle.numbers.specs.Little.{numberAt}
-use Rattle.numbers.specs.Fields.{Field}
+use Rattle.numbers.specs.Fields.{Field, encode}
 use Rattle.homes.specs.Homes.{params}
-use Rattle.pages.specs.Page.{key, value, recordWith}
+use Rattle.pages.specs.Page.{Record, key, value, recordWith}
 use Rattle.state.specs.declared.State.{State}
+use Rattle.state.specs.declared.Done.{Done}
 use Rattle.state.specs.declared.Numbers.{Numbers}
 use Rattle.state.specs.State.{isDue}
-use Rattle.commands.specs.declared.Kind.{Kind}
-use Rattle.commands.specs.declared.Kind.the-variants as kind
-use Rattle.commands.specs.declared.Form.{Form}
-use Rattle.commands.specs.declared.Form.the-variants as form
-use Rattle.commands.specs.declared.Command.{Command}
-use Rattle.commands.specs.declared.Command.the-variants.{Format, Put, Find, Remove, Grow, Check}
-use Rattle.commands.specs.declared.Item.{Item}
-use Rattle.commands.specs.declared.Item.the-variants.{Asks, Unknown, Cut}
+use Rattle.state.specs.Answer.{told, numbers}
+use Rattle.records.specs.declared.Kind.{Kind}
+use Rattle.records.specs.declared.Kind.the-variants as kind
+use Rattle.records.specs.declared.Form.{Form}
+use Rattle.records.specs.declared.Form.the-variants as form
+use Rattle.records.specs.declared.Command.{Command}
+use Rattle.records.specs.declared.Command.the-variants.{Format, Put, Find, Remove, Grow, Check}
+use Rattle.records.specs.declared.Item.{Item}
+use Rattle.records.specs.declared.Item.the-variants.{Asks, Unknown, Cut}
+use Rattle.records.specs.declared.Told.{Told}
 
 -- "257 format: n0, N, s, cap (2 bytes each), length 12. 258 put: key, value, length 20. 259 find
 -- and 260 remove: key, length 12. 261 grow and 262 check: length 4."
@@ -44,10 +47,14 @@ formOf k =
     (cond (eqb k 261) (known kind.Grow)
     (cond (eqb k 262) (known kind.Check) form.Unknown)))))
 
--- the command of a record, whose body follows four bytes of length and kind
+-- the request and the commit of a put record, whose body follows four bytes of length and kind
+abbrev pub recordIn : List ℕ → Record
+recordIn l = recordWith (numberAt 8 l 4) (numberAt 8 l 12)
+
+-- the command of a record
 abbrev pub commandOf : Kind → List ℕ → Command
 commandOf kind.Format l = Format (params (numberAt 2 l 4) (numberAt 2 l 6) (numberAt 2 l 8)) (numberAt 2 l 10)
-commandOf kind.Put l = Put (recordWith (numberAt 8 l 4) (numberAt 8 l 12))
+commandOf kind.Put l = Put (recordIn l)
 commandOf kind.Find l = Find (numberAt 8 l 4)
 commandOf kind.Remove l = Remove (numberAt 8 l 4)
 commandOf kind.Grow l = Grow
@@ -63,7 +70,21 @@ formed l (form.Known k n) = cond (eqb (numberAt 2 l 0) n) (cond (ltb (length l) 
 unfoldable pub firstOf : List ℕ → Item
 firstOf l = cond (ltb (length l) 4) Cut (formed l (formOf (numberAt 2 l 2)))
 
--- the bytes of a command's record: length and kind, "length first", then its numbers. `LogPromises`
+-- whether an input begins with a whole put record
+abbrev pub asksPut : Command → Bool
+asksPut (Format q cap) = false
+asksPut (Put x) = true
+asksPut (Find k) = false
+asksPut (Remove k) = false
+asksPut Grow = false
+asksPut Check = false
+
+abbrev pub isPut : Item → Bool
+isPut (Asks c n) = asksPut c
+isPut Unknown = false
+isPut Cut = false
+
+-- the bytes of a command's record: length and kind, "length first", then its numbers. `RecordPromises`
 -- (Promises.antt) says that a command is read from these bytes and from no others.
 abbrev pub layoutOf : Command → List Field
 layoutOf (Format q cap) = (2, 12) ∷ (2, 257) ∷ (2, q .n0) ∷ (2, q .n) ∷ (2, q .s) ∷ (2, cap) ∷ []
@@ -82,3 +103,16 @@ abbrev pub replyOf : Numbers → State → List Field
 replyOf n s =
     (2, 28) ∷ (2, 513) ∷ (2, n .refusal) ∷ (2, n .page) ∷ (8, n .value) ∷ (4, n .read) ∷ (4, n .moved) ∷ (2, s .p)
     ∷ (2, bit (isDue s)) ∷ []
+
+-- the bytes of replies
+unfoldable pub bytesOfAll : List (List Field) → List ℕ
+bytesOfAll [] = []
+bytesOfAll (r ∷ rs) = encode r ++ bytesOfAll rs
+
+-- the numbers of an answer that has none but its refusal: "refusal 0 means accepted"
+abbrev pub refusedBy : ℕ → Numbers
+refusedBy n = told n 0 0 0 0
+
+-- what the code gives back of a call
+abbrev pub tells : Done → Told
+tells d = record { state = d .state; numbers = numbers (d .answer) }

@@ -1,12 +1,12 @@
--- `commands::records::command_of` meets its contract: the record is as long as its kind's, so each
+-- `records::command_of` meets its contract: the record is as long as its kind's, so each
 -- number lies in it.
 use denote.Ref.{now}
 use native.Mathlib.Omega.{arith}
 use borrow.Author.Needs.{needs}
-use Rattle.commands.specs.declared.Kind.the-variants as kind
-use Rattle.commands.proofs.Reading.{long, format-read, put-read}
-use Rattle.commands.proofs.records.command_of.Statement.{statement}
-use Rattle.commands.proofs.records.command_of.Tie as tie
+use Rattle.records.specs.declared.Kind.the-variants as kind
+use Rattle.records.proofs.Reading.{long, format-read, put-read}
+use Rattle.records.proofs.command_of.Statement.{statement}
+use Rattle.records.proofs.command_of.Tie as tie
 
 enum-told : tie.Need-enum-told
 enum-told c = search needs
@@ -26,23 +26,20 @@ get-u16-requires-4 c κs = long _ _ kind.Format (c .before .before .before .befo
 enum-told-2 : tie.Need-enum-told-2
 enum-told-2 c = search needs
 
-get-u64-requires : tie.Need-get-u64-requires
-get-u64-requires c κs = omega (arith, long _ _ kind.Put (c .before .before .before .pre) (c .enum-told2 .given .1))
-
-get-u64-requires-2 : tie.Need-get-u64-requires-2
-get-u64-requires-2 c κs = omega (arith, long _ _ kind.Put (c .before .before .before .before .pre) (c .before .enum-told2 .given .1))
+record-in-requires : tie.Need-record-in-requires
+record-in-requires c κs = long _ _ kind.Put (c .before .before .before .pre) (c .enum-told2 .given .1)
 
 enum-told-3 : tie.Need-enum-told-3
 enum-told-3 c = search needs
 
-get-u64-requires-3 : tie.Need-get-u64-requires-3
-get-u64-requires-3 c κs = long _ _ kind.Find (c .before .before .before .pre) (c .enum-told3 .given .1)
+get-u64-requires : tie.Need-get-u64-requires
+get-u64-requires c κs = long _ _ kind.Find (c .before .before .before .pre) (c .enum-told3 .given .1)
 
 enum-told-4 : tie.Need-enum-told-4
 enum-told-4 c = search needs
 
-get-u64-requires-4 : tie.Need-get-u64-requires-4
-get-u64-requires-4 c κs = long _ _ kind.Remove (c .before .before .before .pre) (c .enum-told4 .given .1)
+get-u64-requires-2 : tie.Need-get-u64-requires-2
+get-u64-requires-2 c κs = long _ _ kind.Remove (c .before .before .before .pre) (c .enum-told4 .given .1)
 
 enum-told-5 : tie.Need-enum-told-5
 enum-told-5 c = search needs
@@ -58,8 +55,8 @@ returns c =
 
 returns-2 : tie.Need-returns-2
 returns-2 c =
-    let a = c .before .before .before .before .before .args in
-    put-read (a .kind) (now (a .input)) _ _ (c .before .before .enum-told2 .given .1) (c .before .get-u64 .ensures) (c .get-u642 .ensures)
+    let a = c .before .before .before .before .args in
+    put-read (a .kind) (now (a .input)) _ (c .before .enum-told2 .given .1) (c .record-in .ensures)
 
 returns-3 : tie.Need-returns-3
 returns-3 c = cc
@@ -83,12 +80,11 @@ command-of-spec =
     get-u16-requires-3
     get-u16-requires-4
     enum-told-2
-    get-u64-requires
-    get-u64-requires-2
+    record-in-requires
     enum-told-3
-    get-u64-requires-3
+    get-u64-requires
     enum-told-4
-    get-u64-requires-4
+    get-u64-requires-2
     enum-told-5
     enum-told-6
     returns

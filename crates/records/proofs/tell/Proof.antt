@@ -1,7 +1,7 @@
--- `commands::execute::tell` meets its contract: the state as it is, and the numbers of the answer.
+-- `records::tell` meets its contract: the state as it is, and the numbers of the answer.
 use borrow.Author.Needs.{needs}
-use Rattle.commands.proofs.execute.tell.Statement.{statement}
-use Rattle.commands.proofs.execute.tell.Tie as tie
+use Rattle.records.proofs.tell.Statement.{statement}
+use Rattle.records.proofs.tell.Tie as tie
 
 numbers-requires : tie.Need-numbers-requires
 numbers-requires c κs = search needs

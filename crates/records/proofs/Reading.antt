@@ -9,16 +9,16 @@ use lib.ListN.{length}
 use borrow.Author.Tests.{eq-eqb, eqb-true, ne-eqb, lt-ltb, le-ltb}
 use Rattle.numbers.specs.Little.{numberAt}
 use Rattle.homes.specs.Homes.{params}
-use Rattle.pages.specs.Page.{recordWith}
-use Rattle.commands.specs.declared.Kind.{Kind}
-use Rattle.commands.specs.declared.Kind.the-variants as kind
-use Rattle.commands.specs.declared.Form.{Form}
-use Rattle.commands.specs.declared.Form.the-variants as form
-use Rattle.commands.specs.declared.Command.{Command}
-use Rattle.commands.specs.declared.Command.the-variants.{Format, Put}
-use Rattle.commands.specs.declared.Item.the-variants.{Asks, Unknown, Cut}
-use Rattle.commands.specs.Records.{lengthOf, formOf, commandOf, firstOf}
-use Rattle.commands.specs.steps.Within.{Formed}
+use Rattle.pages.specs.Page.{Record}
+use Rattle.records.specs.declared.Kind.{Kind}
+use Rattle.records.specs.declared.Kind.the-variants as kind
+use Rattle.records.specs.declared.Form.{Form}
+use Rattle.records.specs.declared.Form.the-variants as form
+use Rattle.records.specs.declared.Command.{Command}
+use Rattle.records.specs.declared.Command.the-variants.{Format, Put}
+use Rattle.records.specs.declared.Item.the-variants.{Asks, Unknown, Cut}
+use Rattle.records.specs.Records.{lengthOf, formOf, recordIn, commandOf, firstOf}
+use Rattle.records.specs.steps.Within.{Formed}
 
 -- the number that a record has for its kind
 abbrev pub numberOf : Kind → ℕ
@@ -87,9 +87,9 @@ pub format-read : (k : Kind) (l : List ℕ) (a b c d : ℕ) → k ≡ kind.Forma
     → Format (params a b c) d ≡ commandOf k l
 format-read k l a b c d e f g h i = rw (e, f, g, h, i)
 
--- the two numbers that were read make the record of a put
-pub put-read : (k : Kind) (l : List ℕ) (a b : ℕ) → k ≡ kind.Put → a ≡ numberAt 8 l 4 → b ≡ numberAt 8 l 12 → Put (recordWith a b) ≡ commandOf k l
-put-read k l a b e p q = rw (e, p, q)
+-- the command of a put's record
+pub put-read : (k : Kind) (l : List ℕ) (x : Record) → k ≡ kind.Put → x ≡ recordIn l → Put x ≡ commandOf k l
+put-read k l x e q = rw (e, q)
 
 -- a known form has its kind's length
 pub formed-length : (f : Form) (k : Kind) (n : ℕ) → Formed f → f ≡ form.Known k n → n ≡ lengthOf k

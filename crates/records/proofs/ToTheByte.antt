@@ -11,16 +11,16 @@ use Rattle.numbers.specs.Little.{Bytes, numberAt}
 use Rattle.numbers.specs.Fields.{Field, width, encode, matches}
 use Rattle.numbers.proofs.Records.{Fit, length-encode, match-first, match-rest, matches-sound, matches-complete}
 use Rattle.pages.specs.Page.{key, value}
-use Rattle.commands.specs.declared.Kind.{Kind}
-use Rattle.commands.specs.declared.Kind.the-variants as kind
-use Rattle.commands.specs.declared.Form.{Form}
-use Rattle.commands.specs.declared.Form.the-variants as form
-use Rattle.commands.specs.declared.Command.{Command}
-use Rattle.commands.specs.declared.Command.the-variants.{Format, Put, Find, Remove, Grow, Check}
-use Rattle.commands.specs.declared.Item.{Item}
-use Rattle.commands.specs.declared.Item.the-variants.{Asks, Unknown, Cut}
-use Rattle.commands.specs.Records.{lengthOf, formOf, commandOf, formed, firstOf, layoutOf}
-use Rattle.commands.proofs.Reading.{numberOf, head-low, known-form, Of, of-number, whole}
+use Rattle.records.specs.declared.Kind.{Kind}
+use Rattle.records.specs.declared.Kind.the-variants as kind
+use Rattle.records.specs.declared.Form.{Form}
+use Rattle.records.specs.declared.Form.the-variants as form
+use Rattle.records.specs.declared.Command.{Command}
+use Rattle.records.specs.declared.Command.the-variants.{Format, Put, Find, Remove, Grow, Check}
+use Rattle.records.specs.declared.Item.{Item}
+use Rattle.records.specs.declared.Item.the-variants.{Asks, Unknown, Cut}
+use Rattle.records.specs.Records.{lengthOf, formOf, commandOf, formed, firstOf, layoutOf}
+use Rattle.records.proofs.Reading.{numberOf, head-low, known-form, Of, of-number, whole}
 
 -- the numbers from an offset on are those of the fields
 abbrev Says : List ℕ → ℕ → List Field → Type 0

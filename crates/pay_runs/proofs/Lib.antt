@@ -1,0 +1,3 @@
+pub mod Heads
+pub mod Items
+pub mod Running

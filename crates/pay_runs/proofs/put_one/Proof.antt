@@ -1,0 +1,45 @@
+-- `pay_runs::put_one` meets its contract: the put's numbers and the state after it are its reply.
+use denote.Ref.{now}
+use borrow.Author.Needs.{needs}
+use Rattle.pay_runs.proofs.Items.{one-put}
+use Rattle.pay_runs.proofs.put_one.Statement.{statement}
+use Rattle.pay_runs.proofs.put_one.Tie as tie
+
+record-in-requires : tie.Need-record-in-requires
+record-in-requires c κs = search needs
+
+put-requires : tie.Need-put-requires
+put-requires c κs = search needs
+
+tell-requires : tie.Need-tell-requires
+tell-requires c κs = search needs
+
+reply-requires : tie.Need-reply-requires
+reply-requires c κs = search needs
+
+same-length : tie.Need-same-length
+same-length c = search needs
+
+same-length-2 : tie.Need-same-length-2
+same-length-2 c = search needs
+
+returns : tie.Need-returns
+returns c =
+    let r = c .before .before in
+    let t = r .before .before .before .before in
+    let p = t .before .before .before in
+    let x = p .before in
+    let a = x .before .before .before .before .before .args in
+    one-put (a .state) (now (a .area)) (now (a .input)) (x .record-in .result) (x .record-in .ensures) (p .put .result) _ (p .put .ensures) (t .tell .result) (t .tell .ensures) _ (r .reply .ensures)
+
+pub put-one-spec : {M : Type 1} → statement M
+put-one-spec =
+    tie.close
+    (tie.spec
+    record-in-requires
+    put-requires
+    tell-requires
+    reply-requires
+    same-length
+    same-length-2
+    returns)

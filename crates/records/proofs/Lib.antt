@@ -1,0 +1,5 @@
+pub mod Reading
+pub mod Replying
+pub mod ToTheByte
+pub mod Lent
+pub mod Promises

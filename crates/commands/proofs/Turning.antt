@@ -18,6 +18,7 @@ use Rattle.state.specs.declared.Numbers.{Numbers}
 use Rattle.records.specs.declared.Command.{Command}
 use Rattle.records.specs.declared.Item.{Item}
 use Rattle.records.specs.declared.Item.the-variants.{Asks, Unknown, Cut}
+use Rattle.records.specs.steps.Within.{Lies}
 use Rattle.records.proofs.Lent.{from, from-drop, place, placed, placed-written}
 use Rattle.commands.specs.declared.Step.{Step}
 use Rattle.commands.specs.declared.Step.the-variants.{Waits, Stops, Goes}
@@ -26,7 +27,7 @@ use Rattle.commands.specs.declared.Ran.{Ran}
 use Rattle.records.specs.Records.{firstOf, replyOf, refusedBy, bytesOfAll}
 use Rattle.commands.specs.Execute.{Site, site, Executed, executed, toldOf}
 use Rattle.commands.specs.Log.{Turn, waits, stops, goes, turn, Log, rests, onTurn, log, ranOf}
-use Rattle.commands.specs.steps.Within.{Lies, stepOf, siteAfter, replyAfter, Takes, RanIn}
+use Rattle.commands.specs.steps.Within.{stepOf, siteAfter, replyAfter, Takes, RanIn}
 
 -- what the code gives back of a turn: the step, the space, the row, and the bytes of the reply
 abbrev pub Served : Site → (part : List ℕ) → (n : ℕ) → Turn → Step → (space row reply : List ℕ) → Type 0

@@ -1,1 +1,2 @@
 pub mod PayRun
+pub mod Promises

@@ -32,28 +32,31 @@ unfoldable pub repliesTo : File → List Call → List (List Field)
 repliesTo f [] = []
 repliesTo f (c ∷ cs) = replyOf (numbersOf (left f c .said)) (left f c .file .state) ∷ repliesTo (left f c .file) cs
 
+-- "10 if the bytes aren't whole put records with right heads, then 15 if the lent reply room isn't
+-- 28 bytes an item". "an empty run is accepted".
+abbrev pub runRefusal : (l room : List ℕ) → ℕ
+runRefusal l room = cond (endToEnd (items l) l) (cond (eqb (length room) (28 * items l)) 0 15) 10
+
 -- what a run comes to: the numbers of its answer, the file that it leaves, and the lent room
 pub record Ran : Type 0 where
   pub numbers : Numbers
   pub file : File
   pub room : List ℕ
 
--- "the same area, state and replies as the puts made one by one in that order"; the run itself is
--- accepted
+-- "the same area, state and replies as the puts made one by one in that order"
 abbrev pub makes : File → List Call → Ran
 makes f cs = record { numbers = refusedBy 0; file = after f cs; room = bytesOfAll (repliesTo f cs) }
 
--- "before any item is run, with nothing changed"
+-- a refusal is "before any item is run, with nothing changed"
 abbrev pub refuses : ℕ → File → (room : List ℕ) → Ran
 refuses n f room = record { numbers = refusedBy n; file = f; room = room }
 
--- "10 if the bytes aren't whole put records with right heads, then 15 if the lent reply room isn't
--- 28 bytes an item". "an empty run is accepted".
 unfoldable pub ran : File → (l room : List ℕ) → Ran
-ran f l room =
-    cond (endToEnd (items l) l)
-    (cond (eqb (length room) (28 * items l)) (makes f (putsIn (items l) l)) (refuses 15 f room))
-    (refuses 10 f room)
+ran f l room = cond (eqb (runRefusal l room) 0) (makes f (putsIn (items l) l)) (refuses (runRefusal l room) f room)
+
+-- the calls that a run makes: none where it is refused
+abbrev pub madeBy : (l room : List ℕ) → List Call
+madeBy l room = cond (eqb (runRefusal l room) 0) (putsIn (items l) l) []
 
 -- what the code gives back of it
 abbrev pub toldOf : Ran → Told

@@ -1,5 +1,5 @@
 -- What a call by slip comes to, on each way out.
-use mathlib.Core.Path.{_≡_}
+use mathlib.Core.Path.{_≡_, refl}
 use mathlib.Core.Bool.{Bool, cond}
 use mathlib.Core.List.{List}
 use Prim.Native.Nat.{ℕ}
@@ -8,8 +8,9 @@ use borrow.Author.Tests.{eq-eqb, ne-eqb}
 use Rattle.state.specs.declared.State.{State}
 use Rattle.state.specs.declared.Done.{Done}
 use Rattle.state.specs.State.{isDue}
-use Rattle.register.specs.Files.{Call, grow, leaves, left}
-use Rattle.reefcushion.specs.Slip.{stateIn, servedBy, unserved, served, servedRow, dueOn}
+use Rattle.register.specs.Files.{Call, grow, fileOf, leaves, left}
+use Rattle.pay_runs.specs.PayRun.{ran}
+use Rattle.reefcushion.specs.Slip.{stateIn, servedBy, servedRan, unserved, served, servedRow, servedRun, servedRoom, dueOn}
 
 module _ (l : List ℕ) where
   -- another length than forty
@@ -21,6 +22,14 @@ module _ (l : List ℕ) where
     pub row-kept : (area row : List ℕ) → servedRow l area row ≡ row
     unfolding servedRow
     row-kept area row = rw (ne-eqb (length l) 40 other)
+
+    pub not-run : (area input room : List ℕ) → servedRun l area input room ≡ unserved l area
+    unfolding servedRun
+    not-run area input room = rw (ne-eqb (length l) 40 other)
+
+    pub room-kept : (area input room : List ℕ) → servedRoom l area input room ≡ room
+    unfolding servedRoom
+    room-kept area input room = rw (ne-eqb (length l) 40 other)
 
     pub none-due : 0 ≡ dueOn l
     unfolding dueOn
@@ -34,14 +43,20 @@ module _ (l : List ℕ) where
         let d : isDue (stateIn l) ≡ u = rw is at e in
         rw (eq-eqb (length l) 40 forty, d, w)
 
+    -- what a run came to is told, and its room left
+    pub ran-served : (area input room : List ℕ)
+        → (servedRun l area input room ≡ servedRan (ran (fileOf s area) input room)) × (servedRoom l area input room ≡ ran (fileOf s area) input room .room)
+    unfolding servedRun servedRoom
+    ran-served area input room = rw (eq-eqb (length l) 40 forty, ← is) (refl, refl)
+
     -- what the register's call left is told
     module _ (area : List ℕ) (d : Done) (new row : List ℕ) where
-      pub is-served : (c : Call) → leaves d new row ≡ left (record { state = s; area = area }) c → served l area c ≡ servedBy (leaves d new row)
+      pub is-served : (c : Call) → leaves d new row ≡ left (fileOf s area) c → served l area c ≡ servedBy (leaves d new row)
       unfolding served
       is-served c e = rw (eq-eqb (length l) 40 forty, ← is, ← e)
 
       -- and of a growth the row
-      pub grew-served : (old : List ℕ) → leaves d new row ≡ left (record { state = s; area = area }) (grow old)
+      pub grew-served : (old : List ℕ) → leaves d new row ≡ left (fileOf s area) (grow old)
           → (served l area (grow old) ≡ servedBy (leaves d new row)) × (servedRow l area old ≡ row)
       unfolding servedRow
       grew-served old e = (is-served (grow old) e, rw (eq-eqb (length l) 40 forty, ← is, ← e))

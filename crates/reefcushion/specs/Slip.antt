@@ -10,6 +10,7 @@ use Rattle.state.specs.declared.State.{State}
 use Rattle.state.specs.declared.Numbers.{Numbers}
 use Rattle.state.specs.State.{isDue}
 use Rattle.slips.specs.Slips.{stateAt, stateFields, answerFields}
+use Rattle.pay_runs.specs.PayRun.{Ran, ran}
 use Rattle.register.specs.Files.{Call, grow, File, fileOf, Left, left, numbersOf}
 
 abbrev pub isSlip : List ℕ → Bool
@@ -35,8 +36,14 @@ pub record Served : Type 0 where
 
 -- it returns the number of its refusal ("refusal 0 means accepted"); the state "comes back as a
 -- value"
+abbrev pub servedWith : Numbers → File → Served
+servedWith n f = record { returned = n .refusal; slip = slipOf (f .state) n; file = f }
+
 abbrev pub servedBy : Left → Served
-servedBy l = record { returned = numbersOf (l .said) .refusal; slip = slipOf (l .file .state) (numbersOf (l .said)); file = l .file }
+servedBy l = servedWith (numbersOf (l .said)) (l .file)
+
+abbrev pub servedRan : Ran → Served
+servedRan o = servedWith (o .numbers) (o .file)
 
 -- a slip of another length: 100, which is no number of 01's, and nothing is done
 abbrev pub unserved : (slip area : List ℕ) → Served
@@ -50,6 +57,14 @@ served slip area c = cond (isSlip slip) (servedBy (left (fileIn slip area) c)) (
 -- the row after a growth by slip
 unfoldable pub servedRow : (slip area row : List ℕ) → List ℕ
 servedRow slip area row = cond (isSlip slip) (left (fileIn slip area) (grow row) .row) row
+
+-- a run by slip and area (02, request 2) is the run on the file that they are
+unfoldable pub servedRun : (slip area l room : List ℕ) → Served
+servedRun slip area l room = cond (isSlip slip) (servedRan (ran (fileIn slip area) l room)) (unserved slip area)
+
+-- and the room for its replies afterwards
+unfoldable pub servedRoom : (slip area l room : List ℕ) → List ℕ
+servedRoom slip area l room = cond (isSlip slip) (ran (fileIn slip area) l room .room) room
 
 -- whether growth is due, as 1 or 0; with a slip of another length it isn't
 unfoldable pub dueOn : List ℕ → ℕ

@@ -3,6 +3,7 @@
 // lengths and any bytes, and returns the number of its refusal.
 use homes::Params;
 use pages::Record;
+use records::Told;
 use state::Done;
 ghost use mathlib.Core.Path.{_≡_};
 ghost use lib.ListN.{length};
@@ -10,7 +11,7 @@ ghost use Rattle.homes.specs.Homes.{params};
 ghost use Rattle.pages.specs.Page.{recordWith};
 ghost use Rattle.state.specs.Answer.{numbers};
 ghost use Rattle.register.specs.Files.{format, find, put, remove, grow, check};
-ghost use Rattle.reefcushion.specs.Slip.{stateIn, slipOf, served, servedRow, dueOn};
+ghost use Rattle.reefcushion.specs.Slip.{stateIn, slipOf, served, servedRow, servedRun, servedRoom, dueOn};
 
 // The bytes of a slip.
 const SLIP: usize = 40;
@@ -19,18 +20,27 @@ const SLIP: usize = 40;
 const NO_SLIP: u32 = 100;
 
 // What a call came to, over all of the slip. It brings the next call the state that this one left.
+fn hand_back(slip: &mut [u8], told: Told) -> u32
+    requires { ⌜ length (now slip) ≡ 40 ⌝ }
+    ensures { λ r. ⌜ r ≡ told .numbers .refusal ⌝ }
+    ensures { λ _. ⌜ now (slip .exit) ≡ slipOf (told .state) (told .numbers) ⌝ }
+    ensures again { λ _. ⌜ stateIn (now (slip .exit)) ≡ told .state ⌝ }
+{
+    let state = told.state;
+    let numbers = told.numbers;
+    slips::put_state(slip, 0, state, 0);
+    slips::put_answer(slip, 16, numbers);
+    numbers.refusal as u32
+}
+
 fn tell(slip: &mut [u8], done: Done) -> u32
     requires { ⌜ length (now slip) ≡ 40 ⌝ }
     ensures { λ r. ⌜ r ≡ numbers (done .answer) .refusal ⌝ }
     ensures { λ _. ⌜ now (slip .exit) ≡ slipOf (done .state) (numbers (done .answer)) ⌝ }
     ensures again { λ _. ⌜ stateIn (now (slip .exit)) ≡ done .state ⌝ }
 {
-    let state = done.state;
-    let answer = done.answer;
-    let told = answer.numbers();
-    slips::put_state(slip, 0, state, 0);
-    slips::put_answer(slip, 16, told);
-    told.refusal as u32
+    let told = records::tell(done);
+    hand_back(slip, told)
 }
 
 #[no_mangle]
@@ -111,6 +121,24 @@ pub extern "C" fn reefcushion_check(slip: &mut [u8], area: &[u8]) -> u32
     let state = slips::get_state(&slip[..], 0);
     let done = register::check(state, area);
     tell(slip, done)
+}
+
+// A pay run: put records end to end, and a reply of 28 bytes for each.
+#[no_mangle]
+pub extern "C" fn reefcushion_put_run(
+    slip: &mut [u8],
+    area: &mut [u8],
+    input: &[u8],
+    replies: &mut [u8],
+) -> u32
+    ensures { λ r. let o = servedRun (now (slip .entry)) (now (area .entry)) (now (input .entry)) (now (replies .entry)) in ⌜ (r ≡ o .returned) × ((now (slip .exit) ≡ o .slip) × ((now (area .exit) ≡ o .file .area) × ((now (replies .exit) ≡ servedRoom (now (slip .entry)) (now (area .entry)) (now (input .entry)) (now (replies .entry))) × (stateIn (now (slip .exit)) ≡ o .file .state)))) ⌝ }
+{
+    if slip.len() != SLIP {
+        return NO_SLIP;
+    }
+    let state = slips::get_state(&slip[..], 0);
+    let told = pay_runs::put_run(state, area, input, replies);
+    hand_back(slip, told)
 }
 
 // Whether growth is due, 1 or 0. It leaves the slip as it is.

@@ -1,0 +1,44 @@
+-- `reefcushion::hand_back` meets its contract: the state and then the answer, which are all of the
+-- slip.
+use mathlib.Core.Path.{refl}
+use native.Mathlib.Omega.{arith}
+use borrow.Author.Needs.{needs}
+use Rattle.numbers.proofs.Records.{Fit}
+use Rattle.slips.specs.Slips.{stateFields}
+use Rattle.reefcushion.proofs.Telling.{slip-stored, slip-again}
+use Rattle.reefcushion.proofs.hand_back.Statement.{statement}
+use Rattle.reefcushion.proofs.hand_back.Tie as tie
+
+put-state-requires : tie.Need-put-state-requires
+put-state-requires c κs = search needs
+
+put-answer-requires : tie.Need-put-answer-requires
+put-answer-requires c κs = search needs
+
+cast-result : tie.Need-cast-result
+cast-result c = search needs
+
+same-length : tie.Need-same-length
+same-length c = search needs
+
+-- the state's numbers fit, since its types say so
+returns : tie.Need-returns
+returns c =
+    let a = c .before .before .before in
+    let t = a .before .before .before .before in
+    let s = t .before .before .before .before .before in
+    let told = s .args .told in
+    let all = slip-stored (told .state) (told .numbers) _ (s .pre) (t .put-state .ensures) (a .put-answer .ensures) in
+    let g = s .good in
+    let fits : Fit (stateFields (told .state) 0) = (omega (arith, g), (omega (arith, g), (omega (arith, g), (omega (arith, g), (omega (arith, g), (omega arith, (omega (arith, g), tt))))))) in
+    (refl, (all, slip-again (told .state) (told .numbers) fits all))
+
+pub hand-back-spec : {M : Type 1} → statement M
+hand-back-spec =
+    tie.close
+    (tie.spec
+    put-state-requires
+    put-answer-requires
+    cast-result
+    same-length
+    returns)

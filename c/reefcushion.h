@@ -5,12 +5,12 @@
 
    The calls are in libreefcushion.a, for x86-64 Linux. They need nothing else but C's memcpy and memset, take no memory but
    some 20 KiB of the stack at most, and keep nothing from one call to the next, so threads may call them at once, each with
-   its own slip, area and row.
+   its own slip, area, row and replies.
 
    What each call does is proved (crates/reefcushion), for any bytes and any numbers. A caller owes this much:
-   - the lengths are true: `slip_bytes` bytes, `area_bytes` bytes, `row_counts` aligned 32-bit counts are there, and each has
-     been written once (zeros will do);
-   - slip, area and row do not overlap;
+   - the lengths are true: so many bytes of slip, area, records and replies, and so many aligned 32-bit counts of the row,
+     are there, and each has been written once (zeros will do);
+   - slip, area, row, records and replies do not overlap;
    - nothing else writes them while a call runs, nor reads what the call may write.
    A null pointer with length 0 is fine: it is refused by number like any other wrong length, and never followed. */
 #ifndef REEFCUSHION_H
@@ -76,7 +76,9 @@ enum reefcushion_refusal {
     REEFCUSHION_NO_ROOM = 7,      /* no room on the lent pages, each record at its home page or a higher one */
     REEFCUSHION_AT_CAP = 8,       /* all lent pages are grown to */
     REEFCUSHION_NOT_IMAGE = 9,    /* the count, or the order of the records on the pages, is wrong */
+    REEFCUSHION_NOT_PUTS = 10,    /* a run's bytes aren't whole put records, each with the right length and kind */
     REEFCUSHION_CLASH = 13,       /* a clash: the key is held with another value, which is in `value` */
+    REEFCUSHION_WRONG_ROOM = 15,  /* the room for a run's replies isn't 28 bytes a record */
     REEFCUSHION_NO_SLIP = 100     /* slip_bytes isn't 40: nothing is done, and nothing written, the slip included */
 };
 
@@ -91,6 +93,45 @@ uint32_t reefcushion_find(void *slip, size_t slip_bytes, const void *area, size_
 /* A record more. A held key keeps its value, whatever is offered: a repeat of what was put is told apart (6) from a key
    that is used for a second value (13), and both have the value held. 100, 1, 2, then 4, 6, 7 or 13, then 9. */
 uint32_t reefcushion_put(void *slip, size_t slip_bytes, void *area, size_t area_bytes, uint64_t key, uint64_t value);
+
+/* A put of a run, 20 bytes, and its reply, 28 bytes, as they stand in a log; all numbers little-endian. */
+#pragma pack(push, 1)
+struct reefcushion_put_record {
+    uint16_t length; /* 20 */
+    uint16_t kind;   /* 258 */
+    uint64_t key;
+    uint64_t value;
+};
+
+struct reefcushion_reply {
+    uint16_t length;  /* 28 */
+    uint16_t kind;    /* 513 */
+    uint16_t refusal; /* of this put: 0, or 1, 2, 4, 6, 7, 9 or 13 */
+    uint16_t page;    /* the rest of its answer, as in a slip */
+    uint64_t value;
+    uint32_t read;
+    uint32_t moved;
+    uint16_t pages; /* P, and whether growth is due (1 or 0), of the state after this put */
+    uint16_t due;
+};
+#pragma pack(pop)
+
+REEFCUSHION_ASSERT(sizeof(struct reefcushion_put_record) == 20, "a put record is 20 bytes");
+REEFCUSHION_ASSERT(sizeof(struct reefcushion_reply) == 28, "a reply is 28 bytes");
+
+#define REEFCUSHION_PUT_LENGTH 20
+#define REEFCUSHION_PUT_KIND 258
+
+/* A pay run: put records end to end, and for each, in the same order, a reply in the lent room. The area, the state and the
+   replies end as if each record had been put by a call of its own, in that order: no put is left out because an earlier one
+   was refused, and nothing is undone. No record at all, with no room, is an accepted run.
+
+   0 says that every record was put and every reply written, not that every put was accepted: look at each reply's
+   `refusal`. A state out of range and a wrong area are told there too, as 1 or 2 in every reply. What the run itself
+   refuses, it refuses before the first put, and area, state and replies stay as they were: 100, 10, 15. The answer in the
+   slip has no number but `refusal`. Nothing grows by itself: look at the last reply's `due`. */
+uint32_t reefcushion_put_run(void *slip, size_t slip_bytes, void *area, size_t area_bytes, const void *records,
+                             size_t records_bytes, void *replies, size_t replies_bytes);
 
 /* A record less. 100, 1, 2, then 4 or 5, then 9. */
 uint32_t reefcushion_remove(void *slip, size_t slip_bytes, void *area, size_t area_bytes, uint64_t key);
@@ -126,6 +167,8 @@ uint32_t reefcushion_due(const void *slip, size_t slip_bytes);
                              n0: u16, groups: u16, sweeps: u16, cap: u16) -> u32;
        fn reefcushion_find(slip: *mut Slip, slip_bytes: usize, area: *const u8, area_bytes: usize, key: u64) -> u32;
        fn reefcushion_put(slip: *mut Slip, slip_bytes: usize, area: *mut u8, area_bytes: usize, key: u64, value: u64) -> u32;
+       fn reefcushion_put_run(slip: *mut Slip, slip_bytes: usize, area: *mut u8, area_bytes: usize,
+                              records: *const u8, records_bytes: usize, replies: *mut u8, replies_bytes: usize) -> u32;
        fn reefcushion_remove(slip: *mut Slip, slip_bytes: usize, area: *mut u8, area_bytes: usize, key: u64) -> u32;
        fn reefcushion_grow(slip: *mut Slip, slip_bytes: usize, area: *mut u8, area_bytes: usize,
                            row: *mut u32, row_counts: usize) -> u32;

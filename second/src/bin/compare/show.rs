@@ -132,7 +132,7 @@ pub fn raw_difference(seed: u64, case: u64, kind: u16, ours: &[u8], theirs: &[u8
 
 /// A log that the sides answer differently, from the first differing reply.
 pub fn log_difference(seed: u64, log: u64, input: &[u8], ours: &[u8], theirs: &[u8]) -> String {
-    let size = second::log::REPLY_BYTES;
+    let size = second::commands::REPLY_BYTES;
     let same = ours
         .iter()
         .zip(theirs)
@@ -192,7 +192,7 @@ mod tests {
     #[test]
     fn the_fields_are_the_whole_head() {
         assert_eq!(bytes_of(&RAW_FIELDS), REPLY_HEAD);
-        assert_eq!(bytes_of(&LOG_FIELDS), second::log::REPLY_BYTES);
+        assert_eq!(bytes_of(&LOG_FIELDS), second::commands::REPLY_BYTES);
     }
 
     #[test]

@@ -5,7 +5,7 @@ use crate::random::Random;
 use crate::session::{command, format, put_again, session};
 
 /// Heads that the program has to refuse with 10: kinds and lengths.
-const WRONG_HEADS: [(u16, u16); 34] = [
+pub const WRONG_HEADS: [(u16, u16); 34] = [
     (0, 4),
     (4, 0),
     (1, 12),

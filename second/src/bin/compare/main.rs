@@ -4,7 +4,8 @@
 //! Generates raw calls and logs from a seed, answers them itself, has them
 //! answered by the programs `raw_calls` and `register_log` in DIR, started
 //! with the prefix, and compares every byte. `shortest` writes raw calls to
-//! standard output instead, one for each call and refusal.
+//! standard output instead, one for each call and refusal and for each way that
+//! a run can take.
 
 mod breaks;
 mod cases;

@@ -8,6 +8,7 @@ use crate::random::Random;
 use crate::session::{command, session};
 use crate::sink::Sink;
 use crate::values::{again, offered};
+use crate::wrong::wrong_state;
 use second::commands::{HEAD_BYTES, PUT_BYTES, REPLY_BYTES};
 use second::raw::{Case, LONGEST_STRING, RUN_KIND};
 
@@ -93,13 +94,24 @@ fn change_room(random: &mut Random, room: &mut Vec<u8>, way: usize) {
     *room = random.bytes(length.min(LONGEST_STRING));
 }
 
+/// Asks a run, at times with a state out of range or an area too long, which
+/// may not be told before what is wrong with the run itself.
+fn ask_anywhere(random: &mut Random, mut case: Case, sink: &mut Sink) -> Result<Case, String> {
+    match random.index(8) {
+        0 => case.state = wrong_state(random, case.state),
+        1 if case.area.len() < LONGEST_STRING => case.area.push(0),
+        _ => {}
+    }
+    sink.ask(case)
+}
+
 /// Asks a run whose bytes are wrong, at times with a wrong room too.
 fn ask_wrong(random: &mut Random, mut case: Case, sink: &mut Sink) -> Result<(), String> {
     if random.one_in(4) {
         let way = random.index(ROOM_WAYS);
         change_room(random, &mut case.room, way);
     }
-    sink.ask(case).map(|_| ())
+    ask_anywhere(random, case, sink).map(|_| ())
 }
 
 /// Behind the last whole item one byte more to all but one of a further one:
@@ -157,7 +169,7 @@ fn rooms(random: &mut Random, sink: &mut Sink) -> Result<(), String> {
     for way in 0..ROOM_WAYS {
         let mut case = run_of(random, &mut file, items);
         change_room(random, &mut case.room, way);
-        sink.ask(case)?;
+        ask_anywhere(random, case, sink)?;
     }
     Ok(())
 }
@@ -197,7 +209,7 @@ fn long(random: &mut Random, sink: &mut Sink) -> Result<(), String> {
         for way in [4, random.index(ROOM_WAYS)] {
             let mut case = case.clone();
             change_room(random, &mut case.room, way);
-            sink.ask(case)?;
+            ask_anywhere(random, case, sink)?;
         }
         let mut case = case;
         let at = case.second.len() - 1 - random.index(PUT_BYTES);
@@ -228,7 +240,7 @@ fn twice(random: &mut Random, sink: &mut Sink) -> Result<(), String> {
         break_page(random, file.state, &mut file.area, address);
     }
     let case = some_run(random, &mut file);
-    let mut after = sink.ask(case)?;
+    let mut after = ask_anywhere(random, case, sink)?;
     let length = after.room.len();
     after.room = random.bytes(length);
     sink.ask(after).map(|_| ())

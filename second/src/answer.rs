@@ -17,6 +17,8 @@ pub const CUT_OFF: u16 = 11;
 pub const TOO_MANY_PAGES: u16 = 12;
 /// A put of a held key with another value.
 pub const CLASH: u16 = 13;
+/// A room that isn't as long as what is to be written there.
+pub const WRONG_ROOM: u16 = 15;
 
 /// The kind of a reply.
 const REPLY_KIND: u16 = 513;

@@ -8,6 +8,7 @@
 pub mod answer;
 pub mod bytes;
 pub mod calls;
+pub mod commands;
 pub mod expected;
 pub mod figures;
 pub mod grow;
@@ -15,6 +16,7 @@ pub mod home;
 pub mod image;
 pub mod log;
 pub mod page;
+pub mod pay_run;
 pub mod put;
 pub mod raw;
 pub mod remove;

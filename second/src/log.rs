@@ -1,8 +1,8 @@
 //! The log program: commands in, one reply each, at most 128 pages.
 
 use crate::answer::{Answer, BAD_RECORD, CUT_OFF, TOO_MANY_PAGES};
-use crate::bytes::{eight, two};
 use crate::calls::Call;
+use crate::commands::{parse, read_head, reply, HEAD_BYTES};
 use crate::page::PAGE_BYTES;
 use crate::state::State;
 use crate::witness::witnessed;
@@ -10,8 +10,6 @@ use std::io::{Read, Write};
 
 /// The most pages a format may ask of this program.
 pub const MOST_PAGES: u16 = 128;
-pub const REPLY_BYTES: usize = 28;
-const HEAD_BYTES: usize = 4;
 
 /// Why a run ended early.
 #[derive(Debug)]
@@ -54,11 +52,9 @@ pub fn run(input: &mut impl Read, output: &mut impl Write) -> Result<(), Failure
             Taken::Some => return session.stop(output, CUT_OFF),
             Taken::All => {}
         }
-        let kind = two(&head, 2);
-        let length = usize::from(two(&head, 0));
-        if length_of(kind) != Some(length) {
+        let Some((kind, length)) = read_head(&head) else {
             return session.stop(output, BAD_RECORD);
-        }
+        };
         let mut body = vec![0; length - HEAD_BYTES];
         if !matches!(take(input, &mut body)?, Taken::All) {
             return session.stop(output, CUT_OFF);
@@ -84,40 +80,6 @@ fn take(input: &mut impl Read, bytes: &mut [u8]) -> std::io::Result<Taken> {
         }
     }
     Ok(Taken::All)
-}
-
-/// The length that each kind of command has to have; None is an unknown kind.
-pub fn length_of(kind: u16) -> Option<usize> {
-    match kind {
-        257 | 259 | 260 => Some(12),
-        258 => Some(20),
-        261..=262 => Some(4),
-        _ => None,
-    }
-}
-
-/// The call of a known kind, from a body that has its right length.
-fn parse(kind: u16, body: &[u8]) -> Call {
-    match kind {
-        257 => Call::Format {
-            n0: two(body, 0),
-            groups: two(body, 2),
-            sweeps: two(body, 4),
-            cap: two(body, 6),
-        },
-        258 => Call::Put {
-            key: eight(body, 0),
-            value: eight(body, 8),
-        },
-        259 => Call::Find {
-            key: eight(body, 0),
-        },
-        260 => Call::Remove {
-            key: eight(body, 0),
-        },
-        261 => Call::Grow,
-        _ => Call::Check,
-    }
 }
 
 impl Session {
@@ -153,28 +115,11 @@ impl Session {
     }
 }
 
-fn reply(answer: &Answer) -> Vec<u8> {
-    let mut bytes = Vec::with_capacity(REPLY_BYTES);
-    bytes.extend((REPLY_BYTES as u16).to_le_bytes());
-    answer.push_start(&mut bytes);
-    bytes.extend(answer.read.to_le_bytes());
-    bytes.extend(answer.moved.to_le_bytes());
-    bytes.extend(answer.state.pages.to_le_bytes());
-    bytes.extend(u16::from(answer.state.due()).to_le_bytes());
-    bytes
-}
-
 #[cfg(test)]
 mod tests {
     use super::*;
-
-    fn bytes(hex: &str) -> Vec<u8> {
-        let digits: Vec<u32> = hex.chars().filter_map(|digit| digit.to_digit(16)).collect();
-        digits
-            .chunks(2)
-            .map(|pair| (pair[0] * 16 + pair[1]) as u8)
-            .collect()
-    }
+    use crate::bytes::two;
+    use crate::commands::{hex, REPLY_BYTES};
 
     fn answer_to(input: &[u8]) -> Vec<u8> {
         let mut output = Vec::new();
@@ -183,7 +128,7 @@ mod tests {
     }
 
     fn refusals(input: &str) -> Vec<u16> {
-        answer_to(&bytes(input))
+        answer_to(&hex(input))
             .chunks(REPLY_BYTES)
             .map(|reply| two(reply, 4))
             .collect()
@@ -198,7 +143,7 @@ mod tests {
         let output = "1C00 0102 0000 0000 0000000000000000 00000000 00000000 0100 0000
             1C00 0102 0000 0000 0000000000000000 01000000 00000000 0100 0000
             1C00 0102 0000 0000 0900000000000000 01000000 00000000 0100 0000";
-        assert_eq!(answer_to(&bytes(input)), bytes(output));
+        assert_eq!(answer_to(&hex(input)), hex(output));
     }
 
     /// A put said again, one with another value, and what a find says then.
@@ -207,11 +152,11 @@ mod tests {
         let put = |value: &str| format!("1400 0201 0500000000000000 {value}00000000000000");
         let find = "0C00 0301 0500000000000000";
         let input = format!("{FORMAT} {} {} {} {find}", put("09"), put("09"), put("08"));
-        let output = answer_to(&bytes(&input));
+        let output = answer_to(&hex(&input));
         let second = "1C00 0102 0600 0000 0900000000000000 01000000 00000000 0100 0000
             1C00 0102 0D00 0000 0900000000000000 01000000 00000000 0100 0000
             1C00 0102 0000 0000 0900000000000000 01000000 00000000 0100 0000";
-        assert_eq!(output[2 * REPLY_BYTES..], bytes(second));
+        assert_eq!(output[2 * REPLY_BYTES..], hex(second));
     }
 
     #[test]

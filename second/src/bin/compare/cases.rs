@@ -6,15 +6,16 @@ use crate::files::{image, parameters, File};
 use crate::held::held_again;
 use crate::loose::{loosen, scatter, wrong_count};
 use crate::random::Random;
+use crate::runs::{pay_runs, some_run};
 use crate::sink::Sink;
 use crate::values::offered;
 use crate::wrong::{wrong_format, wrong_length, wrong_row, wrong_state};
 use second::page::PAGE_BYTES;
-use second::raw::Case;
+use second::raw::{Case, RUN_KIND};
 
 /// Generates one scene: a file and some calls on it.
 pub fn scene(random: &mut Random, sink: &mut Sink) -> Result<(), String> {
-    match random.index(43) {
+    match random.index(48) {
         0..=2 => chain(random, sink),
         3..=8 => {
             let mut file = image(random);
@@ -28,17 +29,23 @@ pub fn scene(random: &mut Random, sink: &mut Sink) -> Result<(), String> {
         34..=35 => mismatched(random, sink),
         36 => noise(random, sink),
         37..=39 => formats(random, sink),
-        _ => held_again(random, sink),
+        40..=42 => held_again(random, sink),
+        _ => pay_runs(random, sink),
     }
 }
 
 /// A call on a file, with a row of the right length for grow.
 pub fn some_call(random: &mut Random, file: &mut File) -> Case {
-    let kind = random.pick(&[256, 258, 258, 258, 259, 259, 260, 260, 260, 261, 261, 262]);
+    let kind = random.pick(&[
+        256, 258, 258, 258, 259, 259, 260, 260, 260, 261, 261, 262, RUN_KIND,
+    ]);
     call_of(random, file, kind)
 }
 
 pub fn call_of(random: &mut Random, file: &mut File, kind: u16) -> Case {
+    if kind == RUN_KIND {
+        return some_run(random, file);
+    }
     let entries = if kind == 261 {
         usize::from(file.state.cap)
     } else {
@@ -139,6 +146,10 @@ fn mismatched(random: &mut Random, sink: &mut Sink) -> Result<(), String> {
         sink.ask(case)?;
         file.state.records = file.state.most_records() as u32;
         let case = call_of(random, &mut file, 258);
+        sink.ask(case)?;
+        // A run may come to the last record that r allows and go on.
+        file.state.records -= random.index(4) as u32;
+        let case = call_of(random, &mut file, RUN_KIND);
         sink.ask(case)?;
     }
     Ok(())

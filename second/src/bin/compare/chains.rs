@@ -1,11 +1,15 @@
 //! Chains of calls from a format on, each given what the last one left.
 
 use crate::cases::four_numbers;
-use crate::files::{parameters, parameters_for};
+use crate::files::{parameters, parameters_for, File};
 use crate::keys::{key_with_home, Keys};
 use crate::random::Random;
+use crate::runs::some_run;
 use crate::sink::Sink;
 use crate::values::offered;
+use second::bytes::eight;
+use second::commands::{HEAD_BYTES, PUT_BYTES};
+use second::image::standing;
 use second::raw::Case;
 use second::state::State;
 
@@ -19,14 +23,6 @@ enum Mood {
     Mixed,
 }
 
-/// A file that lives through a chain of calls.
-struct Life {
-    state: State,
-    area: Vec<u8>,
-    held: Vec<u64>,
-    keys: Keys,
-}
-
 pub fn chain(random: &mut Random, sink: &mut Sink) -> Result<(), String> {
     let asked = if random.one_in(50) {
         let cap = random.within(20, 64) as u16;
@@ -34,15 +30,14 @@ pub fn chain(random: &mut Random, sink: &mut Sink) -> Result<(), String> {
     } else {
         parameters(random)
     };
-    let keys = Keys::new(random, asked);
-    let area = random.bytes(asked.area_bytes());
-    let mut life = Life {
+    let mut file = File {
         state: State::default(),
-        area,
+        area: random.bytes(asked.area_bytes()),
         held: Vec::new(),
-        keys,
+        keys: Keys::new(random, asked),
     };
-    life.format(asked, sink)?;
+    let numbers = [asked.n0, asked.groups, asked.sweeps, asked.cap];
+    file.call(257, four_numbers(numbers), 0, sink)?;
     for _ in 0..random.within(1, 4) {
         let moods = [
             Mood::Fill,
@@ -52,43 +47,61 @@ pub fn chain(random: &mut Random, sink: &mut Sink) -> Result<(), String> {
             Mood::Mixed,
         ];
         let mood = random.pick(&moods);
-        life.live(random, mood, sink)?;
+        file.live(random, mood, sink)?;
     }
-    life.ask(262, 0, 0, sink)
+    file.call(262, 0, 0, sink)
 }
 
-impl Life {
-    fn format(&mut self, asked: State, sink: &mut Sink) -> Result<(), String> {
-        let numbers = [asked.n0, asked.groups, asked.sweeps, asked.cap];
-        self.ask(257, four_numbers(numbers), 0, sink)
+/// A file that lives through a chain of calls.
+impl File {
+    /// Makes one call on the file as it is, and keeps what it leaves.
+    fn keep(&mut self, case: Case, sink: &mut Sink) -> Result<(), String> {
+        let area = std::mem::take(&mut self.area);
+        let state = self.state;
+        let after = sink.ask(Case {
+            state,
+            area,
+            ..case
+        })?;
+        self.state = after.state;
+        self.area = after.area;
+        let records = standing(&self.area).into_iter();
+        self.held = records.map(|(_, record)| record.key).collect();
+        Ok(())
     }
 
-    /// Makes one call and keeps what it leaves.
-    fn ask(&mut self, kind: u16, a: u64, b: u64, sink: &mut Sink) -> Result<(), String> {
+    fn call(&mut self, kind: u16, a: u64, b: u64, sink: &mut Sink) -> Result<(), String> {
         let entries = if kind == 261 {
             usize::from(self.state.cap)
         } else {
             0
         };
-        let row = vec![0xdead_beef; entries];
-        let area = std::mem::take(&mut self.area);
         let case = Case {
             kind,
-            state: self.state,
             a,
             b,
-            area,
-            row,
+            row: vec![0xdead_beef; entries],
             ..Case::default()
         };
-        let after = sink.ask(case)?;
-        if after.state.records > self.state.records {
-            self.held.push(a);
-        } else if after.state.records < self.state.records {
-            self.held.retain(|&key| key != a);
+        self.keep(case, sink)
+    }
+
+    /// Makes a run, then calls that have to meet what it left: its first and
+    /// its last key, and any other one.
+    fn pay(&mut self, random: &mut Random, sink: &mut Sink) -> Result<(), String> {
+        let case = some_run(random, self);
+        let put: Vec<u8> = case.second.clone();
+        self.keep(case, sink)?;
+        let items = put.len() / PUT_BYTES;
+        if items == 0 {
+            return Ok(());
         }
-        self.state = after.state;
-        self.area = after.area;
+        for item in [0, items - 1, random.index(items)] {
+            let key = eight(&put, PUT_BYTES * item + HEAD_BYTES);
+            let kind = random.pick(&[258, 259, 259, 260]);
+            let value = offered(random, &self.area, key);
+            self.call(kind, key, value, sink)?;
+        }
         Ok(())
     }
 
@@ -99,6 +112,9 @@ impl Life {
             if sink.full() {
                 return Ok(());
             }
+            if random.one_in(20) {
+                self.pay(random, sink)?;
+            }
             let kind = self.next_kind(random, mood);
             let key = self.next_key(random, kind);
             let value = if kind == 258 {
@@ -106,7 +122,7 @@ impl Life {
             } else {
                 0
             };
-            self.ask(kind, key, value, sink)?;
+            self.call(kind, key, value, sink)?;
         }
         Ok(())
     }
@@ -142,6 +158,46 @@ impl Life {
             key_with_home(random, self.state, home)
         } else {
             self.keys.draw(random, self.state)
+        }
+    }
+}
+
+#[cfg(test)]
+mod tests {
+    use super::*;
+    use crate::sink::Asked;
+    use second::bytes::two;
+    use second::raw::RUN_KIND;
+    use std::collections::BTreeSet;
+
+    fn case_of(asked: &Asked) -> Case {
+        Case::parse(&asked.record).expect("a record")
+    }
+
+    /// The kind and the refusal of a call that comes right behind a run and
+    /// asks for a key that the run itself brought in.
+    fn after_a_run(pair: &[Asked]) -> Option<(u16, u16)> {
+        let (run, next) = (case_of(&pair[0]), case_of(&pair[1]));
+        let standing_with = |area: &[u8]| {
+            let mut records = standing(area).into_iter();
+            records.any(|(_, record)| record.key == next.a)
+        };
+        let brought_in = !standing_with(&run.area) && standing_with(&next.area);
+        (run.kind == RUN_KIND && brought_in).then(|| (next.kind, two(&pair[1].reply, 6)))
+    }
+
+    /// What a run brought in is found, put again with its value and another,
+    /// and removed.
+    #[test]
+    fn calls_meet_what_a_run_left() {
+        let mut sink = Sink::new(6, 20_000);
+        for piece in 0..200 {
+            let made = chain(&mut Random::new(6, piece), &mut sink);
+            assert_eq!(made, Ok(()));
+        }
+        let met: BTreeSet<(u16, u16)> = sink.asked.windows(2).filter_map(after_a_run).collect();
+        for pair in [(258, 6), (258, 13), (259, 0), (260, 0)] {
+            assert!(met.contains(&pair), "{pair:?} in {met:?}");
         }
     }
 }

@@ -116,7 +116,7 @@ pub fn long_run(random: &mut Random) -> (File, usize) {
 }
 
 impl File {
-    fn empty(random: &mut Random, state: State) -> File {
+    pub fn empty(random: &mut Random, state: State) -> File {
         File {
             state,
             area: empty_area(state),

@@ -1,7 +1,7 @@
 //! The fields that no call looks at yet, filled with anything now and then.
 
 use crate::random::Random;
-use second::raw::{Case, LONGEST_STRING};
+use second::raw::{Case, LONGEST_STRING, RUN_KIND};
 
 /// One in so many cases has another number in a field, and other bytes in a
 /// string.
@@ -13,8 +13,8 @@ pub fn fill(random: &mut Random, case: &mut Case) {
     if random.one_in(NUMBERS) {
         case.edition = random.pick(&[0, 1, 2, 65535]);
     }
-    // Due, grow and check take no number at all, and only put takes two.
-    if [256, 261, 262].contains(&case.kind) && random.one_in(NUMBERS) {
+    // Due, grow, check and a run take no number at all, and only put takes two.
+    if [256, 261, 262, RUN_KIND].contains(&case.kind) && random.one_in(NUMBERS) {
         case.a = number(random);
     }
     if case.kind != 258 && random.one_in(NUMBERS) {
@@ -23,10 +23,10 @@ pub fn fill(random: &mut Random, case: &mut Case) {
     if random.one_in(NUMBERS) {
         case.c = number(random);
     }
-    if random.one_in(STRINGS) {
+    if case.kind != RUN_KIND && random.one_in(STRINGS) {
         case.second = string(random, &case.area);
     }
-    if random.one_in(STRINGS) {
+    if case.kind != RUN_KIND && random.one_in(STRINGS) {
         case.room = string(random, &case.area);
     }
 }
@@ -61,7 +61,7 @@ mod tests {
         let mut random = Random::new(3, 0);
         let mut filled = std::collections::BTreeSet::new();
         for round in 0..2000 {
-            let kind = 256 + round % 7;
+            let kind = [256, 257, 258, 259, 260, 261, 262, RUN_KIND][round % 8];
             let mut file = crate::files::image(&mut random);
             let plain = crate::cases::call_of(&mut random, &mut file, kind);
             let mut idle = plain.clone();
@@ -76,12 +76,16 @@ mod tests {
             ];
             filled.extend((0..6).filter(|&at| differ[at]).map(|at| (kind, at)));
             assert!(second::raw::Case::parse(&idle.record()) == Some(idle.clone()));
-            let room = idle.room.clone();
-            assert_eq!(reply(idle), with_room(reply(plain), &room), "round {round}");
+            let (same, room) = (idle.room == plain.room, idle.room.clone());
+            let mut expected = reply(plain);
+            if !same {
+                expected = with_room(expected, &room);
+            }
+            assert_eq!(reply(idle), expected, "round {round}");
         }
         // All six for due, grow and check; a is asked of the others and b of
-        // put.
-        assert_eq!(filled.len(), 7 * 6 - 4 - 1);
+        // put, and a run is asked both strings.
+        assert_eq!(filled.len(), 8 * 6 - 4 - 1 - 2);
     }
 
     fn reply(mut case: Case) -> Vec<u8> {

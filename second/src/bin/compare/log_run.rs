@@ -5,7 +5,8 @@ use crate::logs::log;
 use crate::show::{log_difference, nth_kind, Stop};
 use crate::table::{Table, PROGRAM};
 use second::bytes::{four, two};
-use second::log::{run, Failure, REPLY_BYTES};
+use second::commands::REPLY_BYTES;
+use second::log::{run, Failure};
 use std::sync::atomic::{AtomicU64, Ordering};
 use std::sync::Mutex;
 

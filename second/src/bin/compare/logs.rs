@@ -5,7 +5,7 @@ use crate::random::Random;
 use crate::session::{command, format, put_again, session};
 
 /// Heads that the program has to refuse with 10: kinds and lengths.
-const WRONG_HEADS: [(u16, u16); 34] = [
+pub const WRONG_HEADS: [(u16, u16); 36] = [
     (0, 4),
     (4, 0),
     (1, 12),
@@ -14,6 +14,8 @@ const WRONG_HEADS: [(u16, u16); 34] = [
     (4, 255),
     (4, 263),
     (12, 263),
+    (4, 264),
+    (20, 264),
     (28, 513),
     (4, 513),
     (4, 65535),

@@ -4,7 +4,8 @@
 //! Generates raw calls and logs from a seed, answers them itself, has them
 //! answered by the programs `raw_calls` and `register_log` in DIR, started
 //! with the prefix, and compares every byte. `shortest` writes raw calls to
-//! standard output instead, one for each call and refusal.
+//! standard output instead, one for each call and refusal and for each way that
+//! a run can take.
 
 mod breaks;
 mod cases;
@@ -20,19 +21,21 @@ mod logs;
 mod loose;
 mod random;
 mod raw_run;
+mod runs;
 mod session;
 mod shortest;
 mod show;
 mod sink;
 mod table;
 mod values;
+mod ways;
 mod wrong;
 
 use launch::Launcher;
 use show::Stop;
 use std::path::PathBuf;
 use std::process::ExitCode;
-use table::{name, Table, LOG_PAIRS, RAW_PAIRS};
+use table::{name, raw_pairs, Table, LOG_PAIRS};
 
 /// From so many raw calls or logs on, every possible pair has to come.
 const ENOUGH_CALLS: u64 = 20_000;
@@ -118,7 +121,7 @@ fn compare(options: &Options) -> Result<bool, Stop> {
     if calls > 0 {
         let table = raw_run::compare(launcher, seed, calls)?;
         println!("raw calls, refusal: how often\n{table}");
-        complete &= judged(&table, &RAW_PAIRS, calls >= ENOUGH_CALLS);
+        complete &= judged(&table, &raw_pairs(), calls >= ENOUGH_CALLS);
         let endings = endings::compare(launcher, seed)?;
         println!("{endings} raw runs ended alike at what is no record");
     }

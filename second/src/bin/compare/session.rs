@@ -157,7 +157,7 @@ mod tests {
     use super::*;
     use crate::table::Table;
     use second::bytes::two;
-    use second::log::REPLY_BYTES;
+    use second::commands::REPLY_BYTES;
 
     /// Keys put again are told to be held, as repeats and as clashes, and all
     /// others find room.

@@ -2,6 +2,7 @@
 
 use crate::table::name;
 use second::bytes::number;
+use second::commands::REPLY_BYTES;
 use second::page::PAGE_BYTES;
 use second::raw::{REPLY_HEAD, STRING_HEAD};
 use std::path::{Path, PathBuf};
@@ -30,8 +31,13 @@ const RAW_FIELDS: [Field; 18] = [
     ("due", 2),
 ];
 
-/// The strings behind the fields of a raw reply.
-const RAW_STRINGS: [&str; 3] = ["area", "row", "room"];
+/// The strings behind the fields of a raw reply, each with what it is made of
+/// and how many bytes one of these has.
+const RAW_STRINGS: [(&str, Field); 3] = [
+    ("area", ("page", PAGE_BYTES)),
+    ("row", ("count", 4)),
+    ("room", ("reply", REPLY_BYTES)),
+];
 
 const LOG_FIELDS: [Field; 9] = [
     ("length", 2),
@@ -82,10 +88,10 @@ fn fields(fields: &[Field], ours: &[u8], theirs: &[u8]) -> String {
 fn strings(ours: &[u8], theirs: &[u8]) -> String {
     let (mut our_rest, mut their_rest) = (past_head(ours), past_head(theirs));
     let mut told = String::new();
-    for name in RAW_STRINGS {
+    for (name, unit) in RAW_STRINGS {
         let (our, their) = (next_string(&mut our_rest), next_string(&mut their_rest));
         if our != their {
-            told += &string_difference(name, our, their);
+            told += &string_difference(name, unit, our, their);
         }
     }
     let (our, their) = (our_rest.len(), their_rest.len());
@@ -108,14 +114,14 @@ fn next_string<'a>(rest: &mut &'a [u8]) -> &'a [u8] {
 }
 
 /// Two strings that differ: their lengths and the first byte that does.
-fn string_difference(name: &str, our: &[u8], their: &[u8]) -> String {
+fn string_difference(name: &str, (unit, size): Field, our: &[u8], their: &[u8]) -> String {
     let same = our.iter().zip(their).take_while(|(one, two)| one == two);
     let at = same.count();
-    let (page, byte) = (at / PAGE_BYTES, at % PAGE_BYTES);
+    let (number, byte) = (at / size, at % size);
     let (our_byte, their_byte) = (our.get(at), their.get(at));
     format!(
-        "{name} of {} bytes here, {} there, differs from byte {at} on (byte {byte} of page \
-         {page}): {our_byte:?} here, {their_byte:?} there\n",
+        "{name} of {} bytes here, {} there, differs from byte {at} on (byte {byte} of {unit} \
+         {number}): {our_byte:?} here, {their_byte:?} there\n",
         our.len(),
         their.len()
     )
@@ -132,7 +138,7 @@ pub fn raw_difference(seed: u64, case: u64, kind: u16, ours: &[u8], theirs: &[u8
 
 /// A log that the sides answer differently, from the first differing reply.
 pub fn log_difference(seed: u64, log: u64, input: &[u8], ours: &[u8], theirs: &[u8]) -> String {
-    let size = second::log::REPLY_BYTES;
+    let size = REPLY_BYTES;
     let same = ours
         .iter()
         .zip(theirs)
@@ -192,7 +198,7 @@ mod tests {
     #[test]
     fn the_fields_are_the_whole_head() {
         assert_eq!(bytes_of(&RAW_FIELDS), REPLY_HEAD);
-        assert_eq!(bytes_of(&LOG_FIELDS), second::log::REPLY_BYTES);
+        assert_eq!(bytes_of(&LOG_FIELDS), REPLY_BYTES);
     }
 
     #[test]
@@ -219,7 +225,9 @@ mod tests {
             assert!(told(at).starts_with(name), "{}", told(at));
         }
         assert!(told(58 + 299).contains("area of 300 bytes here, 300 there, differs from byte 299"));
+        assert!(told(58 + 299).contains("(byte 43 of page 1)"));
         assert!(told(58 + 300 + 4 + 8).starts_with("row of 20 bytes"));
+        assert!(told(58 + 300 + 4 + 8).contains("(byte 0 of count 2)"));
         assert!(told(ours.len() - 1).starts_with("room of 7 bytes"));
         let cut = raw_difference(1, 2, 256, &ours, &ours[..ours.len() - 1]);
         assert!(cut.contains("room of 7 bytes here, 6 there, differs from byte 6"));

@@ -3,6 +3,7 @@
 use crate::idle;
 use crate::random::Random;
 use crate::table::Table;
+use crate::ways::{pairs, Pair};
 use second::raw::Case;
 
 /// What is asked and what this program answers.
@@ -10,6 +11,8 @@ pub struct Asked {
     pub kind: u16,
     pub record: Vec<u8>,
     pub reply: Vec<u8>,
+    /// What it counts for in the table.
+    pub pairs: Vec<Pair>,
 }
 
 /// Gathers cases until as many as wanted are there.
@@ -47,13 +50,17 @@ impl Sink {
         };
         if self.left > 0 {
             self.left -= 1;
-            self.table.count(after.kind, answer.refusal);
+            let pairs = pairs(&after, answer.refusal);
+            for &(row, number) in &pairs {
+                self.table.count(row, number);
+            }
             self.table.count_due(after.kind, answer.state.due());
             self.table.note(answer.read, answer.moved);
             self.asked.push(Asked {
                 kind: after.kind,
                 record,
                 reply,
+                pairs,
             });
         }
         Ok(after)

@@ -1,13 +1,16 @@
 //! How often each call gave each refusal.
 
+use crate::ways::{self, Pair, RUN_PAIRS};
+use second::raw::RUN_KIND;
 use std::collections::BTreeMap;
 use std::fmt;
 
 /// The kind under which refusals 10 and 11 of the log program are counted.
 pub const PROGRAM: u16 = 0;
 
-/// The pairs of call and refusal that the rules make possible for raw calls.
-pub const RAW_PAIRS: [(u16, &[u16]); 7] = [
+/// The pairs of call and refusal that the rules make possible for raw calls;
+/// what a run can be like is told beside them.
+pub const CALL_PAIRS: [(u16, &[u16]); 8] = [
     (256, &[0]),
     (257, &[0, 1, 2]),
     (258, &[0, 1, 2, 4, 6, 7, 9, 13]),
@@ -15,6 +18,7 @@ pub const RAW_PAIRS: [(u16, &[u16]); 7] = [
     (260, &[0, 1, 2, 4, 5, 9]),
     (261, &[0, 1, 2, 3, 4, 7, 8, 9]),
     (262, &[0, 1, 2, 4, 9]),
+    (RUN_KIND, &[0, 10, 15]),
 ];
 
 /// Those for logs. The program lends an area and a row of the right length
@@ -29,9 +33,14 @@ pub const LOG_PAIRS: [(u16, &[u16]); 7] = [
     (262, &[0, 1]),
 ];
 
+/// All pairs that have to come among raw calls, in their order.
+pub fn raw_pairs() -> Vec<(u16, &'static [u16])> {
+    [&CALL_PAIRS[..], &RUN_PAIRS].concat()
+}
+
 #[derive(Default)]
 pub struct Table {
-    counts: BTreeMap<(u16, u16), u64>,
+    counts: BTreeMap<Pair, u64>,
     /// Answers to due, no and yes.
     due: [u64; 2],
     most_read: u32,
@@ -48,6 +57,19 @@ pub fn name(kind: u16) -> &'static str {
         260 => "remove",
         261 => "grow",
         262 => "check",
+        RUN_KIND => "pay run",
+        ways::ITEM => "put in a run",
+        ways::ITEMS => "items from",
+        ways::ITEMS_REFUSED => "without room",
+        ways::EMPTY_ROOM => "empty room",
+        ways::SHORT_ROOM => "room short",
+        ways::LONG_ROOM => "room long",
+        ways::CUT => "put cut at",
+        ways::OVER => "bytes over",
+        ways::FIRST_HEAD => "first head",
+        ways::MIDDLE_HEAD => "middle head",
+        ways::LAST_HEAD => "last head",
+        ways::BOTH => "and the room",
         _ => "unknown",
     }
 }
@@ -78,7 +100,7 @@ impl Table {
     }
 
     /// The possible pairs that never came.
-    pub fn missing(&self, pairs: &[(u16, &[u16])]) -> Vec<(u16, u16)> {
+    pub fn missing(&self, pairs: &[(u16, &[u16])]) -> Vec<Pair> {
         let all = pairs
             .iter()
             .flat_map(|(kind, refusals)| refusals.iter().map(move |&refusal| (*kind, refusal)));
@@ -86,8 +108,8 @@ impl Table {
     }
 
     /// Pairs that came though the rules don't make them possible.
-    pub fn beyond(&self, pairs: &[(u16, &[u16])]) -> Vec<(u16, u16)> {
-        let possible = |&(kind, refusal): &(u16, u16)| {
+    pub fn beyond(&self, pairs: &[(u16, &[u16])]) -> Vec<Pair> {
+        let possible = |&(kind, refusal): &Pair| {
             pairs
                 .iter()
                 .any(|(known, refusals)| *known == kind && refusals.contains(&refusal))
@@ -107,7 +129,7 @@ impl fmt::Display for Table {
             if last != Some(kind) {
                 write!(
                     out,
-                    "{}{:8}",
+                    "{}{:12}",
                     if last.is_some() { "\n" } else { "" },
                     name(kind)
                 )?;

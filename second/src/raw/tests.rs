@@ -1,0 +1,245 @@
+use super::*;
+use crate::commands::hex;
+
+/// A format of two pages with something in every field.
+fn format_case() -> Case {
+    Case {
+        kind: 257,
+        edition: 0x7776,
+        a: number(&[1, 0, 1, 0, 1, 0, 2, 0]),
+        b: 2,
+        c: 3,
+        area: vec![7; 512],
+        second: vec![8; 9],
+        row: vec![5],
+        room: vec![6; 3],
+        ..Case::default()
+    }
+}
+
+fn written(input: &[u8]) -> Vec<u8> {
+    let mut output = Vec::new();
+    run(&mut &input[..], &mut output).expect("slices don't fail");
+    output
+}
+
+#[test]
+fn a_record_reads_back() {
+    let case = format_case();
+    assert_eq!(Case::parse(&case.record()), Some(case.clone()));
+    assert_eq!(Case::parse(&case.record()[1..]), None);
+    assert_eq!(Case { kind: 263, ..case }.call(), None);
+}
+
+/// A check that finds its area too short, byte by byte.
+#[test]
+fn every_field_has_its_place() {
+    let record = [
+        &[74, 0, 0, 0, 6, 1][..],
+        &[2, 0, 3, 0, 4, 0, 30, 0, 40, 0, 0xcd, 0xab, 0x23, 1, 0, 0],
+        &[11, 0, 0, 0, 0, 0, 0, 0x80],
+        &[12, 0, 0, 0, 0, 0, 0, 0x80],
+        &[13, 0, 0, 0, 0, 0, 0, 0x80],
+        &[1, 0, 0, 0, 21],
+        &[2, 0, 0, 0, 22, 23],
+        &[4, 0, 0, 0, 24, 25, 26, 27],
+        &[5, 0, 0, 0, 28, 29, 30, 31, 32],
+    ]
+    .concat();
+    let reply = [
+        &[76, 0, 0, 0, 1, 2, 2, 0, 0, 0][..],
+        &[0, 0, 0, 0, 0, 0, 0, 0],
+        &[0, 0, 0, 0, 0, 0, 0, 0, 0, 0, 0, 0, 0, 0, 0, 0, 0, 0],
+        &[2, 0, 3, 0, 4, 0, 30, 0, 40, 0, 1, 0, 0x23, 1, 0, 0, 1, 0],
+        &[1, 0, 0, 0, 21],
+        &[4, 0, 0, 0, 24, 25, 26, 27],
+        &[5, 0, 0, 0, 28, 29, 30, 31, 32],
+    ]
+    .concat();
+    assert_eq!(written(&record), reply);
+    let read = Case::parse(&record).expect("a record");
+    assert_eq!((read.a, read.b, read.c), (TOP + 11, TOP + 12, TOP + 13));
+    assert_eq!((read.edition, read.row), (0xabcd, vec![0x1b1a_1918]));
+}
+
+const TOP: u64 = 1 << 63;
+
+/// Makes a call on what the one before left, and gives its reply.
+fn next(case: &mut Case, kind: u16, a: u64) -> Vec<u8> {
+    (case.kind, case.a, case.b) = (kind, a, 100 + a);
+    let answered = case.answer().expect("agrees with itself");
+    answered.expect("a known kind").1
+}
+
+/// The rules' own figure: with thirteen keys there is no room to grow, with
+/// twelve all of them move.
+#[test]
+fn the_numbers_of_an_answer_have_their_places() {
+    let mut case = format_case();
+    let asked = case.a;
+    next(&mut case, 257, asked);
+    for key in 0..13 {
+        next(&mut case, 258, key);
+    }
+    case.row = vec![9; 2];
+    let refused = next(&mut case, 261, 0);
+    assert_eq!((two(&refused, 6), four(&refused, 22)), (7, 2));
+    next(&mut case, 260, 12);
+    let found = next(&mut case, 259, 4);
+    assert_eq!((eight(&found, 10), four(&found, 22)), (104, 1));
+    assert_eq!((four(&found, 48), two(&found, 52)), (12, 1));
+    assert_eq!((two(&found, 42), two(&found, 46)), (1, 1));
+    let grown = next(&mut case, 261, 0);
+    assert_eq!((two(&grown, 6), four(&grown, 26)), (0, 12));
+    assert_eq!((two(&grown, 42), two(&grown, 52)), (2, 0));
+}
+
+/// A run of one put on a fresh file of two pages, with something in every
+/// field that a run doesn't look at.
+fn run_case() -> Case {
+    let mut case = format_case();
+    let asked = case.a;
+    next(&mut case, 257, asked);
+    Case {
+        kind: 264,
+        edition: 0x7776,
+        second: hex("1400 0201 0500000000000000 0900000000000000"),
+        room: vec![6; 28],
+        ..case
+    }
+}
+
+/// The room comes back with the log's reply, the row as it was, and the run's
+/// own answer tells no more than the state after it.
+#[test]
+fn a_run_writes_its_replies_to_the_room() {
+    let reply = written(&run_case().record());
+    let head = "62020000 0102 0000 0000 0000000000000000 00000000 00000000 00000000 0000 00000000
+        0100 0100 0100 0100 0200 0100 01000000 0000 00020000";
+    assert_eq!(reply[..58], hex(head));
+    let record = "1400 0100 0500000000000000 0900000000000000";
+    assert_eq!(reply[58 + 16..58 + 36], hex(record));
+    let behind = "04000000 05000000
+        1C000000 1C00 0102 0000 0000 0000000000000000 01000000 00000000 0100 0000";
+    assert_eq!(reply[58 + 512..], hex(behind));
+}
+
+/// Refused runs give back all they were given, whatever the state.
+#[test]
+fn a_refused_run_changes_nothing() {
+    let good = run_case();
+    for (cut, room, refusal) in [(19, 28, 10), (20, 27, 15), (0, 28, 15), (1, 0, 10)] {
+        for state in [good.state, State::default()] {
+            let mut case = Case {
+                state,
+                second: good.second[..cut].to_vec(),
+                room: vec![6; room],
+                ..good.clone()
+            };
+            let before = Case {
+                edition: EDITION,
+                ..case.clone()
+            };
+            let answered = case.answer().expect("agrees with itself");
+            let told = answered.map(|(answer, _)| answer);
+            assert_eq!(told, Some(Answer::refused(state, refusal, 0)));
+            assert_eq!(case, before, "{cut} bytes, room {room}");
+        }
+    }
+}
+
+#[test]
+fn heads_stand_where_they_are_told() {
+    let case = format_case();
+    let record = case.record();
+    let lengths = case.string_heads().map(|at| four(&record, at));
+    assert_eq!(lengths, [512, 9, 4, 3]);
+}
+
+#[test]
+fn fields_not_looked_at_change_nothing() {
+    let idle = Case {
+        edition: 1,
+        b: 0,
+        c: 0,
+        second: Vec::new(),
+        ..format_case()
+    };
+    assert_eq!(written(&idle.record()), written(&format_case().record()));
+    let formatted = written(&idle.record());
+    assert_eq!(two(&formatted, 46), EDITION);
+    assert_eq!(formatted[formatted.len() - 7..], [3, 0, 0, 0, 6, 6, 6]);
+}
+
+/// How many replies come where this stands between two right records.
+fn replies_around(middle: &[u8]) -> usize {
+    let good = format_case().record();
+    let output = written(&[&good, middle, &good].concat());
+    let mut rest = &output[..];
+    let mut replies = 0;
+    while !rest.is_empty() {
+        rest = &rest[four(rest, 0) as usize..];
+        replies += 1;
+    }
+    replies
+}
+
+/// This record with the four-byte number at a place changed.
+fn with_change(case: &Case, at: usize, change: u32) -> Vec<u8> {
+    let mut wrong = case.record();
+    let now = four(&wrong, at).wrapping_add(change);
+    wrong[at..at + 4].copy_from_slice(&now.to_le_bytes());
+    wrong
+}
+
+#[test]
+fn answering_ends_at_what_is_no_record() {
+    let case = format_case();
+    assert_eq!(replies_around(&[]), 2);
+    assert_eq!(replies_around(&case.record()), 3);
+    let mut wrong: Vec<Vec<u8>> = Vec::new();
+    for kind in [0, 255, 263, 265, 513, 65535] {
+        let unknown = Case {
+            kind,
+            ..case.clone()
+        };
+        wrong.push(unknown.record());
+    }
+    wrong.extend((0..62u32).map(|length| length.to_le_bytes().to_vec()));
+    for at in [&[0], &case.string_heads()[..]].concat() {
+        for change in [1, 4, 255, 256, 1 << 16, 1 << 31, u32::MAX] {
+            wrong.push(with_change(&case, at, change));
+        }
+    }
+    for (number, record) in wrong.iter().enumerate() {
+        assert_eq!(replies_around(record), 1, "wrong record {number}");
+    }
+}
+
+/// Strings of these lengths, with how many replies come around them.
+#[test]
+fn strings_have_a_greatest_length_and_rows_whole_counts() {
+    let mut lengths = vec![([LONGEST_STRING; RECORD_STRINGS], 3)];
+    for string in 0..RECORD_STRINGS {
+        for (length, replies) in [(16_400, 3), (16_401, 1), (16_404, 1), (65_536, 1)] {
+            let mut one = [0; RECORD_STRINGS];
+            one[string] = length;
+            lengths.push((one, replies));
+        }
+    }
+    lengths.extend((0..9).map(|row| ([0, 0, row, 0], if row % 4 == 0 { 3 } else { 1 })));
+    for (lengths, replies) in lengths {
+        let strings = lengths.map(|length| vec![1; length]);
+        let record = format_case().record_with(strings.each_ref().map(Vec::as_slice));
+        assert_eq!(replies_around(&record), replies, "{lengths:?}");
+    }
+}
+
+#[test]
+fn a_record_cut_off_has_no_reply() {
+    let good = format_case().record();
+    let one = written(&good);
+    for cut in 0..good.len() {
+        assert_eq!(written(&[&good[..], &good[..cut]].concat()), one, "{cut}");
+    }
+}

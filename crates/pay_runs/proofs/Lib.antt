@@ -1,3 +1,6 @@
 pub mod Heads
 pub mod Items
 pub mod Running
+pub mod ToTheByte
+pub mod Replies
+pub mod Promises

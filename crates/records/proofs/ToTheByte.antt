@@ -1,5 +1,5 @@
 -- A command is read from the bytes of its layout, and from no others.
-use mathlib.Core.Path.{_≡_, refl, sym, _∙_}
+use mathlib.Core.Path.{_≡_, refl, sym, ap, _∙_}
 use mathlib.Core.Bool.{Bool, true, false, cond}
 use mathlib.Core.List.{List, [], _∷_, _++_}
 use Prim.Native.Nat.{ℕ, _+_, _≤_}
@@ -19,7 +19,7 @@ use Rattle.records.specs.declared.Command.{Command}
 use Rattle.records.specs.declared.Command.the-variants.{Format, Put, Find, Remove, Grow, Check}
 use Rattle.records.specs.declared.Item.{Item}
 use Rattle.records.specs.declared.Item.the-variants.{Asks, Unknown, Cut}
-use Rattle.records.specs.Records.{lengthOf, formOf, commandOf, formed, firstOf, layoutOf}
+use Rattle.records.specs.Records.{lengthOf, formOf, recordIn, commandOf, formed, firstOf, asksPut, isPut, layoutOf}
 use Rattle.records.proofs.Reading.{numberOf, head-low, known-form, Of, of-number, whole}
 
 -- the numbers from an offset on are those of the fields
@@ -126,3 +126,30 @@ read-only l c n b e =
     let q : width (layoutOf c) ≡ n = told-width l c t ∙ sym (w .1) in
     let m : matches l 0 (layoutOf c) ≡ true = match (layoutOf c) l 0 (rw (t .body) (kind-says (t .what) l (t .first) (t .second))) in
     (sym q, rw q at (matches-sound (layoutOf c) l 0 b (omega (arith, w .2)) m))
+
+false-true : false ≡ true → ⊥
+false-true e = let z : _≡_ {A = ℕ} 0 1 = cc in omega arith
+
+-- a command told by a put's kind is the put of the record
+put-told : (l : List ℕ) (c : Command) (k : Kind) → c ≡ commandOf k l → asksPut c ≡ true → (k ≡ kind.Put) × (c ≡ Put (recordIn l))
+put-told l c kind.Put e u = (refl, e)
+put-told l c kind.Format e u = absurd (false-true (rw e at u))
+put-told l c kind.Find e u = absurd (false-true (rw e at u))
+put-told l c kind.Remove e u = absurd (false-true (rw e at u))
+put-told l c kind.Grow e u = absurd (false-true (rw e at u))
+put-told l c kind.Check e u = absurd (false-true (rw e at u))
+
+-- an input that begins with a whole put record asks for its put
+pub put-first : (l : List ℕ) → isPut (firstOf l) ≡ true → (firstOf l ≡ Asks (Put (recordIn l)) 20) × (20 ≤ length l)
+unfolding firstOf
+put-first l u = go (firstOf l) refl u
+  where
+    go : (i : Item) → firstOf l ≡ i → isPut i ≡ true → (i ≡ Asks (Put (recordIn l)) 20) × (20 ≤ length l)
+    go Unknown e u = absurd (false-true u)
+    go Cut e u = absurd (false-true u)
+    go (Asks c n) e u =
+        let w = asks-told c n l (formOf (numberAt 2 l 2)) (of-number (numberAt 2 l 2)) (not-cut c n (ltb (length l) 4) _ e .1) in
+        let t : Tells l c = w .0 in
+        let p = put-told l c (t .what) (t .body) u in
+        let m : n ≡ 20 = w .1 ∙ ap lengthOf (p .0) in
+        (rw (p .1, m), omega (arith, w .2))

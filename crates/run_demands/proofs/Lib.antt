@@ -1,0 +1,4 @@
+pub mod PutKeeps
+pub mod Logging
+pub mod RunDemands
+pub mod RunAnswers

@@ -1,0 +1,102 @@
+-- A put on any bytes keeps the lent size and the length of the area.
+use mathlib.Core.Path.{_≡_, refl, _∙_}
+use mathlib.Core.Bool.{Bool, true, false, cond}
+use mathlib.Core.Option.{Option, none, some}
+use mathlib.Core.List.{List, [], _∷_}
+use Prim.Native.Nat.{ℕ, zero, suc, _-_, _*_, _<_}
+use native.Mathlib.Omega.{arith}
+use lib.Dec.{eqb, ltb}
+use lib.ListN.{length, take, getD}
+use borrow.Author.Tests.{eqb-true}
+use Rattle.placing.specs.Image.{All}
+use Rattle.placing.specs.Lay.{rankIn, ins}
+use Rattle.pages.specs.Page.{Record, key, readPage}
+use Rattle.pages.specs.Area.{partAt, pagesFrom}
+use Rattle.pages.proofs.Areas.{with-length}
+use Rattle.state.specs.declared.State.{State}
+use Rattle.state.specs.declared.Answer.the-variants.{OutOfRange, WrongArea}
+use Rattle.state.specs.State.{inRange, homes, oneMore}
+use Rattle.walks.specs.declared.Met.{Met}
+use Rattle.walks.specs.declared.Met.the-variants as met
+use Rattle.walks.specs.Walks.{Pages, Walked, went, stopped, andPage, carry, walk, putMet, putWalk, writes}
+use Rattle.gates.specs.declared.Gate.the-variants.{Open, Shut}
+use Rattle.gates.specs.Gates.{onGate, gateOf}
+use Rattle.register.specs.Calls.{Outcome, refused, settled, putOpen}
+use Rattle.register.specs.Files.{put, File, ofOutcome, left}
+
+-- pages that lie below a size
+abbrev Below : ℕ → Pages → Type 0
+Below cap = All (λ (w : ℕ × List Record). w .0 < cap)
+
+abbrev Low : ℕ → Walked → Type 0
+Low cap (went ws n m) = Below cap ws
+Low cap (stopped why) = Unit {0}
+
+and-low : (cap a : ℕ) (p : List Record) (w : Walked) → a < cap → Low cap w → Low cap (andPage a p w)
+and-low cap a p (went ws n m) l k = (l, k)
+and-low cap a p (stopped why) l k = tt
+
+-- what is carried on from a page lies below the lent size
+carry-low : (h : ℕ → ℕ) (area : List ℕ) (cap more a n m : ℕ) (x : Record) → more ≡ cap - a → Low cap (carry h a n m x (pagesFrom h area more a))
+carry-low h area cap zero a n m x e = tt
+carry-low h area cap (suc more) a n m x e =
+    onPage (readPage h a (partAt area a)) (λ y. carry-low h area cap more (suc a) (suc n) (suc m) y (omega arith))
+  where
+    onPage : (o : Option (List Record)) → ((y : Record) → Low cap (carry h (suc a) (suc n) (suc m) y (pagesFrom h area more (suc a))))
+        → Low cap (carry h a n m x (o ∷ pagesFrom h area more (suc a)))
+    onPage none k = tt
+    onPage (some p) k = fits (ltb (length p) 12)
+      where
+        q : List Record
+        q = ins (rankIn key h) x p
+
+        on : Walked
+        on = carry h (suc a) (suc n) (suc m) (getD q 12 x) (pagesFrom h area more (suc a))
+
+        fits : (u : Bool) → Low cap (cond u (went ((a, q) ∷ []) (suc n) m) (andPage a (take 12 q) on))
+        fits true = (omega arith, tt)
+        fits false = and-low cap a (take 12 q) on (omega arith) (k (getD q 12 x))
+
+-- so does all that a put writes
+put-low : (h : ℕ → ℕ) (area : List ℕ) (cap : ℕ) (x : Record) → Low cap (putWalk h area cap x)
+unfolding putWalk
+put-low h area cap x = onMet (walk h area cap (key x))
+  where
+    onMet : (w : Met) → Low cap (putMet h area cap x w)
+    onMet (met.Found a i c v n) = tt
+    onMet (met.Broken a n) = tt
+    onMet (met.Ends a i c n) = carry-low h area cap (cap - a) a (n - 1) 0 x refl
+    onMet (met.AtEnd n) = tt
+
+-- pages written below the lent size leave as many bytes
+writes-length : (cap : ℕ) (ws : Pages) (area : List ℕ) → Below cap ws → length area ≡ 256 * cap → length (writes area ws) ≡ length area
+writes-length cap [] area b e = refl
+writes-length cap (w ∷ ws) area b e =
+    let k = with-length area (w .0) (w .1) (omega (arith, b .0)) in
+    writes-length cap ws _ (b .1) (k ∙ e) ∙ k
+
+-- as many bytes, and the same lent size
+abbrev Keeps : State → List ℕ → Outcome → Type 0
+Keeps s area o = (o .done .state .cap ≡ s .cap) × (length (o .area) ≡ length area)
+
+settled-keeps : (s : State) (area : List ℕ) (wrong : Bool) (w : Walked) → Low (s .cap) w → length area ≡ 256 * s .cap → Keeps s area (settled s area (oneMore s) wrong w)
+settled-keeps s area wrong (stopped why) l e = (refl, refl)
+settled-keeps s area true (went ws n m) l e = (refl, refl)
+settled-keeps s area false (went ws n m) l e = (refl, writes-length (s .cap) ws area l e)
+
+pub put-keeps : (f : File) (x : Record) → (left f (put x) .file .state .cap ≡ f .state .cap) × (length (left f (put x) .file .area) ≡ length (f .area))
+unfolding left gateOf
+put-keeps f x = go (inRange s) (eqb (length area) (256 * s .cap)) refl
+  where
+    s : State
+    s = f .state
+
+    area : List ℕ
+    area = f .area
+
+    go : (u v : Bool) → eqb (length area) (256 * s .cap) ≡ v
+        → Keeps s area (onGate (cond u (cond v Open (Shut WrongArea)) (Shut OutOfRange)) (refused s area) (putOpen s area x))
+    go false v e = (refl, refl)
+    go true false e = (refl, refl)
+    go true true e =
+        settled-keeps s area (eqb (s .r) (12 * s .cap)) (putWalk (homes s) area (s .cap) x) (put-low (homes s) area (s .cap) x) (eqb-true (length area) (256 * s .cap) e)

@@ -1,0 +1,14 @@
+-- A pay run takes whatever it is given, and its contract allows one answer, one area and one room.
+use mathlib.Core.Path.{_∙⁻¹_}
+use Rattle.register.specs.Files.{fileOf}
+use Rattle.run_demands.specs.RunAnswers.{RunAnswers}
+
+pub run-answers : RunAnswers
+run-answers =
+    record {
+      put-run = record {
+        asks-nothing = λ κs a. tt;
+        one = λ κs a y z v w p q. (p .0 ∙⁻¹ q .0, λ i. (tt, ((p .1 .0 ∙⁻¹ q .1 .0) i, (tt, ((p .1 .1 ∙⁻¹ q .1 .1) i, tt)))));
+        does = λ κs a y v p i. record { numbers = p .0 i .numbers; file = fileOf (p .0 i .state) (p .1 .0 i); room = p .1 .1 i };
+      };
+    }

@@ -1,0 +1,107 @@
+-- Runs are histories of their puts, and do what a log of the same records does.
+use mathlib.Core.Path.{_≡_, refl, sym, ap, _∙_}
+use mathlib.Core.Bool.{Bool, true, false, cond}
+use mathlib.Core.List.{List, [], _∷_, _++_}
+use Prim.Native.Nat.{ℕ, _+_, _-_, _*_}
+use native.Mathlib.Omega.{arith}
+use lib.Dec.{eqb}
+use lib.ListN.{length}
+use borrow.Author.Tests.{eq-eqb, eqb-true}
+use Rattle.numbers.specs.Little.{Bytes}
+use Rattle.placing.specs.Image.{All}
+use Rattle.placing.proofs.Lists.{all-append}
+use Rattle.pages.specs.Page.{Record}
+use Rattle.register.specs.Files.{Call, File, left, after}
+use Rattle.demands.specs.Histories.{Fits}
+use Rattle.commands.specs.Execute.{Site}
+use Rattle.commands.specs.Log.{wholeLog}
+use Rattle.log_demands.specs.LogDemands.{fileAt}
+use Rattle.pay_runs.specs.PayRun.{items, endToEnd, putsIn, makes, refuses, runRefusal, ran, madeBy}
+use Rattle.pay_runs.specs.Promises.{recordsOf, putsOf, AllSized}
+use Rattle.pay_runs.proofs.Promises.{run-promises}
+use Rattle.run_demands.specs.RunDemands.{Act, call, run, FitsAct, leftBy, afterAll, callsOf, oneByOne, AsLog, RunDemands}
+use Rattle.run_demands.proofs.Logging.{logged, file-had, puts-keep, whole-puts}
+
+-- calls and then others
+after-append : (f : File) (cs ds : List Call) → after f (cs ++ ds) ≡ after (after f cs) ds
+unfolding after
+after-append f [] ds = refl
+after-append f (c ∷ cs) ds = after-append (left f c .file) cs ds
+
+-- one call or run leaves what its calls leave
+left-by : (f : File) (a : Act) → leftBy f a ≡ after f (callsOf a)
+unfolding after ran
+left-by f (call c) = refl
+left-by f (run l room) = go (eqb (runRefusal l room) 0)
+  where
+    go : (u : Bool) → cond u (makes f (putsIn (items l) l)) (refuses (runRefusal l room) f room) .file ≡ after f (cond u (putsIn (items l) l) [])
+    go true = refl
+    go false = refl
+
+-- so do all of them
+histories : (f : File) (acts : List Act) → afterAll f acts ≡ after f (oneByOne acts)
+unfolding afterAll oneByOne after
+histories f [] = refl
+histories f (a ∷ acts) =
+    histories (leftBy f a) acts ∙ ap (λ g. after g (oneByOne acts)) (left-by f a) ∙ sym (after-append f (callsOf a) (oneByOne acts))
+
+-- the puts of sized records fit
+puts-fit : (xs : List Record) → AllSized xs → All Fits (putsOf xs)
+unfolding putsOf
+puts-fit [] s = tt
+puts-fit (x ∷ xs) s = (s .0, puts-fit xs (s .1))
+
+-- and so do the calls of a run
+run-fits : (l room : List ℕ) → Bytes l → All Fits (madeBy l room)
+run-fits l room b = go (eqb (runRefusal l room) 0) refl
+  where
+    go : (u : Bool) → eqb (runRefusal l room) 0 ≡ u → All Fits (cond u (putsIn (items l) l) [])
+    go false e = tt
+    go true e =
+        let z : runRefusal l room ≡ 0 = eqb-true (runRefusal l room) 0 e in
+        let (xs, s, q) = run-promises .ten l room b .0 (λ t. omega arith) in
+        rw (← q, run-promises .reads xs s .1) (puts-fit xs s)
+
+act-fits : (a : Act) → FitsAct a → All Fits (callsOf a)
+act-fits (call c) w = (w, tt)
+act-fits (run l room) w = run-fits l room w
+
+all-fit : (acts : List Act) → All FitsAct acts → All Fits (oneByOne acts)
+unfolding oneByOne
+all-fit [] w = tt
+all-fit (a ∷ acts) w = all-append Fits (callsOf a) (oneByOne acts) (act-fits a (w .0)) (all-fit acts (w .1))
+
+-- an accepted run has put records end to end, and leaves what its puts leave
+module _ (l room : List ℕ) (z : runRefusal l room ≡ 0) where
+  right-heads : endToEnd (items l) l ≡ true
+  right-heads = go (endToEnd (items l) l) (eqb (length room) (28 * items l)) z
+    where
+      go : (u v : Bool) → cond {A = ℕ} u (cond v 0 15) 10 ≡ 0 → u ≡ true
+      go true v e = refl
+      go false v e = absurd (omega arith)
+
+  made : (f : File) → ran f l room ≡ makes f (putsIn (items l) l)
+  unfolding ran
+  made f = rw (eq-eqb (runRefusal l room) 0 z)
+
+  -- so the log of the same records leaves the same
+  as-log : (d : Site) → AsLog d l room
+  as-log d =
+      let n : ℕ = items l in
+      let whole : wholeLog d l ≡ logged d (putsIn n l) (length l) = whole-puts n d l right-heads in
+      let had = file-had d (after (fileAt d) (putsIn n l)) (puts-keep (fileAt d) n l) in
+      record {
+        replies = rw (whole, made (fileAt d));
+        file = rw (whole, made (fileAt d)) had;
+        space = rw (whole, made (fileAt d));
+        row = rw whole;
+        taken = rw whole;
+        goes-on = rw whole;
+      }
+
+pub run-demands : RunDemands
+run-demands = record {
+  histories = histories;
+  fresh = λ f acts fits m keeps. record { start = f; calls = oneByOne acts; fits = all-fit acts fits; keeps = keeps; leaves = sym (histories f acts) };
+  as-log = λ d l room z. as-log l room z d;
+}

@@ -19,15 +19,10 @@ use Rattle.gates.specs.declared.Gate.the-variants.{Open, Shut}
 use Rattle.gates.specs.Gates.{onGate, gateOf}
 use Rattle.register.specs.Calls.{done, Outcome, refused}
 use Rattle.register.specs.Files.{Call, format, File, ofOutcome, left, numbersOf, after}
+use Rattle.register.proofs.After.{after-append}
 use Rattle.demands.specs.Histories.{Fits, refusal, Kept, begun, makes, kept}
 use Rattle.demands.specs.Demands.{Fresh}
 use Rattle.demands.proofs.Demands.{demands}
-
--- the file after a history with one call more
-after-more : (f : File) (cs : List Call) (c : Call) → after f (cs ++ (c ∷ [])) ≡ left (after f cs) c .file
-unfolding after
-after-more f [] c = refl
-after-more f (x ∷ cs) c = after-more (left f x .file) cs c
 
 -- what such a history keeps
 kept-more : (o : Option Kept) (f : File) (cs : List Call) (c : Call)
@@ -38,13 +33,14 @@ kept-more o f (x ∷ cs) c = kept-more _ (left f x .file) cs c
 
 -- after a fresh history an accepted call makes one
 pub fresh-more : {m new : Kept} {f : File} (c : Call) → Fits c → refusal f c ≡ 0 → makes (some m) c ≡ some new → Fresh m f → Fresh new (left f c .file)
+unfolding after
 fresh-more {f} c fits z k w =
     record {
       start = w .start;
       calls = w .calls ++ (c ∷ []);
       fits = all-append Fits (w .calls) (c ∷ []) (w .fits) (fits, tt);
       keeps = kept-more none (w .start) (w .calls) c ∙ rw (w .leaves, eq-eqb (refusal f c) 0 z, w .keeps) k;
-      leaves = after-more (w .start) (w .calls) c ∙ rw (w .leaves);
+      leaves = after-append (w .start) (w .calls) (c ∷ []) ∙ rw (w .leaves);
     }
 
 -- an accepted format makes one from any file

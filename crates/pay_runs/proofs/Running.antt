@@ -1,7 +1,7 @@
 -- A run, on each way out of `put_run`.
 use mathlib.Core.Path.{_≡_, refl, sym, _∙_}
-use mathlib.Core.Bool.{Bool, true, false}
-use mathlib.Core.List.{List}
+use mathlib.Core.Bool.{Bool, true, false, cond}
+use mathlib.Core.List.{List, []}
 use Prim.Native.Nat.{ℕ, _*_}
 use lib.Dec.{eqb}
 use lib.ListN.{length}
@@ -11,7 +11,7 @@ use Rattle.state.specs.declared.Numbers.{Numbers}
 use Rattle.register.specs.Files.{File, fileOf, after}
 use Rattle.records.specs.declared.Told.{Told}
 use Rattle.records.specs.Records.{bytesOfAll, refusedBy}
-use Rattle.pay_runs.specs.PayRun.{items, endToEnd, putsIn, repliesTo, Ran, ran, toldOf}
+use Rattle.pay_runs.specs.PayRun.{items, endToEnd, putsIn, repliesTo, runRefusal, Ran, makes, refuses, ran, madeBy, toldOf}
 
 -- what is told of a run, and the area and the room that it leaves
 abbrev pub Came : Ran → Told → (area room : List ℕ) → Type 0
@@ -25,6 +25,15 @@ abbrev pub Made : File → (l : List ℕ) → State → (area room : List ℕ) �
 Made f l s area room =
     let cs = putsIn (items l) l in
     (s ≡ after f cs .state) × ((area ≡ after f cs .area) × (room ≡ bytesOfAll (repliesTo f cs)))
+
+-- a run leaves the file that its calls leave
+pub run-after : (f : File) (l room : List ℕ) → ran f l room .file ≡ after f (madeBy l room)
+unfolding ran after
+run-after f l room = go (eqb (runRefusal l room) 0)
+  where
+    go : (u : Bool) → cond u (makes f (putsIn (items l) l)) (refuses (runRefusal l room) f room) .file ≡ after f (cond u (putsIn (items l) l) [])
+    go true = refl
+    go false = refl
 
 module _ (s : State) (area l room : List ℕ) (heads : Bool) (is : heads ≡ endToEnd (items l) l) where
   -- 10: nothing is changed

@@ -1,3 +1,4 @@
+pub mod After
 pub mod Clearing
 pub mod Answers
 pub mod Settling

@@ -11,32 +11,24 @@ use Rattle.numbers.specs.Little.{Bytes}
 use Rattle.placing.specs.Image.{All}
 use Rattle.placing.proofs.Lists.{all-append}
 use Rattle.pages.specs.Page.{Record}
-use Rattle.register.specs.Files.{Call, File, left, after}
+use Rattle.register.specs.Files.{Call, File, after}
+use Rattle.register.proofs.After.{after-append}
 use Rattle.demands.specs.Histories.{Fits}
 use Rattle.commands.specs.Execute.{Site}
 use Rattle.commands.specs.Log.{wholeLog}
 use Rattle.log_demands.specs.LogDemands.{fileAt}
-use Rattle.pay_runs.specs.PayRun.{items, endToEnd, putsIn, makes, refuses, runRefusal, ran, madeBy}
+use Rattle.pay_runs.specs.PayRun.{items, endToEnd, putsIn, makes, runRefusal, ran, madeBy}
 use Rattle.pay_runs.specs.Promises.{recordsOf, putsOf, AllSized}
+use Rattle.pay_runs.proofs.Running.{run-after}
 use Rattle.pay_runs.proofs.Promises.{run-promises}
 use Rattle.run_demands.specs.RunDemands.{Act, call, run, FitsAct, leftBy, afterAll, callsOf, oneByOne, AsLog, RunDemands}
 use Rattle.run_demands.proofs.Logging.{logged, file-had, puts-keep, whole-puts}
 
--- calls and then others
-after-append : (f : File) (cs ds : List Call) → after f (cs ++ ds) ≡ after (after f cs) ds
-unfolding after
-after-append f [] ds = refl
-after-append f (c ∷ cs) ds = after-append (left f c .file) cs ds
-
 -- one call or run leaves what its calls leave
 left-by : (f : File) (a : Act) → leftBy f a ≡ after f (callsOf a)
-unfolding after ran
+unfolding after
 left-by f (call c) = refl
-left-by f (run l room) = go (eqb (runRefusal l room) 0)
-  where
-    go : (u : Bool) → cond u (makes f (putsIn (items l) l)) (refuses (runRefusal l room) f room) .file ≡ after f (cond u (putsIn (items l) l) [])
-    go true = refl
-    go false = refl
+left-by f (run l room) = run-after f l room
 
 -- so do all of them
 histories : (f : File) (acts : List Act) → afterAll f acts ≡ after f (oneByOne acts)

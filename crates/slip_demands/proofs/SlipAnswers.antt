@@ -1,5 +1,5 @@
 -- Each call by slip takes whatever it is given, and its contract allows one number to be returned,
--- and one slip, one area and one row afterwards.
+-- and one slip, one area, one row and one room afterwards.
 use mathlib.Core.Path.{refl, sym, _∙⁻¹_}
 use denote.Ref.{now}
 use Rattle.slip_demands.specs.SlipAnswers.{SlipAnswers}
@@ -22,6 +22,11 @@ slip-answers =
         asks-nothing = λ κs a. tt;
         one = λ κs a y z v w p q. (p .0 ∙⁻¹ q .0, λ i. ((p .1 .0 ∙⁻¹ q .1 .0) i, ((p .1 .1 .0 ∙⁻¹ q .1 .1 .0) i, (tt, (tt, tt)))));
         does = λ κs a y v p i. record { returned = p .0 i; slip = p .1 .0 i; file = record { state = p .1 .1 .1 i; area = p .1 .1 .0 i } };
+      };
+      put-run = record {
+        asks-nothing = λ κs a. tt;
+        one = λ κs a y z v w p q. (p .0 ∙⁻¹ q .0, λ i. ((p .1 .0 ∙⁻¹ q .1 .0) i, ((p .1 .1 .0 ∙⁻¹ q .1 .1 .0) i, (tt, ((p .1 .1 .1 .0 ∙⁻¹ q .1 .1 .1 .0) i, tt)))));
+        does = λ κs a y v p i. (record { returned = p .0 i; slip = p .1 .0 i; file = record { state = p .1 .1 .1 .1 i; area = p .1 .1 .0 i } }, p .1 .1 .1 .0 i);
       };
       remove = record {
         asks-nothing = λ κs a. tt;

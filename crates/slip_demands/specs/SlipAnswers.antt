@@ -10,11 +10,12 @@ use Rattle.demands.specs.Answers.{Settled}
 use Rattle.reefcushion.proofs.reefcushion_format as Format
 use Rattle.reefcushion.proofs.reefcushion_find as Find
 use Rattle.reefcushion.proofs.reefcushion_put as Put
+use Rattle.reefcushion.proofs.reefcushion_put_run as PutRun
 use Rattle.reefcushion.proofs.reefcushion_remove as Remove
 use Rattle.reefcushion.proofs.reefcushion_grow as Grow
 use Rattle.reefcushion.proofs.reefcushion_check as Check
 use Rattle.reefcushion.proofs.reefcushion_due as Due
-use Rattle.reefcushion.specs.Slip.{Served, fileIn, served, servedRow, dueOn}
+use Rattle.reefcushion.specs.Slip.{Served, fileIn, served, servedRow, servedRun, servedRoom, dueOn}
 
 -- what the code of a call comes to: the file that it leaves is the one that its slip and its area
 -- are
@@ -33,6 +34,10 @@ pub record SlipAnswers : Type 0 where
   pub put : Settled Put.ended Put.Reads.Asked Put.Reads.Learnt
       (λ κs a. served (now (a .0)) (now (a .1 .0)) (put (recordWith (a .1 .1 .0) (a .1 .1 .1 .0))))
       (λ κs a y v. came y (v .0) (v .1 .0))
+  pub put-run : Settled PutRun.ended {O = Served × List ℕ} PutRun.Reads.Asked PutRun.Reads.Learnt
+      (λ κs a.
+      (servedRun (now (a .0)) (now (a .1 .0)) (now (a .1 .1 .0)) (now (a .1 .1 .1 .0)), servedRoom (now (a .0)) (now (a .1 .0)) (now (a .1 .1 .0)) (now (a .1 .1 .1 .0))))
+      (λ κs a y v. (came y (v .0) (v .1 .0), v .1 .1 .1 .0))
   pub remove : Settled Remove.ended Remove.Reads.Asked Remove.Reads.Learnt
       (λ κs a. served (now (a .0)) (now (a .1 .0)) (remove (a .1 .1 .0)))
       (λ κs a y v. came y (v .0) (v .1 .0))

@@ -2,22 +2,25 @@
 -- quoted is the demands'.
 use mathlib.Core.Path.{_≡_}
 use mathlib.Core.Option.{none, some}
-use mathlib.Core.List.{List, [], _∷_}
+use mathlib.Core.List.{List, [], _∷_, _++_}
 use Prim.Native.Nat.{ℕ}
 use lib.ListN.{length}
 use Rattle.placing.specs.Image.{All}
 use Rattle.register.specs.Files.{Call, after}
 use Rattle.demands.specs.Histories.{Fits, Kept, kept}
 use Rattle.demands.specs.Demands.{Fresh}
-use Rattle.reefcushion.specs.Slip.{fileIn, served}
+use Rattle.pay_runs.specs.PayRun.{madeBy}
+use Rattle.reefcushion.specs.Slip.{fileIn, served, servedRun}
 
 -- calls by slip, "each call given the pages and state that the last one left": from one slip and
 -- area to another. What a call leaves of them is what `slip-answers` says (due leaves both as they
--- are, and is none of these).
+-- are, and is none of these). A pay run (02, request 2) counts as the puts that it makes.
 pub data Handed : List Call → (slip area slip' area' : List ℕ) → Type 0 where
   no-call : {slip area : List ℕ} → Handed [] slip area slip area
   one-call : {c : Call} {cs : List Call} {slip area slip' area' slip'' area'' : List ℕ} → slip' ≡ served slip area c .slip → fileIn slip' area' ≡ served slip area c .file
       → Handed cs slip' area' slip'' area'' → Handed (c ∷ cs) slip area slip'' area''
+  one-run : (l room : List ℕ) {cs : List Call} {slip area slip' area' slip'' area'' : List ℕ} → slip' ≡ servedRun slip area l room .slip
+      → fileIn slip' area' ≡ servedRun slip area l room .file → Handed cs slip' area' slip'' area'' → Handed (madeBy l room ++ cs) slip area slip'' area''
 
 -- What is promised of such calls, and proved as `slip-demands` (proofs/SlipDemands.antt)
 pub record SlipDemands : Type 0 where

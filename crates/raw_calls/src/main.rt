@@ -1,13 +1,14 @@
 // Single calls on any bytes: each record brings its own state and byte strings, and the reply gives
 // them back as the call left them.
-mod records;
+mod raw_records;
 
 use homes::Params;
 use libc::STDIN_FILENO;
 use libc::STDOUT_FILENO;
 use pages::Record;
-use records::Asked;
-use state::Answer;
+use raw_records::Asked;
+use raw_records::LONGEST;
+use records::Told;
 use state::Done;
 use state::State;
 ghost use mathlib.Core.Path.{_≡_};
@@ -27,55 +28,74 @@ fn format(state: State, area: &mut [u8], a: u64) -> Done {
 
 // Whether growth is due is told with every reply: asked for alone, it is an accepted call that does
 // nothing.
-fn due(state: State) -> Done {
-    let answer = Answer::Accepted {
-        value: 0,
-        read: 0,
-        moved: 0,
-    };
-    Done { state, answer }
+fn due(state: State) -> Told {
+    Told {
+        state,
+        numbers: records::refused(0),
+    }
 }
 
-fn call(asked: Asked, area: &mut [u8], row: &mut [u32]) -> Done {
+// The call that a sound record asks for. What is no kind doesn't come here, so it may stand in a
+// neighbour's arm.
+fn call(asked: Asked, area: &mut [u8], second: &[u8], row: &mut [u32], room: &mut [u8]) -> Told {
     let state = asked.state;
     let kind = asked.kind;
     match kind {
         0..=256 => due(state),
-        257 => format(state, area, asked.a),
+        257 => records::tell(format(state, area, asked.a)),
         258 => {
             let new = Record {
                 key: asked.a,
                 value: asked.b,
             };
-            register::put(state, area, new)
+            records::tell(register::put(state, area, new))
         }
-        259 => register::find(state, &area[..], asked.a),
-        260 => register::remove(state, area, asked.a),
-        261 => register::grow(state, area, row),
-        262..=65535 => register::check(state, &area[..]),
+        259 => records::tell(register::find(state, &area[..], asked.a)),
+        260 => records::tell(register::remove(state, area, asked.a)),
+        261 => records::tell(register::grow(state, area, row)),
+        262..=263 => records::tell(register::check(state, &area[..])),
+        264..=65535 => pay_runs::put_run(state, area, second, room),
     }
 }
 
-// The call of a record, with a row as long as the record's.
-fn call_on(asked: Asked, bytes: &mut [u8], row: &mut [u32]) -> Done
+// The call of a record with its row. Parts of one buffer can't be lent side by side: only the area
+// is, and the other strings are copied.
+fn with_row(asked: Asked, bytes: &mut [u8], second: &[u8], row: &mut [u32], room: &mut [u8]) -> Told
     requires { ⌜ Lying asked × (asked .room ≡ length (now bytes)) × (asked .second + 4 + 4 * length (now row) ≤ asked .row) ⌝ }
 {
     let area = asked.area;
     let counts = asked.second + 4;
-    records::read_row(&bytes[counts..], row);
-    let done = call(asked, &mut bytes[50..area], row);
-    records::write_row(&mut bytes[counts..], row);
-    done
+    raw_records::read_row(&bytes[counts..], row);
+    let told = call(asked, &mut bytes[50..area], second, row, room);
+    raw_records::write_row(&mut bytes[counts..], row);
+    told
+}
+
+// The call of a record, with a row as long as the record's. The second string is only read; the
+// room goes back, as the row does.
+fn call_on(asked: Asked, bytes: &mut [u8], row: &mut [u32]) -> Told
+    requires { ⌜ Lying asked × (asked .room ≡ length (now bytes)) × (asked .second + 4 + 4 * length (now row) ≤ asked .row) ⌝ }
+{
+    let start = asked.area + 4;
+    let end = asked.second;
+    let lent = asked.row + 4;
+    let mut second = [0u8; LONGEST];
+    let mut room = [0u8; LONGEST];
+    let given = bytes::copy(&bytes[start..end], &mut second[..]);
+    let wide = bytes::copy(&bytes[lent..], &mut room[..]);
+    let told = with_row(asked, bytes, &second[..given], row, &mut room[..wide]);
+    bytes::copy(&room[..wide], &mut bytes[lent..]);
+    told
 }
 
 // A reply: its numbers, then area, row and room as they lie in the bytes, with their lengths.
-fn tell(asked: Asked, bytes: &[u8], done: Done) -> bool
+fn tell(asked: Asked, bytes: &[u8], told: Told) -> bool
     requires { ⌜ Lying asked × (asked .room ≡ length (now bytes)) × (length (now bytes) ≤ 65662) ⌝ }
 {
     let area = asked.area;
     let second = asked.second;
     let mut head = [0u8; 54];
-    records::reply(&mut head[..], done, 8 + area + (bytes.len() - second));
+    raw_records::reply(&mut head[..], told, 8 + area + (bytes.len() - second));
     io::write_all(STDOUT_FILENO, &head[..])
         && io::write_all(STDOUT_FILENO, &bytes[46..area])
         && io::write_all(STDOUT_FILENO, &bytes[second..])
@@ -85,13 +105,13 @@ fn tell(asked: Asked, bytes: &[u8], done: Done) -> bool
 fn answer(bytes: &mut [u8], row: &mut [u32]) -> bool
     requires { ⌜ (46 ≤ length (now bytes)) × (length (now bytes) ≤ 65662) × (length (now row) ≡ 4100) ⌝ }
 {
-    let asked = records::asked_in(&bytes[..]);
-    if !records::is_sound(asked, bytes.len()) {
+    let asked = raw_records::asked_in(&bytes[..]);
+    if !raw_records::is_sound(asked, bytes.len()) {
         return false;
     }
     let counts = (asked.row - asked.second) / 4 - 1;
-    let done = call_on(asked, bytes, &mut row[..counts]);
-    tell(asked, &bytes[..], done)
+    let told = call_on(asked, bytes, &mut row[..counts]);
+    tell(asked, &bytes[..], told)
 }
 
 // The next record answered, or no more: input that is no whole record ends the run.

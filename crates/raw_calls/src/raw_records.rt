@@ -1,6 +1,6 @@
 // The records of raw calls: 46 bytes of numbers, then four byte strings, each with its length in
 // front: area, second, row and room. A reply has 54 bytes of numbers before area, row and room.
-use state::Done;
+use records::Told;
 use state::State;
 ghost use mathlib.Core.Path.{_≡_};
 ghost use mathlib.Core.Bool.{true};
@@ -9,7 +9,7 @@ ghost use lib.ListN.{length};
 ghost use Rattle.raw_calls.specs.Records.{Lying};
 
 // The most bytes of a string.
-const LONGEST: usize = 16400;
+pub(crate) const LONGEST: usize = 16400;
 
 // An end that no record reaches.
 const PAST: usize = 65663;
@@ -71,7 +71,7 @@ pub(crate) fn is_sound(asked: Asked, end: usize) -> bool
     if asked.room != end {
         return false;
     }
-    ((asked.row - asked.second) % 4 == 0) & (256 <= kind) & (kind <= 262)
+    ((asked.row - asked.second) % 4 == 0) & (256 <= kind) & (kind <= 264) & (kind != 263)
 }
 
 pub(crate) fn read_row(bytes: &[u8], row: &mut [u32])
@@ -96,15 +96,14 @@ pub(crate) fn write_row(bytes: &mut [u8], row: &[u32])
 
 // The numbers of a reply of that length. Bytes 30 to 35 are zeros: which file, and what a
 // comparison took of the room.
-pub(crate) fn reply(head: &mut [u8], done: Done, end: usize)
+pub(crate) fn reply(head: &mut [u8], told: Told, end: usize)
     requires { ⌜ (length (now head) ≡ 54) × (end ≤ 65670) ⌝ }
 {
-    let state = done.state;
-    let answer = done.answer;
-    let told = answer.numbers();
+    let state = told.state;
+    let numbers = told.numbers;
     numbers::put_u32(head, 0, end as u32);
     numbers::put_u16(head, 4, 513);
-    slips::put_reply(head, 6, told);
+    slips::put_reply(head, 6, numbers);
     slips::put_state(head, 36, state, 1);
     numbers::put_u16(head, 52, if state.due() { 1 } else { 0 });
 }

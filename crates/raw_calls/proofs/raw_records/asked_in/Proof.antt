@@ -1,9 +1,9 @@
--- `raw_calls::records::asked_in` meets its contract: where the room ends within the record, so does
--- the row before it, and so on to the area.
+-- `raw_calls::raw_records::asked_in` meets its contract: where the room ends within the record, so
+-- does the row before it, and so on to the area.
 use native.Mathlib.Omega.{arith}
 use borrow.Author.Needs.{needs}
-use Rattle.raw_calls.proofs.records.asked_in.Statement.{statement}
-use Rattle.raw_calls.proofs.records.asked_in.Tie as tie
+use Rattle.raw_calls.proofs.raw_records.asked_in.Statement.{statement}
+use Rattle.raw_calls.proofs.raw_records.asked_in.Tie as tie
 
 end-of-requires : tie.Need-end-of-requires
 end-of-requires c κs = search needs
@@ -39,7 +39,15 @@ returns c = λ h.
     let second = e₃ .end-of3 .ensures .1 (omega arith) in
     let area = e₂ .end-of2 .ensures .1 (omega arith) in
     let first = e₁ .end-of .ensures .1 (omega arith) in
-    record { area = omega arith; second = area .0; row = second .0; counts = omega arith; room = row .0 }
+    record {
+      area = omega arith;
+      second = area .0;
+      copied = area .1;
+      row = second .0;
+      counts = omega arith;
+      room = row .0;
+      lent = row .1;
+    }
 
 pub asked-in-spec : {M : Type 1} → statement M
 asked-in-spec =

@@ -1,10 +1,10 @@
--- `raw_calls::records::is_sound` meets its contract: a record whose strings end elsewhere is not
--- sound, and in one whose strings end there they lie as they should.
+-- `raw_calls::raw_records::is_sound` meets its contract: a record whose strings end elsewhere is
+-- not sound, and in one whose strings end there they lie as they should.
 use mathlib.Core.Path.{_≡_}
 use Prim.Native.Nat.{ℕ}
 use native.Mathlib.Omega.{arith}
-use Rattle.raw_calls.proofs.records.is_sound.Statement.{statement}
-use Rattle.raw_calls.proofs.records.is_sound.Tie as tie
+use Rattle.raw_calls.proofs.raw_records.is_sound.Statement.{statement}
+use Rattle.raw_calls.proofs.raw_records.is_sound.Tie as tie
 
 returns : tie.Need-returns
 returns c = λ e. let z : _≡_ {A = ℕ} 0 1 = cc in omega arith

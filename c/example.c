@@ -1,14 +1,19 @@
-// A register from C: a file is formatted, fed, asked, grown and checked. What it prints stands in example.out.
+// A register from C: a file is formatted, fed, asked, grown and checked, and a pay run is put in one call. What it prints
+// stands in example.out.
 #include <stdio.h>
 
 #include "reefcushion.h"
 
-enum { PAGES = 2 };
+enum { PAGES = 2, PUTS = 18 };
 
 // All that a register is to its caller: a slip with the state, the pages, and for growth a row.
 static struct reefcushion_slip slip;
 static uint8_t area[PAGES * REEFCUSHION_PAGE];
 static uint32_t row[PAGES];
+
+// A pay run: its puts, and room for a reply to each.
+static struct reefcushion_put_record records[PUTS];
+static struct reefcushion_reply replies[PUTS];
 
 static const char *words(uint32_t refusal) {
     switch (refusal) {
@@ -32,8 +37,12 @@ static const char *words(uint32_t refusal) {
         return "all lent pages are grown to";
     case REEFCUSHION_NOT_IMAGE:
         return "the count or the image is wrong";
+    case REEFCUSHION_NOT_PUTS:
+        return "these aren't put records end to end";
     case REEFCUSHION_CLASH:
         return "clash";
+    case REEFCUSHION_WRONG_ROOM:
+        return "the room isn't a reply a record";
     case REEFCUSHION_NO_SLIP:
         return "the slip isn't 40 bytes";
     default:
@@ -41,15 +50,20 @@ static const char *words(uint32_t refusal) {
     }
 }
 
-// An answer in words, behind what was asked. The slip tells the rest of it, unless there was none.
-static void say(const struct reefcushion_slip *told, uint32_t refusal) {
+// A refusal in words, with the page or the commit that it tells.
+static void say_refusal(uint32_t refusal, uint32_t page, uint64_t value) {
     printf(": %s", words(refusal));
     if (refusal == REEFCUSHION_BROKEN)
-        printf(", page %u", told->page);
+        printf(", page %u", page);
     if (refusal == REEFCUSHION_HELD)
-        printf(", as commit %llu", (unsigned long long)told->value);
+        printf(", as commit %llu", (unsigned long long)value);
     if (refusal == REEFCUSHION_CLASH)
-        printf(": commit %llu is held", (unsigned long long)told->value);
+        printf(": commit %llu is held", (unsigned long long)value);
+}
+
+// An answer in words, behind what was asked. The slip tells the rest of it, unless there was none.
+static void say(const struct reefcushion_slip *told, uint32_t refusal) {
+    say_refusal(refusal, told->page, told->value);
     if (refusal != REEFCUSHION_NO_SLIP)
         printf(" (%u read, %u moved)", told->read, told->moved);
     printf("\n");
@@ -84,6 +98,42 @@ static void find(uint64_t request) {
 static void take_out(uint64_t request) {
     printf("remove %llu", (unsigned long long)request);
     say(&slip, reefcushion_remove(&slip, sizeof slip, area, sizeof area, request));
+}
+
+// The puts of a run: a repeat, a clash, and more new requests than there is room for.
+static void fill_run(void) {
+    for (uint64_t i = 0; i < PUTS; i++)
+        records[i] = (struct reefcushion_put_record){REEFCUSHION_PUT_LENGTH, REEFCUSHION_PUT_KIND, 80000 + i, 700 + i};
+    records[0].key = 1002;
+    records[0].value = 502;
+    records[1].key = 1003;
+}
+
+// An accepted run has put each record and written each reply: what a put was refused for stands there alone.
+static void say_replies(void) {
+    int stored = 0;
+    for (int i = 0; i < PUTS; i++) {
+        if (replies[i].refusal == REEFCUSHION_ACCEPTED) {
+            stored++;
+            continue;
+        }
+        printf("  put %llu", (unsigned long long)records[i].key);
+        say_refusal(replies[i].refusal, replies[i].page, replies[i].value);
+        printf("\n");
+    }
+    const struct reefcushion_reply *last = &replies[PUTS - 1];
+    printf("  %d stored: %u records on %u pages, growth %s due\n", stored, slip.records, last->pages,
+           last->due ? "is" : "isn't");
+}
+
+static void pay_run(size_t replies_bytes) {
+    printf("run of %d puts", PUTS);
+    uint32_t refusal =
+        reefcushion_put_run(&slip, sizeof slip, area, sizeof area, records, sizeof records, replies, replies_bytes);
+    say_refusal(refusal, 0, 0);
+    printf("\n");
+    if (refusal == REEFCUSHION_ACCEPTED)
+        say_replies();
 }
 
 // The area held against a state, which need not be that of today.
@@ -126,6 +176,15 @@ int main(void) {
     check(&older);
     printf("put 1002 by the older state");
     say(&older, reefcushion_put(&older, sizeof older, area, sizeof area, 1002, 999));
+
+    printf("A pay run in one call, with a repeat, a clash and more than there is room for:\n");
+    fill_run();
+    pay_run(sizeof replies - 1);
+    records[PUTS - 1].kind = 259;
+    pay_run(sizeof replies - 1);
+    records[PUTS - 1].kind = REEFCUSHION_PUT_KIND;
+    pay_run(sizeof replies);
+    check(&slip);
 
     printf("A row that isn't there, no page left to grow to, a broken page:\n");
     grow(NULL, 0);

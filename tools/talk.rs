@@ -3,7 +3,11 @@
 use std::io::{self, BufRead, IsTerminal, Read, Write};
 use std::process::{Child, ChildStdin, ChildStdout, Command, ExitCode, Stdio};
 
-const HELP: &str = "say format N0 N S CAP, put KEY VALUE, find KEY, remove KEY, grow or check";
+const HELP: &str =
+    "say format N0 N S CAP, put KEY VALUE, find KEY, remove KEY, grow, check, or run FILE for a file with a KEY VALUE a line";
+
+// So many puts of a run go out before their replies are fetched: few enough for the pipes to hold both.
+const AT_ONCE: usize = 1000;
 
 // A line that asks for something: the bytes of its record, and what it is called.
 struct Asked {
@@ -33,9 +37,16 @@ fn record(kind: u16, width: usize, numbers: &[u64]) -> Vec<u8> {
     bytes
 }
 
-// The command of a line, or what is wrong with it.
-fn parse(line: &str) -> Result<Asked, String> {
-    let words: Vec<&str> = line.split_whitespace().collect();
+// Lines that say something, with their numbers: empty ones and those that begin with # are passed over.
+fn said(text: &str) -> impl Iterator<Item = (usize, &str)> {
+    text.lines()
+        .enumerate()
+        .map(|(at, line)| (at + 1, line.trim()))
+        .filter(|(_, line)| !line.is_empty() && !line.starts_with('#'))
+}
+
+// The command of words, or what is wrong with them.
+fn parse(words: &[&str]) -> Result<Asked, String> {
     let (kind, width, count, most) = match words[0] {
         "format" => (257, 2, 4, u64::from(u16::MAX)),
         "put" => (258, 8, 2, u64::MAX),
@@ -68,7 +79,11 @@ fn number(bytes: &[u8], at: usize, width: usize) -> u64 {
 }
 
 fn counted(count: u64, name: &str) -> String {
-    format!("{count} {name}{}", if count == 1 { "" } else { "s" })
+    let many = match name {
+        "clash" => "es",
+        _ => "s",
+    };
+    format!("{count} {name}{}", if count == 1 { "" } else { many })
 }
 
 // What a refusal number means.
@@ -112,33 +127,112 @@ fn words(asked: &Asked, reply: &[u8]) -> String {
     };
     let read = counted(number(reply, 16, 4), "page");
     let moved = counted(number(reply, 20, 4), "record");
-    let due = if number(reply, 26, 2) == 1 {
+    format!(
+        "{}: {said} ({read} read, {moved} moved{})",
+        asked.name,
+        due(reply)
+    )
+}
+
+fn due(reply: &[u8]) -> &'static str {
+    if number(reply, 26, 2) == 1 {
         "; growth is due"
     } else {
         ""
+    }
+}
+
+// The log program, by its two pipes.
+struct Program {
+    to: ChildStdin,
+    from: ChildStdout,
+}
+
+impl Program {
+    // Commands end to end, and a reply for each.
+    fn ask(&mut self, asked: &[Asked]) -> io::Result<Vec<[u8; 28]>> {
+        let mut replies = vec![[0; 28]; asked.len()];
+        for (asked, replies) in asked.chunks(AT_ONCE).zip(replies.chunks_mut(AT_ONCE)) {
+            let bytes: Vec<u8> = asked.iter().flat_map(|asked| asked.bytes.clone()).collect();
+            self.to.write_all(&bytes)?;
+            self.to.flush()?;
+            for reply in replies {
+                self.from.read_exact(reply)?;
+            }
+        }
+        Ok(replies)
+    }
+}
+
+// The puts of a run's file, each named by its line, or what is wrong with a line: then none is run.
+fn puts(text: &str) -> Result<Vec<Asked>, String> {
+    said(text)
+        .map(|(at, line)| {
+            let words: Vec<&str> = ["put"].into_iter().chain(line.split_whitespace()).collect();
+            let put = parse(&words).map_err(|why| format!("line {at} of it: {why}"))?;
+            Ok(Asked {
+                name: format!("  line {at}, {}", put.name),
+                ..put
+            })
+        })
+        .collect()
+}
+
+// What became of a run: the puts that were neither stored nor repeats, and how many there were of each.
+fn summary(name: &str, puts: &[Asked], replies: &[[u8; 28]]) -> String {
+    let mut lines = String::new();
+    let [mut stored, mut repeats, mut clashes, mut refused] = [0u64; 4];
+    for (put, reply) in puts.iter().zip(replies) {
+        match number(reply, 4, 2) {
+            0 => stored += 1,
+            6 => repeats += 1,
+            refusal => {
+                *(if refusal == 13 {
+                    &mut clashes
+                } else {
+                    &mut refused
+                }) += 1;
+                lines += &format!("{}\n", words(put, reply));
+            }
+        }
+    }
+    let due = replies.last().map_or("", |reply| due(reply));
+    let [repeats, clashes] = [counted(repeats, "repeat"), counted(clashes, "clash")];
+    format!("{lines}{name}: {stored} stored, {repeats}, {clashes}, {refused} refused{due}")
+}
+
+// A line: a command, or a run of a file.
+fn answer(line: &str, program: &mut Program) -> io::Result<Result<String, String>> {
+    let split: Vec<&str> = line.split_whitespace().collect();
+    if split[0] != "run" {
+        return match parse(&split) {
+            Ok(asked) => Ok(Ok(words(
+                &asked,
+                &program.ask(std::slice::from_ref(&asked))?[0],
+            ))),
+            Err(why) => Ok(Err(why)),
+        };
+    }
+    let file = line["run".len()..].trim();
+    let puts = match std::fs::read(file) {
+        Ok(bytes) => puts(&String::from_utf8_lossy(&bytes)),
+        Err(why) => Err(format!("\"{file}\" can't be read: {why}")),
     };
-    format!("{}: {said} ({read} read, {moved} moved{due})", asked.name)
+    match puts {
+        Ok(puts) => Ok(Ok(summary(line, &puts, &program.ask(&puts)?))),
+        Err(why) => Ok(Err(format!("no put was made: {why}"))),
+    }
 }
 
-// One command to the program and its reply back.
-fn ask(asked: &Asked, to: &mut ChildStdin, from: &mut ChildStdout) -> io::Result<[u8; 28]> {
-    let mut reply = [0; 28];
-    to.write_all(&asked.bytes)?;
-    to.flush()?;
-    from.read_exact(&mut reply)?;
-    Ok(reply)
-}
-
-// All lines of the text: whether each was a command. Empty lines and those that begin with # are passed over.
-fn talk(to: &mut ChildStdin, from: &mut ChildStdout) -> io::Result<bool> {
+// All lines of the text: whether each was a command.
+fn talk(program: &mut Program) -> io::Result<bool> {
     let mut good = true;
     let prompt = if io::stdin().is_terminal() { "> " } else { "" };
     eprint!("{prompt}");
     for (at, bytes) in io::stdin().lock().split(b'\n').enumerate() {
-        let line = String::from_utf8_lossy(&bytes?).into_owned();
-        if !line.trim().is_empty() && !line.trim().starts_with('#') {
-            match parse(&line) {
-                Ok(asked) => println!("{}", words(&asked, &ask(&asked, to, from)?)),
+        for (_, line) in said(&String::from_utf8_lossy(&bytes?)) {
+            match answer(line, program)? {
+                Ok(said) => println!("{said}"),
                 Err(why) => {
                     good = false;
                     println!("line {}: {why}", at + 1);
@@ -160,12 +254,12 @@ fn start(words: &[String]) -> io::Result<Child> {
 
 fn run(words: &[String]) -> io::Result<bool> {
     let mut child = start(words)?;
-    let (to, from) = (child.stdin.take(), child.stdout.take());
-    let (Some(mut to), Some(mut from)) = (to, from) else {
+    let (Some(to), Some(from)) = (child.stdin.take(), child.stdout.take()) else {
         return Err(io::Error::other("the program has no pipes"));
     };
-    let good = talk(&mut to, &mut from)?;
-    drop(to);
+    let mut program = Program { to, from };
+    let good = talk(&mut program)?;
+    drop(program);
     Ok(child.wait()?.success() && good)
 }
 

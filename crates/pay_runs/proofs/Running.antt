@@ -11,10 +11,10 @@ use Rattle.state.specs.declared.Numbers.{Numbers}
 use Rattle.register.specs.Files.{File, fileOf, after}
 use Rattle.records.specs.declared.Told.{Told}
 use Rattle.records.specs.Records.{bytesOfAll, refusedBy}
-use Rattle.pay_runs.specs.PayRun.{items, endToEnd, putsIn, repliesTo, runRefusal, Ran, makes, refuses, ran, madeBy, toldOf}
+use Rattle.pay_runs.specs.PayRun.{items, endToEnd, putsIn, repliesTo, runRefusal, PayRun, putAll, refuses, ran, madeBy, toldOf}
 
 -- what is told of a run, and the area and the room that it leaves
-abbrev pub Came : Ran → Told → (area room : List ℕ) → Type 0
+abbrev pub Came : PayRun → Told → (area room : List ℕ) → Type 0
 Came o t area room = (t ≡ toldOf o) × ((area ≡ o .file .area) × (room ≡ o .room))
 
 abbrev telling : State → Numbers → Told
@@ -31,7 +31,7 @@ pub run-after : (f : File) (l room : List ℕ) → ran f l room .file ≡ after 
 unfolding ran after
 run-after f l room = go (eqb (runRefusal l room) 0)
   where
-    go : (u : Bool) → cond u (makes f (putsIn (items l) l)) (refuses (runRefusal l room) f room) .file ≡ after f (cond u (putsIn (items l) l) [])
+    go : (u : Bool) → cond u (putAll f (putsIn (items l) l)) (refuses (runRefusal l room) f room) .file ≡ after f (cond u (putsIn (items l) l) [])
     go true = refl
     go false = refl
 

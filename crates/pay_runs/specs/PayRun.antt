@@ -38,26 +38,26 @@ abbrev pub runRefusal : (l room : List ℕ) → ℕ
 runRefusal l room = cond (endToEnd (items l) l) (cond (eqb (length room) (28 * items l)) 0 15) 10
 
 -- what a run comes to: the numbers of its answer, the file that it leaves, and the lent room
-pub record Ran : Type 0 where
+pub record PayRun : Type 0 where
   pub numbers : Numbers
   pub file : File
   pub room : List ℕ
 
 -- "the same area, state and replies as the puts made one by one in that order"
-abbrev pub makes : File → List Call → Ran
-makes f cs = record { numbers = refusedBy 0; file = after f cs; room = bytesOfAll (repliesTo f cs) }
+abbrev pub putAll : File → List Call → PayRun
+putAll f cs = record { numbers = refusedBy 0; file = after f cs; room = bytesOfAll (repliesTo f cs) }
 
 -- a refusal is "before any item is run, with nothing changed"
-abbrev pub refuses : ℕ → File → (room : List ℕ) → Ran
+abbrev pub refuses : ℕ → File → (room : List ℕ) → PayRun
 refuses n f room = record { numbers = refusedBy n; file = f; room = room }
 
-unfoldable pub ran : File → (l room : List ℕ) → Ran
-ran f l room = cond (eqb (runRefusal l room) 0) (makes f (putsIn (items l) l)) (refuses (runRefusal l room) f room)
+unfoldable pub ran : File → (l room : List ℕ) → PayRun
+ran f l room = cond (eqb (runRefusal l room) 0) (putAll f (putsIn (items l) l)) (refuses (runRefusal l room) f room)
 
--- the calls that a run makes: none where it is refused
+-- the calls that a run putAll: none where it is refused
 abbrev pub madeBy : (l room : List ℕ) → List Call
 madeBy l room = cond (eqb (runRefusal l room) 0) (putsIn (items l) l) []
 
 -- what the code gives back of it
-abbrev pub toldOf : Ran → Told
+abbrev pub toldOf : PayRun → Told
 toldOf o = record { state = o .file .state; numbers = o .numbers }

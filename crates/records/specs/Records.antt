@@ -84,8 +84,8 @@ isPut (Asks c n) = asksPut c
 isPut Unknown = false
 isPut Cut = false
 
--- the bytes of a command's record: length and kind, "length first", then its numbers. `RecordPromises`
--- (Promises.antt) says that a command is read from these bytes and from no others.
+-- the bytes of a command's record: length and kind, "length first", then its numbers.
+-- `RecordPromises` (Promises.antt) says that a command is read from these bytes and from no others.
 abbrev pub layoutOf : Command → List Field
 layoutOf (Format q cap) = (2, 12) ∷ (2, 257) ∷ (2, q .n0) ∷ (2, q .n) ∷ (2, q .s) ∷ (2, cap) ∷ []
 layoutOf (Put x) = (2, 20) ∷ (2, 258) ∷ (8, key x) ∷ (8, value x) ∷ []

@@ -10,7 +10,7 @@ use Rattle.state.specs.declared.State.{State}
 use Rattle.state.specs.declared.Numbers.{Numbers}
 use Rattle.state.specs.State.{isDue}
 use Rattle.slips.specs.Slips.{stateAt, stateFields, answerFields}
-use Rattle.pay_runs.specs.PayRun.{Ran, ran}
+use Rattle.pay_runs.specs.PayRun.{PayRun, ran}
 use Rattle.register.specs.Files.{Call, grow, File, fileOf, Left, left, numbersOf}
 
 abbrev pub isSlip : List ℕ → Bool
@@ -42,7 +42,7 @@ servedWith n f = record { returned = n .refusal; slip = slipOf (f .state) n; fil
 abbrev pub servedBy : Left → Served
 servedBy l = servedWith (numbersOf (l .said)) (l .file)
 
-abbrev pub servedRan : Ran → Served
+abbrev pub servedRan : PayRun → Served
 servedRan o = servedWith (o .numbers) (o .file)
 
 -- a slip of another length: 100, which is no number of 01's, and nothing is done

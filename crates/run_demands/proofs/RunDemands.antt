@@ -17,7 +17,7 @@ use Rattle.demands.specs.Histories.{Fits}
 use Rattle.commands.specs.Execute.{Site}
 use Rattle.commands.specs.Log.{wholeLog}
 use Rattle.log_demands.specs.LogDemands.{fileAt}
-use Rattle.pay_runs.specs.PayRun.{items, endToEnd, putsIn, makes, runRefusal, ran, madeBy}
+use Rattle.pay_runs.specs.PayRun.{items, endToEnd, putsIn, putAll, runRefusal, ran, madeBy}
 use Rattle.pay_runs.specs.Promises.{recordsOf, putsOf, AllSized}
 use Rattle.pay_runs.proofs.Running.{run-after}
 use Rattle.pay_runs.proofs.Promises.{run-promises}
@@ -72,7 +72,7 @@ module _ (l room : List ℕ) (z : runRefusal l room ≡ 0) where
       go true v e = refl
       go false v e = absurd (omega arith)
 
-  made : (f : File) → ran f l room ≡ makes f (putsIn (items l) l)
+  made : (f : File) → ran f l room ≡ putAll f (putsIn (items l) l)
   unfolding ran
   made f = rw (eq-eqb (runRefusal l room) 0 z)
 

@@ -12,7 +12,7 @@ use Rattle.register.specs.Files.{Call, File, left, after}
 use Rattle.demands.specs.Histories.{Fits, Kept, kept}
 use Rattle.demands.specs.Demands.{Fresh}
 use Rattle.records.specs.Records.{bytesOfAll}
-use Rattle.commands.specs.Execute.{Site, site}
+use Rattle.commands.specs.Execute.{Site}
 use Rattle.commands.specs.Log.{wholeLog}
 use Rattle.log_demands.specs.LogDemands.{fileAt}
 use Rattle.pay_runs.specs.PayRun.{runRefusal, ran, madeBy}

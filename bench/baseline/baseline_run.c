@@ -14,7 +14,8 @@ static bool are_puts(const uint8_t *records, size_t bytes) {
     return !wrong && bytes == PUT_BYTES * count;
 }
 
-static void write_reply(const struct reefcushion_slip *slip, uint8_t *to) {
+// The answer in the slip as a reply.
+static void write_reply(const struct reefcushion_slip *slip, bool due, uint8_t *to) {
     const struct reefcushion_reply reply = {.length = REPLY_BYTES,
                                             .kind = REPLY_KIND,
                                             .refusal = slip->refusal,
@@ -23,12 +24,28 @@ static void write_reply(const struct reefcushion_slip *slip, uint8_t *to) {
                                             .read = slip->read,
                                             .moved = slip->moved,
                                             .pages = slip->pages,
-                                            .due = (uint16_t)baseline_due(slip)};
+                                            .due = due};
     memcpy(to, &reply, REPLY_BYTES);
 }
 
-// Records and replies may lie anywhere, so they are copied rather than pointed at. No run is so long that its replies
-// can't be counted in a size_t.
+// A put changes no number of the state but r, and that never out of range. So what the gate says and the way to homes
+// are the same for all puts, and worked out once. Records and replies may lie at any byte, so they are copied.
+static void put_each(struct reefcushion_slip *slip, uint8_t *area, size_t bytes, const uint8_t *records, size_t count,
+                     uint8_t *replies) {
+    const uint32_t gate = baseline_gate(slip, bytes);
+    const struct way way = gate ? (struct way){0} : baseline_way(slip);
+    for (size_t i = 0; i < count; i++) {
+        struct reefcushion_put_record record;
+        memcpy(&record, records + PUT_BYTES * i, PUT_BYTES);
+        if (gate)
+            baseline_answer(slip, gate, 0);
+        else
+            baseline_put_by(&way, slip, area, record.key, record.value);
+        write_reply(slip, gate != REEFCUSHION_OUT_OF_RANGE && past_load(slip), replies + REPLY_BYTES * i);
+    }
+}
+
+// No run is so long that the bytes of its replies can't be counted.
 uint32_t baseline_put_run(struct reefcushion_slip *slip, uint8_t *area, size_t bytes, const uint8_t *records,
                           size_t records_bytes, uint8_t *replies, size_t replies_bytes) {
     const size_t count = records_bytes / PUT_BYTES;
@@ -36,11 +53,6 @@ uint32_t baseline_put_run(struct reefcushion_slip *slip, uint8_t *area, size_t b
         return baseline_answer(slip, REEFCUSHION_NOT_PUTS, 0);
     if (replies_bytes != REPLY_BYTES * count)
         return baseline_answer(slip, REEFCUSHION_WRONG_ROOM, 0);
-    for (size_t i = 0; i < count; i++) {
-        struct reefcushion_put_record record;
-        memcpy(&record, records + PUT_BYTES * i, PUT_BYTES);
-        baseline_put(slip, area, bytes, record.key, record.value);
-        write_reply(slip, replies + REPLY_BYTES * i);
-    }
+    put_each(slip, area, bytes, records, count, replies);
     return baseline_answer(slip, REEFCUSHION_ACCEPTED, 0);
 }

@@ -34,7 +34,7 @@ uint32_t baseline_broken(struct reefcushion_slip *slip, uint32_t page, uint32_t 
 }
 
 uint32_t baseline_due(const struct reefcushion_slip *slip) {
-    return state_holds(slip) && 5 * slip->records > 48 * (uint32_t)slip->pages;
+    return state_holds(slip) && past_load(slip);
 }
 
 uint32_t baseline_format(struct reefcushion_slip *slip, uint8_t *area, size_t bytes, uint16_t n0, uint16_t groups,

@@ -1,5 +1,5 @@
-// The register in plain C: the seven calls of c/reefcushion.h, to measure the proved ones against. Slip, area, row and
-// refusals are the same; only a slip of another length can't be told, since its length isn't asked.
+// The register in plain C: the eight calls of c/reefcushion.h, to measure the proved ones against. Slip, area, row,
+// records, replies and refusals are the same; only a slip of another length can't be told, since that isn't asked.
 #pragma once
 #include <stdbool.h>
 #include <stddef.h>
@@ -17,6 +17,8 @@ uint32_t baseline_format(struct reefcushion_slip *slip, uint8_t *area, size_t by
                          uint16_t sweeps, uint16_t cap);
 uint32_t baseline_find(struct reefcushion_slip *slip, const uint8_t *area, size_t bytes, uint64_t key);
 uint32_t baseline_put(struct reefcushion_slip *slip, uint8_t *area, size_t bytes, uint64_t key, uint64_t value);
+uint32_t baseline_put_run(struct reefcushion_slip *slip, uint8_t *area, size_t bytes, const uint8_t *records,
+                          size_t records_bytes, uint8_t *replies, size_t replies_bytes);
 uint32_t baseline_remove(struct reefcushion_slip *slip, uint8_t *area, size_t bytes, uint64_t key);
 uint32_t baseline_grow(struct reefcushion_slip *slip, uint8_t *area, size_t bytes, uint32_t *row, size_t counts);
 uint32_t baseline_check(struct reefcushion_slip *slip, const uint8_t *area, size_t bytes);

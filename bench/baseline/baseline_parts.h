@@ -50,6 +50,15 @@ uint32_t baseline_gate(const struct reefcushion_slip *slip, size_t bytes);
 uint32_t baseline_answer(struct reefcushion_slip *slip, uint32_t refusal, uint32_t read);
 uint32_t baseline_broken(struct reefcushion_slip *slip, uint32_t page, uint32_t read);
 
+// A put behind the gate, by the way that the state has.
+uint32_t baseline_put_by(const struct way *way, struct reefcushion_slip *slip, uint8_t *area, uint64_t key,
+                         uint64_t value);
+
+// Whether growth is due in a state that is in range.
+static inline bool past_load(const struct reefcushion_slip *slip) {
+    return 5 * slip->records > 48 * (uint32_t)slip->pages;
+}
+
 // Whether one (home, key) stands before another.
 static inline bool before(uint32_t home, uint64_t key, uint32_t other_home, uint64_t other_key) {
     return (home < other_home) | ((home == other_home) & (key < other_key));

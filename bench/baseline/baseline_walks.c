@@ -24,10 +24,9 @@ static uint32_t place_in(const struct sight *sight, uint32_t home, uint64_t key)
     return place;
 }
 
-// Gives 0 where the walk ended at a slot with the key.
+// Gives 0 where the walk, which has its way already, ended at a slot with the key.
 static uint32_t walk_to(struct walk *walk, const struct reefcushion_slip *slip, const uint8_t *area, uint64_t key) {
     const struct sight *sight = &walk->sight;
-    walk->way = baseline_way(slip);
     walk->home = baseline_home(&walk->way, key);
     for (walk->page = walk->home; walk->page < slip->cap; walk->page++) {
         if (!baseline_judge(&walk->way, area, walk->page, &walk->sight))
@@ -53,12 +52,13 @@ static uint32_t answer(struct reefcushion_slip *slip, const struct walk *walk, u
     return baseline_answer(slip, refusal, read);
 }
 
-// What find, put and remove begin with: the gate, and the walk behind it, answered.
+// What find and remove begin with: the gate, and the walk behind it, answered.
 static uint32_t arrive(struct walk *walk, struct reefcushion_slip *slip, const uint8_t *area, size_t bytes,
                        uint64_t key) {
     uint32_t refusal = baseline_gate(slip, bytes);
     if (refusal)
         return baseline_answer(slip, refusal, 0);
+    walk->way = baseline_way(slip);
     return answer(slip, walk, walk_to(walk, slip, area, key));
 }
 
@@ -120,10 +120,12 @@ static void push(const struct chain *chain, uint8_t *area, uint64_t key, uint64_
     }
 }
 
-uint32_t baseline_put(struct reefcushion_slip *slip, uint8_t *area, size_t bytes, uint64_t key, uint64_t value) {
+uint32_t baseline_put_by(const struct way *way, struct reefcushion_slip *slip, uint8_t *area, uint64_t key,
+                         uint64_t value) {
     struct walk walk;
     struct chain chain;
-    uint32_t refusal = arrive(&walk, slip, area, bytes, key);
+    walk.way = *way;
+    uint32_t refusal = answer(slip, &walk, walk_to(&walk, slip, area, key));
     if (refusal == REEFCUSHION_ACCEPTED) {
         uint64_t held = value_at(&walk, area);
         refusal = answer(slip, &walk, held == value ? REEFCUSHION_HELD : REEFCUSHION_CLASH);
@@ -141,6 +143,14 @@ uint32_t baseline_put(struct reefcushion_slip *slip, uint8_t *area, size_t bytes
     slip->moved = chain.last - chain.first;
     slip->records++;
     return REEFCUSHION_ACCEPTED;
+}
+
+uint32_t baseline_put(struct reefcushion_slip *slip, uint8_t *area, size_t bytes, uint64_t key, uint64_t value) {
+    uint32_t refusal = baseline_gate(slip, bytes);
+    if (refusal)
+        return baseline_answer(slip, refusal, 0);
+    struct way way = baseline_way(slip);
+    return baseline_put_by(&way, slip, area, key, value);
 }
 
 // Judges the pages that records come back from after a removal, and leaves the walk at the last page looked at.

@@ -1,5 +1,5 @@
-// Drives the proved calls and the plain ones with the same random calls and requires the same results, slips, areas and
-// rows after each: agree [ROUNDS [SEED]].
+// Drives the proved calls and the plain ones with the same random calls and requires the same results, slips, areas,
+// rows and replies after each: agree [ROUNDS [SEED]].
 #include <stdio.h>
 #include <stdlib.h>
 #include <string.h>
@@ -49,19 +49,28 @@ static uint64_t key_in_style(uint32_t style, uint32_t i, uint32_t start) {
     }
 }
 
-// Most keys are put with a value of their own, so that a held key is offered its value again, or another, about as often.
-static struct asked right_for_the_file(void) {
-    const struct reefcushion_slip *slip = &plain.slip;
+// Most keys are put with a value of their own, so that a held key is offered its value again, or another, about as
+// often.
+struct reefcushion_put_record any_put(void) {
     const uint64_t key = pool[below(pool_size)];
-    return (struct asked){.bytes = page_start(slip->cap),
+    return put_record(key, one_in(4) ? any() : ~key);
+}
+
+static struct asked right_for_the_file(enum call call) {
+    const struct reefcushion_slip *slip = &plain.slip;
+    const struct reefcushion_put_record put = any_put();
+    struct asked asked = {.bytes = page_start(slip->cap),
                           .counts = slip->cap,
-                          .key = key,
-                          .value = one_in(4) ? any() : ~key,
+                          .key = put.key,
+                          .value = put.value,
                           .n0 = slip->n0,
                           .groups = slip->groups,
                           .sweeps = slip->sweeps,
                           .cap = slip->cap,
                           .in_step = one_in(2)};
+    if (call == PUT_RUN)
+        add_run(&asked);
+    return asked;
 }
 
 static void begin_file(uint32_t most) {
@@ -117,11 +126,12 @@ static void make_page(uint32_t address) {
 }
 
 static enum call any_call(void) {
-    uint32_t n = below(40);
-    return n < 18 ? PUT : n < 25 ? FIND : n < 32 ? REMOVE : n < 35 ? GROW : n < 38 ? CHECK : DUE;
+    uint32_t n = below(41);
+    return n < 18 ? PUT : n < 25 ? FIND : n < 32 ? REMOVE : n < 35 ? GROW : n < 38 ? CHECK : n < 40 ? DUE : PUT_RUN;
 }
 
-// Some calls on a file that is damaged in one way or several, then the file as it was.
+// Some calls on a file that is damaged in one way or several, then the file as it was. Runs are asked for more often
+// than elsewhere, so that their puts meet every refusal.
 static void ask_damaged(void) {
     const uint32_t cap = plain.slip.cap;
     saved = plain;
@@ -134,16 +144,17 @@ static void ask_damaged(void) {
             make_page(page);
     ours = plain;
     for (uint32_t left = 1 + below(12); left; left--) {
-        struct asked asked = right_for_the_file();
+        enum call call = one_in(16) ? PUT_RUN : any_call();
+        struct asked asked = right_for_the_file(call);
         if (plain.slip.cap > MOST)
             asked.bytes = page_start(cap);
-        ask(any_call(), &asked);
+        ask(call, &asked);
     }
     ours = plain = saved;
 }
 
 static void ask_with_wrong_numbers(void) {
-    struct asked asked = right_for_the_file();
+    struct asked asked = right_for_the_file(PUT_RUN);
     struct reefcushion_slip numbers = plain.slip;
     if (one_in(2))
         asked.bytes = one_in(2) ? asked.bytes - 1 - below(256) : asked.bytes + 1;
@@ -174,10 +185,10 @@ static bool time_to_grow(enum pace pace) {
 // One file from its format on.
 static void use_file(uint32_t calls, enum pace pace) {
     for (; calls; calls--) {
-        struct asked asked = right_for_the_file();
         enum call call = any_call();
         if (call == GROW && !time_to_grow(pace) && !one_in(30))
             call = PUT;
+        struct asked asked = right_for_the_file(call);
         ask(call, &asked);
         if (pace == EAGER && ask(DUE, &asked))
             ask(GROW, &asked);
@@ -186,7 +197,7 @@ static void use_file(uint32_t calls, enum pace pace) {
         if (one_in(40))
             ask_with_wrong_numbers();
     }
-    struct asked asked = right_for_the_file();
+    struct asked asked = right_for_the_file(CHECK);
     ask(CHECK, &asked);
 }
 
@@ -204,14 +215,15 @@ int main(int words, char **word) {
     puts("## Whether ours and C do the same\n");
     puts("The proved calls and the register in C that they are measured against get the same random calls: on files as "
          "calls leave them and on damaged ones, with right numbers and with wrong ones. After each call the answers, "
-         "the areas and the rows have to be the same, byte for byte. Before each call it is drawn in which of its two "
-         "ways C works homes out (key by key or in step, see below).\n");
+         "the areas, the rows and the rooms for replies have to be the same, byte for byte. Before each call it is "
+         "drawn in which of its two ways C works homes out (key by key or in step, see below).\n");
     printf("Files of up to %u, %u and %u pages: %lu, %lu and %lu. How often each call gave each answer (0 is accepted, "
            "the others are the refusals; for due 1 is yes):\n\n",
            most[0], most[1], most[2], files[0], files[1], files[2]);
     if (!tell_what_was_seen())
         return 1;
-    printf("\nIn short: the proved calls and the register in C did the same, to the byte, in %s random calls.\n",
-           grouped((double)calls_made));
+    printf("\nIn short: the proved calls and the register in C did the same, to the byte, in %s random calls, among "
+           "them %s pay runs with %s puts.\n",
+           grouped((double)calls_made), grouped((double)runs_made), grouped((double)puts_in_runs));
     return 0;
 }

@@ -4,18 +4,21 @@
 
 #include "../baseline/baseline.h"
 #include "../common/page.h"
+#include "../common/run.h"
 
-enum { MOST = 512 }; // pages of the largest file here
-enum call { FORMAT, FIND, PUT, REMOVE, GROW, CHECK, DUE, CALLS };
+enum { MOST = 512, MOST_ITEMS = 400 }; // pages of the largest file here, puts of the longest run
+enum call { FORMAT, FIND, PUT, REMOVE, GROW, CHECK, DUE, PUT_RUN, CALLS };
 
-// One side's file, with a page and a count more than the largest, so that writing past the end is seen.
+// One side's file and its room for replies, with a page, a count and some replies more than the largest, so that
+// writing past the end is seen.
 struct side {
     struct reefcushion_slip slip;
     uint8_t area[PAGE_BYTES * (MOST + 1)];
     uint32_t row[MOST + 1];
+    uint8_t room[REPLY_BYTES * (MOST_ITEMS + 4)];
 };
 extern struct side ours, plain;
-extern unsigned long calls_made;
+extern unsigned long calls_made, runs_made, puts_in_runs;
 
 // What a call is asked beside the file itself, and in which of its two ways the plain side works.
 struct asked {
@@ -23,6 +26,9 @@ struct asked {
     uint64_t key, value;
     uint16_t n0, groups, sweeps, cap;
     bool in_step;
+    // of a run: its bytes, and which part of the room is lent
+    const uint8_t *records;
+    size_t records_bytes, room_at, room_bytes;
 };
 
 // Makes the call to both sides and ends the program where they differ; gives the refusal.
@@ -33,6 +39,12 @@ void ask_with_wrong_slip(const struct asked *asked);
 
 // Prints how often each call gave each refusal; whether all that the calls give were seen, in either way.
 bool tell_what_was_seen(void);
+
+// A put of a key of the file's pool.
+struct reefcushion_put_record any_put(void);
+
+// Gives what is asked a run of such puts, of hundreds or some or one or none; and now and then what isn't one.
+void add_run(struct asked *asked);
 
 // A file's pages and numbers as no call leaves them.
 void damage_page(uint8_t *page);

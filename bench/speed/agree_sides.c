@@ -6,33 +6,40 @@
 #include "../common/grouped.h"
 #include "agree.h"
 
-// The answers that calls give, by number; 10 to 12 are the log's own.
-enum { ANSWERS = 11, LARGEST = 13 };
-static const uint32_t answers[ANSWERS] = {0, 1, 2, 3, 4, 5, 6, 7, 8, 9, LARGEST};
+// The answers that calls give, by number; 11 and 12 are the log's own.
+enum { ANSWERS = 13, LARGEST = 15 };
+static const uint32_t answers[ANSWERS] = {0, 1, 2, 3, 4, 5, 6, 7, 8, 9, 10, 13, LARGEST};
 struct side ours, plain;
-unsigned long calls_made;
-static const char *const names[CALLS] = {"format", "find", "put", "remove", "grow", "check", "due"};
-static unsigned long seen[2][CALLS][LARGEST + 1]; // by the way that the plain side worked
+unsigned long calls_made, runs_made, puts_in_runs;
+
+// The rows of the table: the calls, and the puts that stand in runs.
+enum { PUT_IN_RUN = CALLS, ROWS };
+static const char *const names[ROWS] = {"format", "find", "put",     "remove",      "grow",
+                                        "check",  "due",  "pay run", "put in a run"};
+static unsigned long seen[2][ROWS][LARGEST + 1]; // by the way that the plain side worked
 
 // The refusals that each call gives by the documents, as bits; for due its two answers.
-static const unsigned expected[CALLS] = {
+enum { OF_PUT = 1 << 0 | 1 << 1 | 1 << 2 | 1 << 4 | 1 << 6 | 1 << 7 | 1 << 9 | 1 << 13 };
+static const unsigned expected[ROWS] = {
     1 << 0 | 1 << 1 | 1 << 2,
     1 << 0 | 1 << 1 | 1 << 2 | 1 << 4 | 1 << 5,
-    1 << 0 | 1 << 1 | 1 << 2 | 1 << 4 | 1 << 6 | 1 << 7 | 1 << 9 | 1 << 13,
+    OF_PUT,
     1 << 0 | 1 << 1 | 1 << 2 | 1 << 4 | 1 << 5 | 1 << 9,
     1 << 0 | 1 << 1 | 1 << 2 | 1 << 3 | 1 << 4 | 1 << 7 | 1 << 8 | 1 << 9,
     1 << 0 | 1 << 1 | 1 << 2 | 1 << 4 | 1 << 9,
     1 << 0 | 1 << 1,
+    1 << 0 | 1 << 10 | 1 << 15,
+    OF_PUT,
 };
 
-static void differ(enum call call, const char *what, unsigned long left, unsigned long right) {
+static void differ(int call, const char *what, unsigned long left, unsigned long right) {
     const struct reefcushion_slip *at = &plain.slip;
     fprintf(stderr, "%s: %s: ours %lu, plain %lu; the plain slip says n0 %u N %u s %u P %u cap %u r %u\n", names[call],
             what, left, right, at->n0, at->groups, at->sweeps, at->pages, at->cap, at->records);
     exit(1);
 }
 
-static void compare_bytes(enum call call, const char *what, const void *left, const void *right, size_t bytes) {
+static void compare_bytes(int call, const char *what, const void *left, const void *right, size_t bytes) {
     const uint8_t *l = left, *r = right;
     size_t at = 0;
     if (!memcmp(left, right, bytes))
@@ -41,6 +48,11 @@ static void compare_bytes(enum call call, const char *what, const void *left, co
         at++;
     fprintf(stderr, "byte %lu of ", (unsigned long)at);
     differ(call, what, l[at], r[at]);
+}
+
+// The part of the room that is lent, which may be nowhere where nothing is lent.
+static uint8_t *lent_room(struct side *side, const struct asked *ask) {
+    return ask->room_bytes || ask->room_at ? side->room + ask->room_at : NULL;
 }
 
 static uint32_t ask_ours(enum call call, const struct asked *ask, struct reefcushion_slip *slip, size_t length) {
@@ -52,6 +64,9 @@ static uint32_t ask_ours(enum call call, const struct asked *ask, struct reefcus
     case REMOVE: return reefcushion_remove(slip, length, ours.area, ask->bytes, ask->key);
     case GROW: return reefcushion_grow(slip, length, ours.area, ask->bytes, ours.row, ask->counts);
     case CHECK: return reefcushion_check(slip, length, ours.area, ask->bytes);
+    case PUT_RUN:
+        return reefcushion_put_run(slip, length, ours.area, ask->bytes, ask->records, ask->records_bytes,
+                                   lent_room(&ours, ask), ask->room_bytes);
     default: return reefcushion_due(slip, length);
     }
 }
@@ -66,11 +81,14 @@ static uint32_t ask_plain(enum call call, const struct asked *ask) {
     case REMOVE: return baseline_remove(slip, plain.area, ask->bytes, ask->key);
     case GROW: return baseline_grow(slip, plain.area, ask->bytes, plain.row, ask->counts);
     case CHECK: return baseline_check(slip, plain.area, ask->bytes);
+    case PUT_RUN:
+        return baseline_put_run(slip, plain.area, ask->bytes, ask->records, ask->records_bytes, lent_room(&plain, ask),
+                                ask->room_bytes);
     default: return baseline_due(slip);
     }
 }
 
-// A page beyond the file is compared too, since nothing may be written there.
+// A page beyond the file is compared too, since nothing may be written there. Only a run is lent the room.
 static void compare_sides(enum call call, uint32_t left, uint32_t right, size_t bytes) {
     size_t pages = bytes / PAGE_BYTES < MOST ? bytes / PAGE_BYTES + 1 : MOST + 1;
     if (left != right)
@@ -78,15 +96,34 @@ static void compare_sides(enum call call, uint32_t left, uint32_t right, size_t 
     compare_bytes(call, "the slip", &ours.slip, &plain.slip, sizeof plain.slip);
     compare_bytes(call, "the area", ours.area, plain.area, page_start((uint32_t)pages));
     compare_bytes(call, "the row", ours.row, plain.row, sizeof plain.row);
+    if (call == PUT_RUN)
+        compare_bytes(call, "the room for replies", ours.room, plain.room, sizeof plain.room);
+}
+
+// Notes an answer that both sides gave, which has to be one that the documents have.
+static void see(int row, uint32_t refusal, bool in_step) {
+    if (refusal > LARGEST || !(expected[row] >> refusal & 1))
+        differ(row, "a refusal that isn't given here", refusal, refusal);
+    seen[in_step][row][refusal]++;
+}
+
+static void see_replies(const struct asked *asked) {
+    for (size_t at = 0; at < asked->room_bytes; at += REPLY_BYTES) {
+        struct reefcushion_reply reply;
+        memcpy(&reply, plain.room + asked->room_at + at, REPLY_BYTES);
+        see(PUT_IN_RUN, reply.refusal, asked->in_step);
+        puts_in_runs++;
+    }
 }
 
 uint32_t ask(enum call call, const struct asked *asked) {
     uint32_t left = ask_ours(call, asked, &ours.slip, sizeof ours.slip), right = ask_plain(call, asked);
     compare_sides(call, left, right, asked->bytes);
-    if (right > LARGEST || !(expected[call] >> right & 1))
-        differ(call, "a refusal that the call doesn't give", left, right);
-    seen[asked->in_step][call][right]++;
+    see(call, right, asked->in_step);
+    if (call == PUT_RUN && right == REEFCUSHION_ACCEPTED)
+        see_replies(asked);
     calls_made++;
+    runs_made += call == PUT_RUN;
     return right;
 }
 
@@ -106,9 +143,9 @@ void ask_with_wrong_slip(const struct asked *asked) {
 }
 
 // A cell of the table; whether it was reached in both ways if the call gives that answer.
-static bool tell_cell(enum call call, uint32_t refusal) {
-    unsigned long key_by_key = seen[false][call][refusal], in_step = seen[true][call][refusal];
-    bool given = expected[call] >> refusal & 1;
+static bool tell_cell(int row, uint32_t refusal) {
+    unsigned long key_by_key = seen[false][row][refusal], in_step = seen[true][row][refusal];
+    bool given = expected[row] >> refusal & 1;
     if (given)
         printf(" %s |", grouped((double)(key_by_key + in_step)));
     else
@@ -118,12 +155,12 @@ static bool tell_cell(enum call call, uint32_t refusal) {
 
 bool tell_what_was_seen(void) {
     bool all = true;
-    puts("| call | 0 | 1 | 2 | 3 | 4 | 5 | 6 | 7 | 8 | 9 | 13 |");
-    puts("|---|--:|--:|--:|--:|--:|--:|--:|--:|--:|--:|--:|");
-    for (int call = 0; call < CALLS; call++) {
-        printf("| %s |", names[call]);
+    puts("| call | 0 | 1 | 2 | 3 | 4 | 5 | 6 | 7 | 8 | 9 | 10 | 13 | 15 |");
+    puts("|---|--:|--:|--:|--:|--:|--:|--:|--:|--:|--:|--:|--:|--:|");
+    for (int row = 0; row < ROWS; row++) {
+        printf("| %s |", names[row]);
         for (uint32_t i = 0; i < ANSWERS; i++)
-            all &= tell_cell(call, answers[i]);
+            all &= tell_cell(row, answers[i]);
         puts("");
     }
     if (all)

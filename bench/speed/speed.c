@@ -4,32 +4,14 @@
 #include <stdlib.h>
 
 #include "../common/grouped.h"
-#include "speed.h"
+#include "speed_figures.h"
 
 enum { ROUNDS = 60, FEWEST_ROUNDS = 12, LENT = 4096 };
-static const char *const style_names[STYLES] = {"random", "consecutive"};
-
-enum { FIND_HELD, FIND_ABSENT, PUT, REMOVE, GROW, CHECK, CALLS };
-static const char *const call_names[CALLS] = {"find (held)", "find (absent)", "put", "remove", "grow", "check"};
-
-// Some sizes are in the tables beside C, some where sizes are followed.
-struct size {
-    uint32_t pages;
-    bool compared, followed;
-};
-enum { SIZES = 6, LARGEST = SIZES - 1, FILES = STYLES * SIZES };
+const char *const style_names[STYLES] = {"random", "consecutive"};
+const char *const call_names[CALLS] = {"find (held)", "find (absent)", "put", "remove", "grow", "check"};
 static const struct size sizes[SIZES] = {{16, false, true},  {64, true, true},    {256, false, true},
                                          {512, true, false}, {1024, false, true}, {4096, true, true}};
-
-// What is measured of a file. Those with random keys come first.
-struct figures {
-    struct size size;
-    enum style style;
-    uint32_t cap, records, longest_run;
-    struct cost cost[CALLS], grow_to_check;
-    double read_by_find, read_by_put;
-};
-static struct figures figures[FILES];
+struct figures figures[FILES];
 
 // Calls that look a whole file over get fewer rounds where it is large.
 static unsigned whole_rounds(uint32_t pages, unsigned scale) {
@@ -44,6 +26,8 @@ static void measure(struct figures *at, unsigned scale) {
     at->cost[FIND_ABSENT] = time_find(&files, false, ROUNDS * scale);
     time_put_and_remove(&files, ROUNDS * scale, &at->cost[PUT], &at->cost[REMOVE]);
     at->cost[CHECK] = time_check(&files, whole_rounds(pages, scale));
+    if (at->size.compared)
+        at->run = time_run(&files, FEWEST_ROUNDS * scale);
     at->read_by_find = pages_read(&files, false);
     at->read_by_put = pages_read(&files, true);
     at->cap = cap;
@@ -67,8 +51,8 @@ static void print_head(unsigned scale) {
          "any numbers of 64 bits. Consecutive keys run upward from 0: numbers up to 42,590 all move to new pages at "
          "the first step of growth, so pages fill unevenly and walks are longer.\n");
     printf("A round times one batch of calls by each of the three, on equal files, with the same keys and in changing "
-           "order, and they have to do the same. A figure is the median of the rounds (%s, for check and grow of large "
-           "files %s), and a ratio is the median of the rounds' ratios.\n\n",
+           "order, and they have to do the same. A figure is the median of the rounds (%s, for pay runs and for check "
+           "and grow of large files %s), and a ratio is the median of the rounds' ratios.\n\n",
            grouped(ROUNDS * scale), grouped(FEWEST_ROUNDS * scale));
 }
 
@@ -97,72 +81,26 @@ static void print_growth(void) {
                    at->grow_to_check.of[OURS], at->grow_to_check.of[C], at->grow_to_check.of[IN_STEP]);
 }
 
-// What ours should come to at most: figures of each compared file, by name.
-struct target {
-    double most;
-    const char *beside;
-    double (*figure)(const struct figures *at, int i);
-    const char *const *names;
-    int count;
-};
-
-static double to_c(const struct figures *at, int call) {
-    return at->cost[call].ratio[C];
-}
-
-static double to_c_in_step(const struct figures *at, int call) {
-    return at->cost[call].ratio[IN_STEP];
-}
-
-static double to_check(const struct figures *at, int i) {
-    (void)i;
-    return at->grow_to_check.of[OURS];
-}
-
-static const struct target calls_to_c = {1.1, "C", to_c, call_names, CALLS};
-static const struct target calls_to_c_in_step = {1.1, "C in step", to_c_in_step, call_names, CALLS};
-static const struct target growth_to_check = {1.5, "check", to_check, &call_names[GROW], 1};
-
-static int met_by(const struct target *target, const struct figures *at) {
-    int met = 0;
-    for (int i = 0; i < target->count; i++)
-        met += target->figure(at, i) <= target->most;
-    return met;
-}
-
-static void print_missed(const struct target *target, const struct figures *at) {
-    const char *between = " ";
-    printf("- %s keys, P %s:", style_names[at->style], grouped(at->size.pages));
-    for (int i = 0; i < target->count; i++) {
-        if (target->figure(at, i) <= target->most)
+static void print_runs(void) {
+    printf("\n### A pay run of %d puts, in nanoseconds a put\n\n", RUN_PUTS);
+    printf("Any %d records of a file are taken out of it, and put again: by one call for all, and by a call for each, "
+           "from the same bytes on. Rounds that begin with the one and with the other are taken in pairs. Behind the "
+           "times of both ways stands their ratio: below 1 the one call is the quicker, though it writes replies as "
+           "well.\n\n",
+           RUN_PUTS);
+    puts("| keys | P | ours: one call | single calls | ratio | C: one call | single calls | ratio | "
+         "C in step: one call | single calls | ratio | one call: ours / C | ours / C in step |");
+    puts("|---|--:|--:|--:|--:|--:|--:|--:|--:|--:|--:|--:|--:|");
+    for (const struct figures *at = figures; at < figures + FILES; at++) {
+        const struct run_cost *run = &at->run;
+        if (!at->size.compared)
             continue;
-        printf("%s%s %.2f", between, target->names[i], target->figure(at, i));
-        between = ", ";
+        printf("| %s | %s |", style_names[at->style], grouped(at->size.pages));
+        for (int side = 0; side < SIDES; side++)
+            printf(" %s | %s | %.3f |", grouped(run->one_call.of[side]), grouped(run->single_calls.of[side]),
+                   run->ratio[side]);
+        printf(" %.2f | %.2f |\n", run->one_call.ratio[C], run->one_call.ratio[IN_STEP]);
     }
-    puts("");
-}
-
-struct verdict {
-    int met, all;
-};
-
-static struct verdict verdict_on(const struct target *target) {
-    struct verdict verdict = {0, 0};
-    for (const struct figures *at = figures; at < figures + FILES; at++)
-        if (at->size.compared) {
-            verdict.met += met_by(target, at);
-            verdict.all += target->count;
-        }
-    return verdict;
-}
-
-static void print_verdict(const struct target *target) {
-    struct verdict verdict = verdict_on(target);
-    printf("\nTarget: at most %.1f times %s. Met by %d of %d.", target->most, target->beside, verdict.met, verdict.all);
-    puts(verdict.met < verdict.all ? " Not met:\n" : "");
-    for (const struct figures *at = figures; at < figures + FILES; at++)
-        if (at->size.compared && met_by(target, at) < target->count)
-            print_missed(target, at);
 }
 
 static void print_reasons(void) {
@@ -171,7 +109,8 @@ static void print_reasons(void) {
          "and the page itself, which is read into memory as one value. Put and remove judge first and write then, and "
          "read again what they write. C moves only the records that a growth displaces; ours lays all of them anew, "
          "and works out again the homes of those that lie off their page. C in step keeps a draw unreduced from step "
-         "to step and holds a page in place, in loops made for the processor's registers.");
+         "to step and holds a page in place, in loops made for the processor's registers. A run of ours does for each "
+         "put what a call does, and writes a reply where a call writes the slip; C looks at the state once a run.");
 }
 
 // Grow and check look at all pages lent, so theirs is the cost of a lent page.
@@ -192,6 +131,14 @@ static void print_sizes(void) {
         printf(" %s | %s |", grouped(check[OURS] / at->cap), grouped(check[C] / at->cap));
         printf(" %s | %s |\n", grouped(grow[OURS] / at->cap), grouped(grow[C] / at->cap));
     }
+}
+
+static void print_run_in_short(void) {
+    struct range singles = range_of(run_to_single_calls, OURS), c = range_of(run_to_run, C),
+                 in_step = range_of(run_to_run, IN_STEP);
+    printf("\nIn short: a pay run of %d puts in one call takes %.3f to %.3f of the time of as many single calls, and "
+           "%.2f to %.2f of the time of the same run in C (%.2f to %.2f in C in step).\n",
+           RUN_PUTS, singles.least, singles.most, c.least, c.most, in_step.least, in_step.most);
 }
 
 static void print_in_short(void) {
@@ -227,8 +174,11 @@ int main(int words, char **word) {
     print_verdict(&calls_to_c_in_step);
     print_growth();
     print_verdict(&growth_to_check);
+    print_runs();
+    print_verdict(&runs_to_single_calls);
     print_reasons();
     print_sizes();
     print_in_short();
+    print_run_in_short();
     return 0;
 }

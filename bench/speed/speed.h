@@ -29,6 +29,14 @@ struct cost {
     double of[SIDES], ratio[SIDES];
 };
 
+// A pay run in one call, and as single calls: nanoseconds a put, and for each side the ratio of the one call to the
+// single ones.
+enum { RUN_PUTS = 500 };
+struct run_cost {
+    struct cost one_call, single_calls;
+    double ratio[SIDES];
+};
+
 // A file of so many pages at load 4/5, and one of the same records that lacks the last page.
 struct files make_files(enum style style, uint32_t pages, uint32_t cap);
 struct files one_page_before(const struct files *files);
@@ -47,11 +55,17 @@ void any_held(struct files *files, uint64_t *key, uint32_t count);
 void next_fresh(struct files *files, uint64_t *key, uint32_t count);
 void next_with_room(struct files *files, uint64_t *key, uint32_t count);
 
+// Takes any records out of the copy that isn't measured, and tells their keys. Puts them back, after which that copy
+// has to be what the sides have.
+void take_out(struct files *files, uint64_t *key, uint32_t count);
+void put_back(struct files *files, const uint64_t *key, uint32_t count);
+
 // Nanoseconds a call; for a growth also how many checks it is worth.
 struct cost time_find(struct files *files, bool hit, unsigned rounds);
 void time_put_and_remove(struct files *files, unsigned rounds, struct cost *put, struct cost *remove);
 struct cost time_check(struct files *files, unsigned rounds);
 struct cost time_grow(struct files *files, unsigned rounds, struct cost *to_check);
+struct run_cost time_run(struct files *files, unsigned rounds);
 
 // Pages read on average: by a find of a held key, or by a put of one that isn't held.
 double pages_read(struct files *files, bool by_put);

@@ -60,6 +60,12 @@ void next_fresh(struct files *files, uint64_t *key, uint32_t count) {
         key[i] = files->style == RANDOM ? random_at(0, files->fresh) : files->fresh;
 }
 
+static void remove_each(struct file *file, const uint64_t *key, uint32_t count) {
+    for (uint32_t i = 0; i < count; i++)
+        if (baseline_remove(&file->slip, file->area, file->bytes, key[i]))
+            stop("a key that was put isn't there");
+}
+
 // They are tried out and taken back on the copy that isn't measured.
 void next_with_room(struct files *files, uint64_t *key, uint32_t count) {
     struct file *file = &files->first;
@@ -67,9 +73,27 @@ void next_with_room(struct files *files, uint64_t *key, uint32_t count) {
         next_fresh(files, &key[i], 1);
         i += put(file, key[i]) == 0;
     }
+    remove_each(file, key, count);
+}
+
+// Those that are chosen go to the front of the keys held, so that none is chosen twice.
+void take_out(struct files *files, uint64_t *key, uint32_t count) {
+    uint64_t *held = files->held;
+    for (uint32_t i = 0; i < count; i++) {
+        uint32_t from = i + (uint32_t)(random_at(1, files->choice++) % (files->held_count - i));
+        key[i] = held[from];
+        held[from] = held[i];
+        held[i] = key[i];
+    }
+    remove_each(&files->first, key, count);
+}
+
+void put_back(struct files *files, const uint64_t *key, uint32_t count) {
     for (uint32_t i = 0; i < count; i++)
-        if (baseline_remove(&file->slip, file->area, file->bytes, key[i]))
-            stop("a key that was put isn't there");
+        if (put(&files->first, key[i]))
+            stop("a record that was taken out has no room");
+    if (!same_file(&files->first, &files->of[OURS]))
+        stop("records that were put again left another file");
 }
 
 // Puts keys until the file holds so many; a key without room is left out.

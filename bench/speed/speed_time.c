@@ -1,32 +1,9 @@
-// The measuring. Batches of all sides alternate on equal copies of a file. After each round the answers have to be the
-// same; the copies are compared after the last one, so that looking at them doesn't warm one side's cache.
-//
-// A round is one batch of each side on the same keys, which no other round uses, so that no branch is learnt by heart.
-// The figures are medians over the rounds, and a ratio is the median of the rounds' ratios: what disturbs a machine
-// lasts longer than a round, so it strikes all batches alike, and a minimum would pick the rounds with the easiest
-// keys.
-#include <stdlib.h>
-#include <time.h>
+// The calls that are timed one by one: find, put and remove, check and grow.
+#include "speed_rounds.h"
 
-#include "speed.h"
-
-enum { MOST_ROUNDS = 2048, MOST_BATCH = 64 };
+enum { MOST_BATCH = 64 };
 static uint32_t row[SIDES][MOST_PAGES];
 
-// A batch of calls by one side; gives the sum of the refusals. Check and grow leave the keys alone.
-typedef uint32_t batch(struct file *file, const uint64_t *key, uint32_t count);
-
-// The loop stands in each batch, so that no side pays for a call through a pointer.
-#define BATCH(name, call)                                                          \
-    static uint32_t name(struct file *file, const uint64_t *key, uint32_t count) { \
-        uint32_t sum = 0;                                                          \
-        (void)key;                                                                 \
-        for (uint32_t i = 0; i < count; i++)                                       \
-            sum += call;                                                           \
-        return sum;                                                                \
-    }
-#define SLIP &file->slip, sizeof file->slip
-#define AREA file->area, file->bytes
 BATCH(ours_find, reefcushion_find(SLIP, AREA, key[i]))
 BATCH(ours_put, reefcushion_put(SLIP, AREA, key[i], ~key[i]))
 BATCH(ours_remove, reefcushion_remove(SLIP, AREA, key[i]))
@@ -38,76 +15,10 @@ BATCH(plain_remove, baseline_remove(&file->slip, AREA, key[i]))
 BATCH(plain_check, baseline_check(&file->slip, AREA))
 BATCH(plain_grow, baseline_grow(&file->slip, AREA, row[baseline_in_step ? IN_STEP : C], file->slip.cap))
 
-// A call that is measured: the batches of the proved and the plain one, and the times of its rounds, in nanoseconds a
-// batch.
-struct timing {
-    batch *ours, *plain;
-    double of[SIDES][MOST_ROUNDS];
-    unsigned rounds;
-};
-
-static double now(void) {
-    struct timespec time;
-    clock_gettime(CLOCK_MONOTONIC, &time);
-    return (double)time.tv_sec * 1e9 + (double)time.tv_nsec;
-}
-
-static double timed(batch *run, struct file *file, const uint64_t *key, uint32_t count, uint32_t expected) {
-    double begin = now();
-    uint32_t sum = run(file, key, count);
-    double end = now();
-    if (sum != expected)
-        stop("a call gave another answer than the one to be measured");
-    return end - begin;
-}
-
-// One batch of each side, in an order that changes from round to round.
-static void time_round(struct timing *timing, struct files *files, const uint64_t *key, uint32_t count,
-                       uint32_t expected) {
-    static const enum side orders[6][SIDES] = {{OURS, C, IN_STEP}, {IN_STEP, C, OURS}, {C, OURS, IN_STEP},
-                                               {IN_STEP, OURS, C}, {C, IN_STEP, OURS}, {OURS, IN_STEP, C}};
-    const unsigned round = timing->rounds++;
-    for (int i = 0; i < SIDES; i++) {
-        enum side side = orders[round % 6][i];
-        baseline_in_step = side == IN_STEP;
-        batch *run = side == OURS ? timing->ours : timing->plain;
-        timing->of[side][round] = timed(run, &files->of[side], key, count, expected);
-    }
-    baseline_in_step = false;
-    require_same_slips(files);
-}
-
-static int by_size(const void *left, const void *right) {
-    double l = *(const double *)left, r = *(const double *)right;
-    return (l > r) - (l < r);
-}
-
-// The median of the quotients of two rows of numbers, or of one row where there is no other.
-static double median(const double *number, const double *by, unsigned count) {
-    static double sorted[MOST_ROUNDS];
-    for (unsigned i = 0; i < count; i++)
-        sorted[i] = by ? number[i] / by[i] : number[i];
-    qsort(sorted, count, sizeof *sorted, by_size);
-    return count % 2 ? sorted[count / 2] : (sorted[count / 2 - 1] + sorted[count / 2]) / 2;
-}
-
-static struct cost cost_of(const struct timing *timing, uint32_t calls) {
-    struct cost cost;
-    for (int side = 0; side < SIDES; side++) {
-        cost.of[side] = median(timing->of[side], NULL, timing->rounds) / calls;
-        cost.ratio[side] = median(timing->of[OURS], timing->of[side], timing->rounds);
-    }
-    return cost;
-}
-
 // So few calls a batch that the load of a small file hardly changes.
 static uint32_t batch_size(const struct files *files) {
     uint32_t size = files->first.slip.pages / 4;
     return size < 4 ? 4 : size > MOST_BATCH ? MOST_BATCH : size;
-}
-
-static unsigned held_to(unsigned rounds) {
-    return rounds > MOST_ROUNDS ? MOST_ROUNDS : rounds;
 }
 
 struct cost time_find(struct files *files, bool hit, unsigned rounds) {

@@ -1,0 +1,51 @@
+// What the speed program measures, and what it should come to.
+#pragma once
+#include "speed.h"
+
+enum { FIND_HELD, FIND_ABSENT, PUT, REMOVE, GROW, CHECK, CALLS };
+extern const char *const style_names[STYLES], *const call_names[CALLS];
+
+// Some sizes are in the tables beside C, some where sizes are followed.
+struct size {
+    uint32_t pages;
+    bool compared, followed;
+};
+enum { SIZES = 6, LARGEST = SIZES - 1, FILES = STYLES * SIZES };
+
+// What is measured of a file. Those with random keys come first.
+struct figures {
+    struct size size;
+    enum style style;
+    uint32_t cap, records, longest_run;
+    struct cost cost[CALLS], grow_to_check;
+    struct run_cost run; // of the compared files
+    double read_by_find, read_by_put;
+};
+extern struct figures figures[FILES];
+
+// A figure of a file: of a call, or beside a side, by its number.
+typedef double figure(const struct figures *at, int i);
+figure run_to_single_calls, run_to_run;
+
+// What ours should come to at most: figures of each compared file, by name.
+struct target {
+    double most;
+    const char *beside;
+    figure *of;
+    const char *const *names;
+    int count, places; // how many figures a file has, and decimals a figure
+};
+extern const struct target calls_to_c, calls_to_c_in_step, growth_to_check, runs_to_single_calls;
+
+// How many of a target's figures meet it, and how many there are.
+struct verdict {
+    int met, all;
+};
+struct verdict verdict_on(const struct target *target);
+void print_verdict(const struct target *target);
+
+// The least and the most of a figure over the compared files.
+struct range {
+    double least, most;
+};
+struct range range_of(figure *of, int i);

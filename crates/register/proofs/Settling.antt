@@ -82,6 +82,14 @@ module _ (s : State) (shape : Shape) (is : shape ≡ shapeOf (s .params) (s .p))
   pub shape-fits : inRange s ≡ true → shape .p ≤ s .cap
   shape-fits h = rw is (ranged s h .p-high)
 
+  -- a home under the state is one under the shape
+  pub home-shaped : (k a : ℕ) → a ≡ homes s k → a ≡ homeIn shape k
+  home-shaped k a e = rw is e
+
+  -- and back
+  pub home-stated : (k a : ℕ) → a ≡ homeIn shape k → a ≡ homes s k
+  home-stated k a e = e ∙ rw is
+
   pub find-open : (area : List ℕ) (k : ℕ) (g : Gate) → g ≡ gateOf s (length area) → g ≡ Open → (m : Met) → m ≡ walk (homeIn shape) area (s .cap) k → (a : Answer)
       → a ≡ findAnswer m → done s a ≡ found s area k
   find-open area k g gate e m w a t = rw (← gate, e, t, w, is)

@@ -16,7 +16,7 @@ ghost use mathlib.Core.List.{[]};
 ghost use Prim.Native.Nat.{_-_, _*_, _≤_, _<_};
 ghost use lib.ListN.{length, replicate};
 ghost use Rattle.pages.specs.Area.{areaFrom};
-ghost use Rattle.state.specs.State.{inRange};
+ghost use Rattle.state.specs.State.{inRange, homes};
 ghost use Rattle.state.specs.declared.Answer.the-variants.{Accepted};
 ghost use Rattle.walks.specs.Walks.{findAnswer};
 ghost use Rattle.walks.specs.steps.Plans.{metIn};
@@ -129,13 +129,13 @@ fn wrote(next: State, first: usize, last: usize, read: u32) -> Done
     }
 }
 
-// A put past the gate.
-fn put_open(state: State, area: &mut [u8], new: Record) -> Done
-    requires { ⌜ (inRange state ≡ true) × (length (now area) ≡ 256 * state .cap) ⌝ }
+// A put past the gate, of a record whose home is known.
+pub fn put_open(state: State, area: &mut [u8], home: u64, new: Record) -> Done
+    requires { ⌜ (inRange state ≡ true) × (length (now area) ≡ 256 * state .cap) × (home ≡ homes state (new .key)) ⌝ }
     ensures { λ r. let o = putOpen state (now (area .entry)) new in ⌜ (r ≡ o .done) × (now (area .exit) ≡ o .area) ⌝ }
 {
     let shape = state.shape();
-    let plan = walks::put::plan_put(&area[..], state.cap as usize, shape, new);
+    let plan = walks::put::plan_put(&area[..], state.cap as usize, shape, home, new);
     match plan {
         Plan::Stop { why } => Done { state, answer: why },
         Plan::Go {
@@ -164,7 +164,11 @@ pub fn put(state: State, area: &mut [u8], new: Record) -> Done
     let gate = gates::enter(state, area.len());
     match gate {
         Gate::Shut { why } => Done { state, answer: why },
-        Gate::Open => put_open(state, area, new),
+        Gate::Open => {
+            let shape = state.shape();
+            let home = shape.home(new.key);
+            put_open(state, area, home, new)
+        }
     }
 }
 

@@ -51,14 +51,13 @@ pub enum Plan {
     },
 }
 
-// The walk to a key, page by page and slot by slot, left from inside: at a slot that is empty or
-// stands after the sought (home, key), and at the key.
-pub fn meet(area: &[u8], cap: usize, shape: Shape, key: u64) -> Met
-    requires { ⌜ (cap ≤ 4096) × (length (now area) ≡ 256 * cap) × Ready shape × (shape .p ≤ cap) ⌝ }
+// The walk to a key from its home, page by page and slot by slot, left from inside: at a slot that
+// is empty or stands after the sought (home, key), and at the key.
+pub fn meet_from(area: &[u8], cap: usize, shape: Shape, home: u64, key: u64) -> Met
+    requires { ⌜ (cap ≤ 4096) × (length (now area) ≡ 256 * cap) × Ready shape × (shape .p ≤ cap) × (home ≡ homeIn shape key) ⌝ }
     ensures { λ r. ⌜ r ≡ walk (homeIn shape) (now (area .entry)) cap key ⌝ }
     ensures within { λ r. ⌜ metIn cap r ⌝ }
 {
-    let home = shape.home(key);
     let mut a = home as usize;
     let mut read: u32 = 0;
     'pages: loop {
@@ -96,4 +95,14 @@ pub fn meet(area: &[u8], cap: usize, shape: Shape, key: u64) -> Met
         }
         a += 1;
     }
+}
+
+// The walk to a key whose home isn't known yet.
+pub fn meet(area: &[u8], cap: usize, shape: Shape, key: u64) -> Met
+    requires { ⌜ (cap ≤ 4096) × (length (now area) ≡ 256 * cap) × Ready shape × (shape .p ≤ cap) ⌝ }
+    ensures { λ r. ⌜ r ≡ walk (homeIn shape) (now (area .entry)) cap key ⌝ }
+    ensures within { λ r. ⌜ metIn cap r ⌝ }
+{
+    let home = shape.home(key);
+    meet_from(area, cap, shape, home, key)
 }

@@ -54,13 +54,13 @@ fn reach(area: &[u8], cap: usize, shape: Shape, first: usize, at: usize, seen: u
     }
 }
 
-// The first phase of a put.
-pub fn plan_put(area: &[u8], cap: usize, shape: Shape, new: Record) -> Plan
-    requires { ⌜ (cap ≤ 4096) × (length (now area) ≡ 256 * cap) × Ready shape × (shape .p ≤ cap) ⌝ }
+// The first phase of a put, of a record whose home is known.
+pub fn plan_put(area: &[u8], cap: usize, shape: Shape, home: u64, new: Record) -> Plan
+    requires { ⌜ (cap ≤ 4096) × (length (now area) ≡ 256 * cap) × Ready shape × (shape .p ≤ cap) × (home ≡ homeIn shape (new .key)) ⌝ }
     ensures { λ r. ⌜ planned (λ n a i. poured (homeIn shape) (now (area .entry)) (suc n) a new) r ≡ putWalk (homeIn shape) (now (area .entry)) cap new ⌝ }
     ensures within { λ r. ⌜ planIn cap r × placedIn (homeIn shape) (now (area .entry)) (new .key) r ⌝ }
 {
-    match crate::meet(area, cap, shape, new.key) {
+    match crate::meet_from(area, cap, shape, home, new.key) {
         Met::Found {
             page: _,
             slot: _,

@@ -5,7 +5,7 @@ use denote.Ref.{now}
 use borrow.Author.Needs.{needs}
 use Rattle.homes.specs.Homes.{homeIn}
 use Rattle.state.proofs.Ranges.{ranged}
-use Rattle.register.proofs.Settling.{shape-fits, put-stops, put-full, put-goes, writes-low, place-known, more-low}
+use Rattle.register.proofs.Settling.{shape-fits, home-shaped, put-stops, put-full, put-goes, writes-low, place-known, more-low}
 use Rattle.register.proofs.put_open.Statement.{statement}
 use Rattle.register.proofs.put_open.Tie as tie
 
@@ -33,7 +33,14 @@ plan-put-requires : tie.Need-plan-put-requires
 plan-put-requires c κs =
     let h = c .before .before in
     let b = h .before .before in
-    (ranged (b .args .state) (b .pre .0) .cap-high, b .pre .1, h .shape .ensures .1, shape-fits (b .args .state) _ (h .shape .ensures .0) (b .pre .0))
+    let s = b .args .state in
+    let is = h .shape .ensures .0 in (
+      ranged s (b .pre .0) .cap-high,
+      b .pre .1,
+      h .shape .ensures .1,
+      shape-fits s _ is (b .pre .0),
+      home-shaped s _ is (b .args .new .key) (b .args .home) (b .pre .2),
+    )
 
 enum-known-plan : tie.Need-enum-known-plan
 enum-known-plan c = search needs

@@ -13,8 +13,8 @@ use Rattle.walks.proofs.PutPlan.{put-found, put-sick, put-past, put-at,
 use Rattle.walks.proofs.put.plan_put.Statement.{statement}
 use Rattle.walks.proofs.put.plan_put.Tie as tie
 
-meet-requires : tie.Need-meet-requires
-meet-requires c κs = search needs
+meet-from-requires : tie.Need-meet-from-requires
+meet-from-requires c κs = search needs
 
 enum-known-old : tie.Need-enum-known-old
 enum-known-old c = search needs
@@ -28,10 +28,10 @@ enum-known-page c = search needs
 -- where a broken page lies
 sick : (c : tie.After-known-told2)
     → metIn (c .before .before .before .before .before .args .cap) (mets.Broken (c .before .page .given .0 .0) (c .before .page .given .0 .1 .0))
-sick c = subst (metIn (c .before .before .before .before .before .args .cap)) (c .before .page .given .1) (c .before .before .before .meet .ensures .1)
+sick c = subst (metIn (c .before .before .before .before .before .args .cap)) (c .before .page .given .1) (c .before .before .before .meet-from .ensures .1)
 
-cast-t17 : tie.Need-cast-t17
-cast-t17 c =
+cast-t18 : tie.Need-cast-t18
+cast-t18 c =
     let w = sick c in
     omega (arith, w .0, c .before .before .before .before .before .pre .0)
 
@@ -45,12 +45,12 @@ enum-known-page-2 c = search needs
 ends : (c : tie.After-known-told4)
     → metIn (c .before .before .before .before .before .args .cap)
     (Ends (c .before .page2 .given .0 .0) (c .before .page2 .given .0 .1 .0) (c .before .page2 .given .0 .1 .1 .0) (c .before .page2 .given .0 .1 .1 .1 .0))
-ends c = subst (metIn (c .before .before .before .before .before .args .cap)) (c .before .page2 .given .1) (c .before .before .before .meet .ensures .1)
+ends c = subst (metIn (c .before .before .before .before .before .args .cap)) (c .before .page2 .given .1) (c .before .before .before .meet-from .ensures .1)
 
 returns : tie.Need-returns
 returns c =
     let g = c .before .before .page2 .given in
-    let m = c .before .before .before .before .meet in
+    let m = c .before .before .before .before .meet-from in
     let a = c .before .before .before .before .before .before .args in
     let w = ends (c .before) in (
       put-here (homeIn (a .shape)) (now (a .area)) (a .new) (a .cap) (m .result) (m .ensures .0) (g .0 .0) (g .0 .1 .0) (g .0 .1 .1 .0) (g .0 .1 .1 .1 .0) (g .1)
@@ -71,7 +71,7 @@ reach-requires c κs =
 returns-2 : tie.Need-returns-2
 returns-2 c =
     let g = c .before .before .old .given in
-    let m = c .before .before .before .before .meet in
+    let m = c .before .before .before .before .meet-from in
     let a = c .before .before .before .before .before .before .args in (
       ap stopped (c .again .ensures)
           ∙ put-found (homeIn (a .shape)) (now (a .area)) (a .new) (a .cap) (m .result) (m .ensures .0) (g .0 .0) (g .0 .1 .0) (g .0 .1 .1 .0) (g .0 .1 .1 .1 .0)
@@ -82,21 +82,21 @@ returns-2 c =
 returns-3 : tie.Need-returns-3
 returns-3 c =
     let g = c .before .page .given in
-    let m = c .before .before .before .meet in
+    let m = c .before .before .before .meet-from in
     let a = c .before .before .before .before .before .args in
     (put-sick (homeIn (a .shape)) (now (a .area)) (a .new) (a .cap) (m .result) (m .ensures .0) (g .0 .0) (g .0 .1 .0) (g .1), (tt, tt))
 
 returns-4 : tie.Need-returns-4
 returns-4 c =
     let g = c .before .read .given in
-    let m = c .before .before .before .meet in
+    let m = c .before .before .before .meet-from in
     let a = c .before .before .before .before .before .args in
     (put-past (homeIn (a .shape)) (now (a .area)) (a .new) (a .cap) (m .result) (m .ensures .0) (g .0 .0) (g .1), (tt, tt))
 
 returns-5 : tie.Need-returns-5
 returns-5 c =
     let g = c .before .before .before .page2 .given in
-    let m = c .before .before .before .before .before .meet in
+    let m = c .before .before .before .before .before .meet-from in
     let a = c .before .before .before .before .before .before .before .args in
     let w = ends (c .before .before) in
     let r = c .reach in (
@@ -113,11 +113,11 @@ pub plan-put-spec : {M : Type 1} → statement M
 plan-put-spec =
     tie.close
     (tie.spec
-    meet-requires
+    meet-from-requires
     enum-known-old
     again-requires
     enum-known-page
-    cast-t17
+    cast-t18
     enum-known-read
     enum-known-page-2
     returns

@@ -1,0 +1,214 @@
+-- `walks::meet_from` meets its contract. The outer invariant: what is left of the walk is the whole of
+-- it. The inner one: what is left of the page's slots decides as all of them do.
+use mathlib.Core.Path.{_≡_, refl, _∙_}
+use mathlib.Core.Bool.{true}
+use Prim.Native.Nat.{_-_, _≤_, _<_}
+use native.Mathlib.Omega.{arith}
+use borrow.Author.Needs.{needs}
+use borrow.Author.Tests.{not-true, not-false}
+use denote.Ref.{now}
+use Rattle.homes.specs.Homes.{homeIn}
+use Rattle.walks.specs.Walks.{walk}
+use Rattle.walks.proofs.Scanning.{ToScan, Rows, Tested, left-all, after-last, slot-after, slot-used, slot-hit, slot-on}
+use Rattle.walks.proofs.Meeting.{home-fits, Seen, page-few, page-rows, walkLeft, walk-starts, walk-past, walk-sick, walk-found, walk-ends, walk-on}
+use Rattle.walks.proofs.meet_from.Statement.{statement}
+use Rattle.walks.proofs.meet_from.Tie as tie
+
+abbrev Inv-loop : tie.InvT-loop
+Inv-loop area cap shape home key a read count keys values homes slot₀ slot = ToScan (homeIn shape) key (record { count = count; keys = keys; values = values }) slot
+
+abbrev μ-loop : tie.MeasureT-loop
+μ-loop area cap shape home key a read count keys values homes slot₀ slot = 12 - slot
+
+abbrev Inv-pages : tie.InvT-pages
+Inv-pages area cap shape home key a₀ read₀ a read =
+    (a ≤ cap) × (read ≤ a) × (walkLeft (homeIn shape) area cap key a read ≡ walk (homeIn shape) area cap key)
+
+abbrev μ-pages : tie.MeasureT-pages
+μ-pages area cap shape home key a₀ read₀ a read = cap - a
+
+pages-holds : tie.Need-pages-holds Inv-loop μ-loop Inv-pages μ-pages
+pages-holds c =
+    let s = c .before in
+    let a = s .args in
+    let f : a .home < a .cap = home-fits (a .shape) (a .key) (a .cap) (a .home) (s .pre .2) (s .pre .3) (s .pre .4) in
+    (omega arith, omega arith, walk-starts (homeIn (a .shape)) (now (a .area)) (a .cap) (a .key) (a .home) 0 (s .pre .4) refl)
+
+judge-at-requires : tie.Need-judge-at-requires Inv-loop μ-loop Inv-pages μ-pages
+judge-at-requires c κs = search needs
+
+add-read : tie.Need-add-read Inv-loop μ-loop Inv-pages μ-pages
+add-read c = search needs
+
+-- the page is judged where the walk is
+seen : (c : tie.After-judge-at Inv-loop μ-loop Inv-pages μ-pages)
+    → Seen (homeIn (c .before .before .before .before .args .shape)) (now (c .before .before .before .before .args .area))
+    (c .before .before .before .before .args .cap) (c .before .before .pages .a) (c .judge-at .result)
+seen c = record { lies = c .before .if1 .left; is = c .judge-at .ensures }
+
+-- the page that was judged is good
+good : (c : tie.Else2 Inv-loop μ-loop Inv-pages μ-pages) → c .before .before .judge-at .result .good ≡ true
+good c = not-false _ (c .if2 .left)
+
+-- and its rows are known
+rows : (c : tie.Else2 Inv-loop μ-loop Inv-pages μ-pages)
+    → Rows (homeIn (c .before .before .before .before .before .before .args .shape)) (c .before .before .judge-at .result .page)
+    (c .before .before .judge-at .result .homes)
+rows c =
+    let j = c .before .before in
+    let w = j .before .before in
+    let s = w .before .before in
+    page-rows (seen j) (good c) (omega (arith, s .pre, w .pages .inv, j .before .if1)) (λ i. omega (arith, w .before .shared-slice-known .given i))
+
+-- and has twelve records at most
+few : (c : tie.Else2 Inv-loop μ-loop Inv-pages μ-pages) → c .before .before .judge-at .result .page .count ≤ 12
+few c = page-few (seen (c .before .before)) (good c)
+
+-- a slot is tested for what is left from it on
+tested : (c : tie.After-before2 Inv-loop μ-loop Inv-pages μ-pages)
+    → Tested (homeIn (c .before .before .before .before .before .before .before .before .before .before .before .before .args .shape))
+    (c .before .before .before .before .before .before .before .before .judge-at .result .page)
+    (c .before .before .before .before .before .before .before .before .judge-at .result .homes)
+    (c .before .before .before .before .before .before .before .before .before .before .before .before .args .key)
+    (c .before .before .before .before .before .before .before .before .before .before .before .before .args .home)
+    (c .before .before .loop .slot) (c .before2 .result)
+tested c =
+    let d = c .before .before .before .before .before .before in
+    let w = d .before .before .before .before in
+    record {
+      rows = rows d;
+      left = c .before .before .loop .inv;
+      small = omega (arith, w .before .before .fits);
+      lives = w .before .before .pre .4;
+      told = c .before2 .ensures;
+    }
+
+loop-holds : tie.Need-loop-holds Inv-loop μ-loop Inv-pages μ-pages
+loop-holds c = left-all _ _ _
+
+mul-before : tie.Need-mul-before Inv-loop μ-loop Inv-pages μ-pages
+mul-before c = search needs
+
+array-read-before : tie.Need-array-read-before Inv-loop μ-loop Inv-pages μ-pages
+array-read-before c = search needs
+
+mul-before-2 : tie.Need-mul-before-2 Inv-loop μ-loop Inv-pages μ-pages
+mul-before-2 c = search needs
+
+array-read-before-2 : tie.Need-array-read-before-2 Inv-loop μ-loop Inv-pages μ-pages
+array-read-before-2 c = search needs
+
+before-requires : tie.Need-before-requires Inv-loop μ-loop Inv-pages μ-pages
+before-requires c κs = search needs
+
+mul-if4 : tie.Need-mul-if4 Inv-loop μ-loop Inv-pages μ-pages
+mul-if4 c = search needs
+
+array-read-if4 : tie.Need-array-read-if4 Inv-loop μ-loop Inv-pages μ-pages
+array-read-if4 c = search needs
+
+mul-value : tie.Need-mul-value Inv-loop μ-loop Inv-pages μ-pages
+mul-value c = search needs
+
+array-read-value : tie.Need-array-read-value Inv-loop μ-loop Inv-pages μ-pages
+array-read-value c = search needs
+
+add-slot : tie.Need-add-slot Inv-loop μ-loop Inv-pages μ-pages
+add-slot c = search needs
+
+loop-less : tie.Need-loop-less Inv-loop μ-loop Inv-pages μ-pages
+loop-less c = search needs
+
+loop-again : tie.Need-loop-again Inv-loop μ-loop Inv-pages μ-pages
+loop-again c = slot-on (tested (c .before .before)) (c .before .if3 .left) (c .if4 .left)
+
+add-a : tie.Need-add-a Inv-loop μ-loop Inv-pages μ-pages
+add-a c = search needs
+
+pages-less : tie.Need-pages-less Inv-loop μ-loop Inv-pages μ-pages
+pages-less c = search needs
+
+pages-again : tie.Need-pages-again Inv-loop μ-loop Inv-pages μ-pages
+pages-again c =
+    let d = c .before .before .before .before .before in
+    let j = d .before .before in
+    let w = j .before .before in
+    let s = w .before .before in
+    let left = c .before .loop .inv in
+    let after = after-last (homeIn (s .args .shape)) (s .args .key) (j .judge-at .result .page) (c .before .loop .slot) (omega (arith, c .loop-test .left, few d)) in (
+      omega arith,
+      omega arith,
+      walk-on (seen j) (s .args .key) (w .pages .read) (good d) (rows d) (omega (arith, s .fits)) left after (c .loop-test .left) ∙ w .pages .inv .2,
+    )
+
+returns : tie.Need-returns Inv-loop μ-loop Inv-pages μ-pages
+returns c =
+    let s = c .before .before .before in (
+      walk-past (homeIn (s .args .shape)) (now (s .args .area)) (s .args .cap) (s .args .key) (c .before .pages .a) (c .before .pages .read) (c .if1 .taken)
+          ∙ c .before .pages .inv .2,
+      omega arith,
+    )
+
+returns-2 : tie.Need-returns-2 Inv-loop μ-loop Inv-pages μ-pages
+returns-2 c =
+    let j = c .before .before in
+    let w = j .before .before in
+    let s = w .before .before in
+    (walk-sick (seen j) (s .args .key) (w .pages .read) (not-true _ (c .if2 .taken)) ∙ w .pages .inv .2, (omega arith, omega arith))
+
+returns-3 : tie.Need-returns-3 Inv-loop μ-loop Inv-pages μ-pages
+returns-3 c =
+    let b = c .before in
+    let d = b .before .before .before .before .before .before in
+    let j = d .before .before in
+    let w = j .before .before in
+    let s = w .before .before in
+    let t = tested b in (
+      walk-ends (seen j) (s .args .key) (w .pages .read) (good d) (rows d) (t .small) (t .left) (slot-after t (c .if3 .taken)) (b .before .loop-test .taken)
+          ∙ w .pages .inv .2,
+      (j .before .if1 .left, t .left .upto, few d, omega arith, omega arith),
+    )
+
+returns-4 : tie.Need-returns-4 Inv-loop μ-loop Inv-pages μ-pages
+returns-4 c =
+    let b = c .before .before in
+    let d = b .before .before .before .before .before .before in
+    let j = d .before .before in
+    let w = j .before .before in
+    let s = w .before .before in
+    let t = tested b in (
+      walk-found (seen j) (s .args .key) (w .pages .read) (good d) _ _ (slot-hit t (c .before .if3 .left) (c .if4 .taken)) ∙ w .pages .inv .2,
+      (j .before .if1 .left, slot-used t (c .before .if3 .left), few d, omega arith),
+    )
+
+pub meet-from-spec : {M : Type 1} → statement M
+meet-from-spec =
+    tie.close
+    (tie.spec
+    Inv-loop
+    μ-loop
+    Inv-pages
+    μ-pages
+    pages-holds
+    judge-at-requires
+    add-read
+    loop-holds
+    mul-before
+    array-read-before
+    mul-before-2
+    array-read-before-2
+    before-requires
+    mul-if4
+    array-read-if4
+    mul-value
+    array-read-value
+    add-slot
+    loop-less
+    loop-again
+    add-a
+    pages-less
+    pages-again
+    returns
+    returns-2
+    returns-3
+    returns-4)

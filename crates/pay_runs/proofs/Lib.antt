@@ -1,4 +1,6 @@
 pub mod Heads
+pub mod PutKeeps
+pub mod Lookahead
 pub mod Items
 pub mod Running
 pub mod ToTheByte

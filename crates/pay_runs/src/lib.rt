@@ -1,19 +1,29 @@
 // A pay run in one call: put records end to end, and a reply for each in lent room.
+use gates::Gate;
+use homes::Shape;
+use pages::Record;
 use records::Told;
+use state::Done;
 use state::State;
 ghost use mathlib.Core.Path.{_≡_};
 ghost use Prim.Native.Nat.{_*_, _≤_};
 ghost use lib.ListN.{length};
 ghost use lib.Dec.{eqb};
 ghost use Rattle.numbers.specs.Fields.{encode};
+ghost use Rattle.homes.specs.Homes.{Ready, homeIn};
+ghost use Rattle.register.specs.Calls.{stored};
 ghost use Rattle.register.specs.Files.{put, fileOf, left, after, numbersOf};
 ghost use Rattle.records.specs.Records.{recordIn, replyOf, bytesOfAll};
 ghost use Rattle.pay_runs.specs.PayRun.{items, endToEnd, putsIn, repliesTo, ran, toldOf};
+ghost use Rattle.pay_runs.specs.steps.Ahead.{keyAfter, Ahead, Looked, Homed};
 
 // The bytes of a put record, and of a reply.
 const RECORD: usize = 20;
 
 const REPLY: usize = 28;
+
+// How many homes are worked out together.
+const LANES: usize = 12;
 
 // Whether the bytes are whole put records with right heads.
 fn are_puts(input: &[u8]) -> bool
@@ -38,12 +48,58 @@ fn has_room(input: &[u8], room: &[u8]) -> bool
     (count == input.len() / RECORD) & (room.len() == REPLY * count)
 }
 
+// The homes of the next items, twelve or as many as there are, worked out together: that takes
+// hardly longer than one.
+fn homes_ahead(shape: Shape, input: &[u8]) -> [u64; LANES]
+    requires { ⌜ Ready shape ⌝ }
+    ensures { λ r. ⌜ Ahead (homeIn shape) (now (input .entry)) r ⌝ }
+{
+    let count = input.len() / RECORD;
+    let lanes = if count < LANES { count } else { LANES };
+    let mut keys = [0u64; LANES];
+    let mut k = 0;
+    while k < lanes {
+        let record = records::record_in(&input[RECORD * k..]);
+        keys[k] = record.key;
+        k += 1;
+    }
+    homes::lanes::homes(shape, keys)
+}
+
+// The homes ahead, anew at the first of twelve items. Puts leave parameters and pages as they are,
+// so they hold until they are used up. A state out of range has no homes, and every put is refused.
+fn look_ahead(state: State, input: &[u8], old: [u64; LANES], lane: usize) -> [u64; LANES]
+    ensures { λ r. ⌜ Looked state (now (input .entry)) old lane r ⌝ }
+{
+    if lane != 0 {
+        return old;
+    }
+    if !state.in_range() {
+        return old;
+    }
+    let shape = state.shape();
+    homes_ahead(shape, input)
+}
+
+// A put of a record whose home is known where there is one.
+fn put_known(state: State, area: &mut [u8], home: u64, new: Record) -> Done
+    requires { ⌜ Homed state (new .key) home ⌝ }
+    ensures { λ r. let o = stored state (now (area .entry)) new in ⌜ (r ≡ o .done) × (now (area .exit) ≡ o .area) ⌝ }
+{
+    let gate = gates::enter(state, area.len());
+    match gate {
+        Gate::Shut { why } => Done { state, answer: why },
+        Gate::Open => register::put_open(state, area, home, new),
+    }
+}
+
 // One item: its put, and the reply with the state after it.
-fn put_one(state: State, area: &mut [u8], input: &[u8], part: &mut [u8]) -> State
-    requires { ⌜ (20 ≤ length (now input)) × (length (now part) ≡ 28) ⌝ }
+fn put_one(state: State, area: &mut [u8], home: u64, input: &[u8], part: &mut [u8]) -> State
+    requires { ⌜ Homed state (keyAfter (now input) 0) home × ((20 ≤ length (now input)) × (length (now part) ≡ 28)) ⌝ }
     ensures { λ r. let o = left (fileOf state (now (area .entry))) (put (recordIn (now (input .entry)))) in ⌜ (r ≡ o .file .state) × ((now (area .exit) ≡ o .file .area) × (now (part .exit) ≡ encode (replyOf (numbersOf (o .said)) (o .file .state)))) ⌝ }
 {
-    let done = register::put(state, area, records::record_in(input));
+    let new = records::record_in(input);
+    let done = put_known(state, area, home, new);
     let told = records::tell(done);
     let after = told.state;
     let numbers = told.numbers;
@@ -58,10 +114,19 @@ fn put_each(state: State, area: &mut [u8], input: &[u8], room: &mut [u8]) -> Sta
 {
     let count = input.len() / RECORD;
     let mut after = state;
+    let mut ahead = [0u64; LANES];
     let mut i = 0;
     while i < count {
+        let lane = i % LANES;
+        ahead = look_ahead(after, &input[RECORD * i..], ahead, lane);
         let at = REPLY * i;
-        after = put_one(after, area, &input[RECORD * i..], &mut room[at..at + REPLY]);
+        after = put_one(
+            after,
+            area,
+            ahead[lane],
+            &input[RECORD * i..],
+            &mut room[at..at + REPLY],
+        );
         i += 1;
     }
     after

@@ -1,4 +1,3 @@
-pub mod PutKeeps
 pub mod Logging
 pub mod RunDemands
 pub mod RunAnswers

@@ -27,7 +27,7 @@ use Rattle.commands.proofs.Lending.{written-first}
 use Rattle.log_demands.specs.LogDemands.{fileAt}
 use Rattle.pay_runs.specs.PayRun.{endToEnd, putsIn, repliesTo}
 use Rattle.pay_runs.proofs.Items.{replyTo}
-use Rattle.run_demands.proofs.PutKeeps.{put-keeps}
+use Rattle.pay_runs.proofs.PutKeeps.{put-keeps}
 
 -- bytes as long as the first of a space, written over its start, are its first
 first-back : (n : ℕ) (space new : List ℕ) → length new ≡ length (take n space) → take n (written space 0 new) ≡ new
@@ -67,7 +67,7 @@ puts-keep f zero l = (refl, refl)
 puts-keep f (suc n) l =
     let k = put-keeps f (recordIn l) in
     let w = puts-keep (left f (put (recordIn l)) .file) n (drop 20 l) in
-    (w .0 ∙ k .0, w .1 ∙ k .1)
+    (w .0 ∙ k .cap, w .1 ∙ k .long)
 
 -- the file at a site that has a file of the same size in the place of its own
 pub file-had : (d : Site) (f : File) → SameSize (fileAt d) f → fileAt (having d f) ≡ f
@@ -104,7 +104,7 @@ log-puts (suc n) more d l e =
     let cs : List Call = putsIn n (drop 20 l) in
     let z : suc n + more ≡ suc (n + more) = omega arith in
     let on = log-puts n more (having d g) (drop 20 l) (and-right u v e) in
-    let had : fileAt (having d g) ≡ g = file-had d g (put-keeps (fileAt d) (recordIn l)) in
+    let had : fileAt (having d g) ≡ g = let k = put-keeps (fileAt d) (recordIn l) in file-had d g (k .cap, k .long) in
     let same : length (after g cs .area) ≡ length (g .area) = puts-keep g n (drop 20 l) .1 in
     let m : 20 * suc n ≡ 20 + 20 * n = omega arith in
     rw (z, log-put (n + more) d l (and-left u v e), on, had, over-again (d .space) (g .area) (after g cs .area) same, m)

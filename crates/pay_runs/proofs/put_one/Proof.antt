@@ -1,4 +1,5 @@
 -- `pay_runs::put_one` meets its contract: the put's numbers and the state after it are its reply.
+use mathlib.Core.Path.{sym}
 use denote.Ref.{now}
 use borrow.Author.Needs.{needs}
 use Rattle.pay_runs.proofs.Items.{one-put}
@@ -8,8 +9,10 @@ use Rattle.pay_runs.proofs.put_one.Tie as tie
 record-in-requires : tie.Need-record-in-requires
 record-in-requires c κs = search needs
 
-put-requires : tie.Need-put-requires
-put-requires c κs = search needs
+put-known-requires : tie.Need-put-known-requires
+put-known-requires c κs =
+    let x = c .before in
+    rw (x .record-in .ensures) (x .before .before .before .before .pre .0)
 
 tell-requires : tie.Need-tell-requires
 tell-requires c κs = search needs
@@ -28,16 +31,17 @@ returns c =
     let r = c .before .before in
     let t = r .before .before .before .before in
     let p = t .before .before .before in
-    let x = p .before in
-    let a = x .before .before .before .before .before .args in
-    one-put (a .state) (now (a .area)) (now (a .input)) (x .record-in .result) (x .record-in .ensures) (p .put .result) _ (p .put .ensures) (t .tell .result) (t .tell .ensures) _ (r .reply .ensures)
+    let x = p .before .before in
+    let a = x .before .before .before .before .args in
+    one-put (a .state) (now (a .area)) (now (a .input)) (x .record-in .result) (x .record-in .ensures) (p .put-known .result) _ (p .put-known .ensures) (t .tell .result)
+    (t .tell .ensures) _ (r .reply .ensures)
 
 pub put-one-spec : {M : Type 1} → statement M
 put-one-spec =
     tie.close
     (tie.spec
     record-in-requires
-    put-requires
+    put-known-requires
     tell-requires
     reply-requires
     same-length

@@ -1,13 +1,14 @@
--- A put on any bytes keeps the lent size and the length of the area.
-use mathlib.Core.Path.{_≡_, refl, _∙_}
+-- A put on any bytes keeps the parameters, the pages, the lent size and the length of the area, and
+-- whether the state is in range.
+use mathlib.Core.Path.{_≡_, refl, sym, _∙_}
 use mathlib.Core.Bool.{Bool, true, false, cond}
 use mathlib.Core.Option.{Option, none, some}
 use mathlib.Core.List.{List, [], _∷_}
-use Prim.Native.Nat.{ℕ, zero, suc, _-_, _*_, _<_}
+use Prim.Native.Nat.{ℕ, zero, suc, _-_, _*_, _≤_, _<_}
 use native.Mathlib.Omega.{arith}
 use lib.Dec.{eqb, ltb}
 use lib.ListN.{length, take, getD}
-use borrow.Author.Tests.{eqb-true}
+use borrow.Author.Tests.{eqb-true, eqb-false}
 use Rattle.placing.specs.Image.{All}
 use Rattle.placing.specs.Lay.{rankIn, ins}
 use Rattle.pages.specs.Page.{Record, key, readPage}
@@ -16,13 +17,14 @@ use Rattle.pages.proofs.Areas.{with-length}
 use Rattle.state.specs.declared.State.{State}
 use Rattle.state.specs.declared.Answer.the-variants.{OutOfRange, WrongArea}
 use Rattle.state.specs.State.{inRange, homes, oneMore}
+use Rattle.state.proofs.Ranges.{ranged, more-range}
 use Rattle.walks.specs.declared.Met.{Met}
 use Rattle.walks.specs.declared.Met.the-variants as met
 use Rattle.walks.specs.Walks.{Pages, Walked, went, stopped, andPage, carry, walk, putMet, putWalk, writes}
 use Rattle.gates.specs.declared.Gate.the-variants.{Open, Shut}
 use Rattle.gates.specs.Gates.{onGate, gateOf}
-use Rattle.register.specs.Calls.{Outcome, refused, settled, putOpen}
-use Rattle.register.specs.Files.{put, File, ofOutcome, left}
+use Rattle.register.specs.Calls.{refused, settled, putOpen}
+use Rattle.register.specs.Files.{put, File, left}
 
 -- pages that lie below a size
 abbrev Below : ℕ → Pages → Type 0
@@ -75,18 +77,32 @@ writes-length cap (w ∷ ws) area b e =
     let k = with-length area (w .0) (w .1) (omega (arith, b .0)) in
     writes-length cap ws _ (b .1) (k ∙ e) ∙ k
 
--- as many bytes, and the same lent size
-abbrev Keeps : State → List ℕ → Outcome → Type 0
-Keeps s area o = (o .done .state .cap ≡ s .cap) × (length (o .area) ≡ length area)
+-- the same parameters, pages and lent size, in range or not as before, and as many bytes
+pub record Keeps (s : State) (area : List ℕ) (t : State) (new : List ℕ) : Type 0 where
+  pub params : t .params ≡ s .params
+  pub p : t .p ≡ s .p
+  pub cap : t .cap ≡ s .cap
+  pub range : inRange t ≡ inRange s
+  pub long : length new ≡ length area
 
-settled-keeps : (s : State) (area : List ℕ) (wrong : Bool) (w : Walked) → Low (s .cap) w → length area ≡ 256 * s .cap → Keeps s area (settled s area (oneMore s) wrong w)
-settled-keeps s area wrong (stopped why) l e = (refl, refl)
-settled-keeps s area true (went ws n m) l e = (refl, refl)
-settled-keeps s area false (went ws n m) l e = (refl, writes-length (s .cap) ws area l e)
+-- where nothing is changed, all is kept
+same-keeps : (s : State) (area : List ℕ) → Keeps s area s area
+same-keeps s area = record { params = refl; p = refl; cap = refl; range = refl; long = refl }
 
-pub put-keeps : (f : File) (x : Record) → (left f (put x) .file .state .cap ≡ f .state .cap) × (length (left f (put x) .file .area) ≡ length (f .area))
+settled-keeps : (s : State) (area : List ℕ) → inRange s ≡ true → length area ≡ 256 * s .cap → (wrong : Bool) → eqb (s .r) (12 * s .cap) ≡ wrong → (w : Walked) → Low (s .cap) w
+    → let o = settled s area (oneMore s) wrong w in Keeps s area (o .done .state) (o .area)
+settled-keeps s area h e wrong q (stopped why) l = same-keeps s area
+settled-keeps s area h e true q (went ws n m) l = same-keeps s area
+settled-keeps s area h e false q (went ws n m) l =
+    let room : s .r < 12 * s .cap = below (s .r) (12 * s .cap) (ranged s h .r-high) (eqb-false (s .r) (12 * s .cap) q) in
+    record { params = refl; p = refl; cap = refl; range = more-range s h room ∙ sym h; long = writes-length (s .cap) ws area l e }
+  where
+    below : (a b : ℕ) → a ≤ b → (a ≡ b → ⊥) → a < b
+    below a b l n = search arith
+
+pub put-keeps : (f : File) (x : Record) → let g = left f (put x) .file in Keeps (f .state) (f .area) (g .state) (g .area)
 unfolding left gateOf
-put-keeps f x = go (inRange s) (eqb (length area) (256 * s .cap)) refl
+put-keeps f x = go (inRange s) (eqb (length area) (256 * s .cap)) refl refl
   where
     s : State
     s = f .state
@@ -94,9 +110,9 @@ put-keeps f x = go (inRange s) (eqb (length area) (256 * s .cap)) refl
     area : List ℕ
     area = f .area
 
-    go : (u v : Bool) → eqb (length area) (256 * s .cap) ≡ v
-        → Keeps s area (onGate (cond u (cond v Open (Shut WrongArea)) (Shut OutOfRange)) (refused s area) (putOpen s area x))
-    go false v e = (refl, refl)
-    go true false e = (refl, refl)
-    go true true e =
-        settled-keeps s area (eqb (s .r) (12 * s .cap)) (putWalk (homes s) area (s .cap) x) (put-low (homes s) area (s .cap) x) (eqb-true (length area) (256 * s .cap) e)
+    go : (u v : Bool) → inRange s ≡ u → eqb (length area) (256 * s .cap) ≡ v
+        → let o = onGate (cond u (cond v Open (Shut WrongArea)) (Shut OutOfRange)) (refused s area) (putOpen s area x) in Keeps s area (o .done .state) (o .area)
+    go false v r e = same-keeps s area
+    go true false r e = same-keeps s area
+    go true true r e =
+        settled-keeps s area r (eqb-true (length area) (256 * s .cap) e) (eqb (s .r) (12 * s .cap)) refl (putWalk (homes s) area (s .cap) x) (put-low (homes s) area (s .cap) x)

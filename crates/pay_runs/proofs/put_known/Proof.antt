@@ -1,0 +1,52 @@
+-- `pay_runs::put_known` meets its contract: past its gate it is `register::put_open`.
+use denote.Ref.{now}
+use borrow.Author.Needs.{needs}
+use Rattle.gates.proofs.Gating.{past}
+use Rattle.register.proofs.Settling.{put-shut, put-past}
+use Rattle.pay_runs.proofs.put_known.Statement.{statement}
+use Rattle.pay_runs.proofs.put_known.Tie as tie
+
+enter-requires : tie.Need-enter-requires
+enter-requires c κs = search needs
+
+enum-known-gate : tie.Need-enum-known-gate
+enum-known-gate c = search needs
+
+enum-told : tie.Need-enum-told
+enum-told c = search needs
+
+put-open-requires : tie.Need-put-open-requires
+put-open-requires c κs =
+    let t = c .before in
+    let e = t .before .before in
+    let w = past _ _ _ (e .enter .ensures .1) (t .enum-told .given .1) in
+    (w .0, w .1, e .before .before .pre (w .0))
+
+returns : tie.Need-returns
+returns c =
+    let e = c .before .before .before in
+    let a = e .before .before .args in
+    put-shut (a .state) (now (a .area)) _ (e .enter .ensures .0) _ (c .before .gate .given .1) (a .new)
+
+same-length : tie.Need-same-length
+same-length c = search needs
+
+returns-2 : tie.Need-returns-2
+returns-2 c =
+    let o = c .before .before in
+    let t = o .before .before in
+    let e = t .before .before in
+    let a = e .before .before .args in
+    put-past (a .state) (now (a .area)) _ (e .enter .ensures .0) (t .enum-told .given .1) (a .new) _ _ (o .put-open .ensures)
+
+pub put-known-spec : {M : Type 1} → statement M
+put-known-spec =
+    tie.close
+    (tie.spec
+    enter-requires
+    enum-known-gate
+    enum-told
+    put-open-requires
+    returns
+    same-length
+    returns-2)

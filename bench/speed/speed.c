@@ -109,8 +109,9 @@ static void print_reasons(void) {
          "and the page itself, which is read into memory as one value. Put and remove judge first and write then, and "
          "read again what they write. C moves only the records that a growth displaces; ours lays all of them anew, "
          "and works out again the homes of those that lie off their page. C in step keeps a draw unreduced from step "
-         "to step and holds a page in place, in loops made for the processor's registers. A run of ours does for each "
-         "put what a call does, and writes a reply where a call writes the slip; C looks at the state once a run.");
+         "to step and holds a page in place, in loops made for the processor's registers. A run of ours works out "
+         "the homes of twelve puts together and for the rest does for each what a call does; C works each home out "
+         "by itself, and looks at the state once a run.");
 }
 
 // Grow and check look at all pages lent, so theirs is the cost of a lent page.

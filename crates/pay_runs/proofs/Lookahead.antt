@@ -17,7 +17,7 @@ use Rattle.state.specs.State.{inRange, homes}
 use Rattle.register.specs.Files.{put, fileOf, left}
 use Rattle.records.specs.Records.{recordIn}
 use Rattle.records.proofs.Lent.{from, from-drop}
-use Rattle.pay_runs.specs.steps.Ahead.{keyAfter, Ahead, Looked, Homed}
+use Rattle.pay_runs.specs.steps.Ahead.{keyAfter, Ahead, Homed}
 use Rattle.pay_runs.proofs.PutKeeps.{put-keeps}
 
 -- the keys of the first k of the next items stand in the row
@@ -63,15 +63,28 @@ module _ {l : List ℕ} {lanes : ℕ} {keys : List ℕ} {k : ℕ} (w : Reading l
       let at : getD (map f keys) j 0 ≡ f (getD keys j 0) = rw append-nil at (row-at f keys [] j 0 (omega (arith, w .long))) in
       rw (e, at, w .read j (omega arith))
 
--- the homes ahead, on each way out of `look_ahead`
-module _ (s : State) (l old : List ℕ) (lane : ℕ) where
-  -- a state out of range has none
-  pub looks-out : inRange s ≡ false → Looked s l old lane old
-  looks-out e = (λ z h. absurd (let n : _≡_ {A = ℕ} 0 1 = cc in omega arith), λ n. refl)
+-- a state isn't out of range and in range
+pub not-both : (s : State) → inRange s ≡ false → inRange s ≡ true → ⊥
+not-both s e h = let n : _≡_ {A = ℕ} 0 1 = cc in omega arith
 
-  -- they are worked out anew
-  pub looks-anew : lane ≡ 0 → (shape : Shape) → shape ≡ shapeOf (s .params) (s .p) → (row : List ℕ) → Ahead (homeIn shape) l row → Looked s l old lane row
-  looks-anew z shape is row a = (λ e h. rw is at a, λ n. absurd (n z))
+-- one in range has the homes of its shape
+pub shape-homes : (s : State) (l row : List ℕ) (shape : Shape) → shape ≡ shapeOf (s .params) (s .p) → Ahead (homeIn shape) l row → Ahead (homes s) l row
+shape-homes s l row shape is a = rw is at a
+
+-- at the first of twelve items the homes are those of the items ahead, if the state has homes; at
+-- another they are as they were
+abbrev Looked : State → (l old : List ℕ) → (lane : ℕ) → (row : List ℕ) → Type 0
+Looked s l old lane row = (lane ≡ 0 → inRange s ≡ true → Ahead (homes s) l row) × ((lane ≡ 0 → ⊥) → row ≡ old)
+
+-- what stands in the row at an item, on both ways of the loop's turn
+module _ (s : State) (l old : List ℕ) (lane : ℕ) (row : List ℕ) where
+  -- the homes ahead are worked out anew
+  pub looks-anew : lane ≡ 0 → (got : List ℕ) → (inRange s ≡ true → Ahead (homes s) l got) → row ≡ got → Looked s l old lane row
+  looks-anew z got a e = (λ y h. rw e (a h), λ n. absurd (n z))
+
+  -- they are as they were
+  pub looks-kept : (lane ≡ 0 → ⊥) → row ≡ old → Looked s l old lane row
+  looks-kept n e = (λ z h. absurd (n z), λ m. e)
 
 -- the state still has the homes of the first, and at item i those of the items up to the next
 -- twelfth stand in the row

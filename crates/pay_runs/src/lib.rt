@@ -6,16 +6,18 @@ use records::Told;
 use state::Done;
 use state::State;
 ghost use mathlib.Core.Path.{_≡_};
+ghost use mathlib.Core.Bool.{true};
 ghost use Prim.Native.Nat.{_*_, _≤_};
 ghost use lib.ListN.{length};
 ghost use lib.Dec.{eqb};
 ghost use Rattle.numbers.specs.Fields.{encode};
 ghost use Rattle.homes.specs.Homes.{Ready, homeIn};
+ghost use Rattle.state.specs.State.{inRange, homes};
 ghost use Rattle.register.specs.Calls.{stored};
 ghost use Rattle.register.specs.Files.{put, fileOf, left, after, numbersOf};
 ghost use Rattle.records.specs.Records.{recordIn, replyOf, bytesOfAll};
 ghost use Rattle.pay_runs.specs.PayRun.{items, endToEnd, putsIn, repliesTo, ran, toldOf};
-ghost use Rattle.pay_runs.specs.steps.Ahead.{keyAfter, Ahead, Looked, Homed};
+ghost use Rattle.pay_runs.specs.steps.Ahead.{keyAfter, Ahead, Homed};
 
 // The bytes of a put record, and of a reply.
 const RECORD: usize = 20;
@@ -66,16 +68,12 @@ fn homes_ahead(shape: Shape, input: &[u8]) -> [u64; LANES]
     homes::lanes::homes(shape, keys)
 }
 
-// The homes ahead, anew at the first of twelve items. Puts leave parameters and pages as they are,
-// so they hold until they are used up. A state out of range has no homes, and every put is refused.
-fn look_ahead(state: State, input: &[u8], old: [u64; LANES], lane: usize) -> [u64; LANES]
-    ensures { λ r. ⌜ Looked state (now (input .entry)) old lane r ⌝ }
+// The homes ahead of a state. One out of range has none, and every put on it is refused.
+fn look_ahead(state: State, input: &[u8]) -> [u64; LANES]
+    ensures { λ r. ⌜ (inRange state ≡ true → Ahead (homes state) (now (input .entry)) r) ⌝ }
 {
-    if lane != 0 {
-        return old;
-    }
     if !state.in_range() {
-        return old;
+        return [0u64; LANES];
     }
     let shape = state.shape();
     homes_ahead(shape, input)
@@ -107,7 +105,8 @@ fn put_one(state: State, area: &mut [u8], home: u64, input: &[u8], part: &mut [u
     after
 }
 
-// The items one by one, each with the pages and the state that the last one left.
+// The items one by one, each with the pages and the state that the last one left. Puts leave
+// parameters and pages as they are, so homes hold until they are used up.
 fn put_each(state: State, area: &mut [u8], input: &[u8], room: &mut [u8]) -> State
     requires { ⌜ length (now room) ≡ 28 * items (now input) ⌝ }
     ensures { λ r. let f = fileOf state (now (area .entry)) in let cs = putsIn (items (now (input .entry))) (now (input .entry)) in ⌜ (r ≡ after f cs .state) × ((now (area .exit) ≡ after f cs .area) × (now (room .exit) ≡ bytesOfAll (repliesTo f cs))) ⌝ }
@@ -118,7 +117,9 @@ fn put_each(state: State, area: &mut [u8], input: &[u8], room: &mut [u8]) -> Sta
     let mut i = 0;
     while i < count {
         let lane = i % LANES;
-        ahead = look_ahead(after, &input[RECORD * i..], ahead, lane);
+        if lane == 0 {
+            ahead = look_ahead(after, &input[RECORD * i..]);
+        }
         let at = REPLY * i;
         after = put_one(
             after,

@@ -1,10 +1,11 @@
 -- `pay_runs::put_each` meets its contract. The loop's invariant is `Going`, with `Knows` for the homes
 -- ahead; the measure is how many items are left.
+use mathlib.Core.Logic.{⊎-elim}
 use Prim.Native.Nat.{_-_}
 use native.Mathlib.Omega.{arith}
 use borrow.Author.Needs.{needs}
 use Rattle.register.specs.Files.{fileOf}
-use Rattle.pay_runs.proofs.Lookahead.{Knows, knows-first, home-here, knows-on}
+use Rattle.pay_runs.proofs.Lookahead.{looks-anew, looks-kept, Knows, knows-first, home-here, knows-on}
 use Rattle.pay_runs.proofs.Items.{Going, goes-first, goes-on, goes-out}
 use Rattle.pay_runs.proofs.put_each.Statement.{statement}
 use Rattle.pay_runs.proofs.put_each.Tie as tie
@@ -69,10 +70,11 @@ part-put-one-end-2 c = search needs
 
 put-one-requires : tie.Need-put-one-requires Inv-loop μ-loop
 put-one-requires c κs =
-    let a = c .before .before .before in
-    let t = a .before .before in
+    let j = c .before .before .before in
+    let t = j .before in
     let w = t .before .loop .inv in
-    (home-here (w .1) (w .0 .within) (a .look-ahead .result) (a .look-ahead .ensures) (t .loop-test .taken), (search needs, search needs))
+    let looked = ⊎-elim (λ v. looks-anew _ _ _ _ _ (v .0 .taken) _ (v .2 .ensures) (v .3)) (λ v. looks-kept _ _ _ _ _ (v .0 .left) (v .1)) (j .if1 .came) in
+    (home-here (w .1) (w .0 .within) (j .if1 .ahead) looked (t .loop-test .taken), (search needs, search needs))
 
 add-i : tie.Need-add-i Inv-loop μ-loop
 add-i c = search needs
@@ -83,11 +85,14 @@ loop-less c = search needs
 loop-again : tie.Need-loop-again Inv-loop μ-loop
 loop-again c =
     let o = c .before .before .before .before in
-    let a = o .before .before .before .before in
-    let t = a .before .before in
+    let j = o .before .before .before .before in
+    let t = j .before in
     let w = t .before .loop .inv in (
       goes-on (w .0) (t .loop-test .taken) (o .put-one .result) _ _ (o .put-one .ensures) (search needs) (search needs),
-      knows-on (w .1) (w .0 .within) (a .look-ahead .result) (a .look-ahead .ensures) _ _ (o .put-one .result) (o .put-one .ensures .0),
+      (
+          let looked = ⊎-elim (λ v. looks-anew _ _ _ _ _ (v .0 .taken) _ (v .2 .ensures) (v .3)) (λ v. looks-kept _ _ _ _ _ (v .0 .left) (v .1)) (j .if1 .came) in
+          knows-on (w .1) (w .0 .within) (j .if1 .ahead) looked _ _ (o .put-one .result) (o .put-one .ensures .0)
+          ),
     )
 
 same-length : tie.Need-same-length Inv-loop μ-loop

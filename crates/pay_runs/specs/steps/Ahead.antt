@@ -17,11 +17,6 @@ keyAfter l k = key (recordIn (drop (20 * k) l))
 abbrev pub Ahead : (ℕ → ℕ) → (l row : List ℕ) → Type 0
 Ahead f l row = (k : ℕ) → k < 12 → 20 * k + 20 ≤ length l → getD row k 0 ≡ f (keyAfter l k)
 
--- at the first of twelve items the homes are those of the items ahead, if the state has homes; at
--- another they are as they were
-abbrev pub Looked : State → (l old : List ℕ) → (lane : ℕ) → (row : List ℕ) → Type 0
-Looked s l old lane row = (lane ≡ 0 → inRange s ≡ true → Ahead (homes s) l row) × ((lane ≡ 0 → ⊥) → row ≡ old)
-
 -- the home that an item comes with is its own, if the state has homes
 abbrev pub Homed : State → (k home : ℕ) → Type 0
 Homed s k home = inRange s ≡ true → home ≡ homes s k

@@ -10,7 +10,7 @@ use lib.Seq.{drop-drop}
 use borrow.Author.Tests.{eq-eqb, eqb-true, ne-eqb, eqb-false}
 use Rattle.records.specs.Records.{firstOf, isPut}
 use Rattle.records.proofs.Lent.{from, from-drop}
-use Rattle.pay_runs.specs.PayRun.{items, endToEnd}
+use Rattle.pay_runs.specs.PayRun.{endToEnd}
 
 -- the heads of the first i records are right: what is left decides
 pub record Looking (l : List ℕ) (count i : ℕ) : Type 0 where

@@ -1,16 +1,15 @@
 -- What is promised of a run's bytes is proved.
-use mathlib.Core.Path.{_≡_, refl, _∙_}
+use mathlib.Core.Path.{_≡_, refl}
 use mathlib.Core.Bool.{Bool, true, false, cond}
 use mathlib.Core.Logic.{_↔_}
-use mathlib.Core.List.{List, _∷_, _++_}
+use mathlib.Core.List.{List}
 use Prim.Native.Nat.{ℕ, _*_}
 use native.Mathlib.Omega.{arith}
 use lib.Dec.{eqb}
 use lib.ListN.{length}
-use borrow.Author.Tests.{eq-eqb, eqb-true, eqb-false}
-use Rattle.numbers.specs.Little.{Bytes}
+use borrow.Author.Tests.{eq-eqb, eqb-true}
 use Rattle.pages.specs.Page.{Record}
-use Rattle.register.specs.Files.{Call, File}
+use Rattle.register.specs.Files.{File}
 use Rattle.records.specs.Records.{bytesOfAll}
 use Rattle.pay_runs.specs.PayRun.{items, endToEnd, putsIn, repliesTo, runRefusal, ran}
 use Rattle.pay_runs.specs.Promises.{recordsOf, AllSized, RunPromises}

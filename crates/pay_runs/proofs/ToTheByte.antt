@@ -1,11 +1,11 @@
 -- A run is read from the bytes of its put records, and from no others.
 use mathlib.Core.Path.{_≡_, refl, sym, ap, _∙_}
-use mathlib.Core.Bool.{Bool, true, _&&_}
+use mathlib.Core.Bool.{Bool, true}
 use mathlib.Core.List.{List, [], _∷_, _++_}
 use Prim.Native.Nat.{ℕ, zero, suc, _+_, _*_}
 use native.Mathlib.Omega.{arith}
 use lib.ListN.{length, take, drop, length-append, take-append-drop}
-use lib.Seq.{take-at, drop-at}
+use lib.Seq.{drop-at}
 use borrow.Author.Tests.{eqb-true}
 use Rattle.numbers.specs.Little.{Bytes}
 use Rattle.numbers.specs.Fields.{encode}

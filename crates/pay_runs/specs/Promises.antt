@@ -13,7 +13,7 @@ use Rattle.register.specs.Files.{Call, put, File, left, after, numbersOf}
 use Rattle.records.specs.declared.Command.the-variants.{Put}
 use Rattle.records.specs.Records.{layoutOf, replyOf}
 use Rattle.records.specs.Promises.{Sized}
-use Rattle.pay_runs.specs.PayRun.{items, putsIn, runRefusal, PayRun, ran}
+use Rattle.pay_runs.specs.PayRun.{items, putsIn, runRefusal, ran}
 
 -- "put records end to end (each as in the log)"
 unfoldable pub recordsOf : List Record → List ℕ

@@ -1,24 +1,18 @@
 -- The log that holds a run's records does what the run does.
-use mathlib.Core.Path.{_≡_, refl, sym, ap, _∙_}
-use mathlib.Core.Bool.{Bool, true, false, _&&_}
-use mathlib.Core.Logic.{_⊎_, inl, inr}
+use mathlib.Core.Path.{_≡_, refl, ap, _∙_}
+use mathlib.Core.Bool.{Bool, true, false}
 use mathlib.Core.List.{List, [], _∷_, _++_, append-nil}
 use Prim.Native.Nat.{ℕ, zero, suc, _+_, _*_, _≤_, _<_, min}
-use native.Mathlib.Nat.{zero-add}
 use native.Mathlib.Omega.{arith}
 use lib.Dec.{ltb}
 use lib.ListN.{length, take, drop, length-take, length-drop, drop-of-length-le}
-use lib.Seq.{take-all, take-at, drop-at, length-take-le}
+use lib.Seq.{take-all, take-at, drop-at}
 use borrow.Author.Tests.{eq-eqb, ne-eqb, eqb-true, ltb-true, ltb-false}
 use Rattle.numbers.specs.Little.{written}
-use Rattle.numbers.proofs.Laws.{written-nil, written-all}
+use Rattle.numbers.proofs.Laws.{written-nil}
 use Rattle.numbers.proofs.Records.{and-left, and-right}
-use Rattle.placing.specs.Image.{All}
-use Rattle.pages.specs.Page.{Record}
-use Rattle.state.specs.declared.State.{State}
-use Rattle.register.specs.Files.{Call, put, File, fileOf, Left, left, after, numbersOf}
+use Rattle.register.specs.Files.{Call, put, File, left, after}
 use Rattle.records.specs.declared.Command.the-variants.{Put}
-use Rattle.records.specs.declared.Item.the-variants.{Asks}
 use Rattle.records.specs.Records.{firstOf, isPut, recordIn}
 use Rattle.records.proofs.ToTheByte.{put-first}
 use Rattle.commands.specs.Execute.{Site, site, executed}

@@ -1,8 +1,8 @@
 -- Runs are histories of their puts, and do what a log of the same records does.
 use mathlib.Core.Path.{_≡_, refl, sym, ap, _∙_}
 use mathlib.Core.Bool.{Bool, true, false, cond}
-use mathlib.Core.List.{List, [], _∷_, _++_}
-use Prim.Native.Nat.{ℕ, _+_, _-_, _*_}
+use mathlib.Core.List.{List, [], _∷_}
+use Prim.Native.Nat.{ℕ, _-_, _*_}
 use native.Mathlib.Omega.{arith}
 use lib.Dec.{eqb}
 use lib.ListN.{length}
@@ -11,14 +11,14 @@ use Rattle.numbers.specs.Little.{Bytes}
 use Rattle.placing.specs.Image.{All}
 use Rattle.placing.proofs.Lists.{all-append}
 use Rattle.pages.specs.Page.{Record}
-use Rattle.register.specs.Files.{Call, File, after}
+use Rattle.register.specs.Files.{File, after}
 use Rattle.register.proofs.After.{after-append}
 use Rattle.demands.specs.Histories.{Fits}
 use Rattle.commands.specs.Execute.{Site}
 use Rattle.commands.specs.Log.{wholeLog}
 use Rattle.log_demands.specs.LogDemands.{fileAt}
 use Rattle.pay_runs.specs.PayRun.{items, endToEnd, putsIn, putAll, runRefusal, ran, madeBy}
-use Rattle.pay_runs.specs.Promises.{recordsOf, putsOf, AllSized}
+use Rattle.pay_runs.specs.Promises.{putsOf, AllSized}
 use Rattle.pay_runs.proofs.Running.{run-after}
 use Rattle.pay_runs.proofs.Promises.{run-promises}
 use Rattle.run_demands.specs.RunDemands.{Act, call, run, FitsAct, leftBy, afterAll, callsOf, oneByOne, AsLog, RunDemands}

@@ -1,6 +1,5 @@
 -- One turn in the code's terms: steps between code and definition.
 use Prim.Native.Nat.{ℕ, _≤_}
-use mathlib.Core.Path.{_≡_}
 use mathlib.Core.List.{List}
 use Rattle.numbers.specs.Fields.{encode}
 use Rattle.records.specs.Records.{refusedBy, replyOf}

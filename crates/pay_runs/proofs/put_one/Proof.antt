@@ -1,5 +1,4 @@
 -- `pay_runs::put_one` meets its contract: the put's numbers and the state after it are its reply.
-use mathlib.Core.Path.{sym}
 use denote.Ref.{now}
 use borrow.Author.Needs.{needs}
 use Rattle.pay_runs.proofs.Items.{one-put}

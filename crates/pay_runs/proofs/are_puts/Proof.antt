@@ -1,5 +1,5 @@
--- `pay_runs::are_puts` meets its contract. The loop's invariant is `Looking`; the measure is how many
--- heads are left.
+-- `pay_runs::are_puts` meets its contract. The loop's invariant is `Looking`; the measure is how
+-- many heads are left.
 use Prim.Native.Nat.{_-_}
 use native.Mathlib.Omega.{arith}
 use borrow.Author.Needs.{needs}

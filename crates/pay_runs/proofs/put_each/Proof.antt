@@ -1,5 +1,5 @@
--- `pay_runs::put_each` meets its contract. The loop's invariant is `Going`, with `Knows` for the homes
--- ahead; the measure is how many items are left.
+-- `pay_runs::put_each` meets its contract. The loop's invariant is `Going`, with `Knows` for the
+-- homes ahead; the measure is how many items are left.
 use mathlib.Core.Logic.{⊎-elim}
 use Prim.Native.Nat.{_-_}
 use native.Mathlib.Omega.{arith}

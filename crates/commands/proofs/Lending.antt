@@ -9,8 +9,10 @@ use lib.Seq.{length-take-le, take-all, take-take}
 use Rattle.numbers.specs.Little.{written}
 use Rattle.numbers.proofs.Laws.{written-same}
 use Rattle.state.specs.declared.Done.{Done}
-use Rattle.register.specs.Calls.{Outcome, Growth}
-use Rattle.register.proofs.Answers.{Comes, Grows}
+use Rattle.changes.specs.Changes.{Outcome}
+use Rattle.register.specs.Calls.{Growth}
+use Rattle.changes.proofs.Settling.{Comes}
+use Rattle.register.proofs.Answers.{Grows}
 use Rattle.records.specs.declared.Told.{Told}
 use Rattle.records.specs.Records.{tells}
 

@@ -11,7 +11,7 @@ use Rattle.state.specs.Answer.{told, numbers}
 use Rattle.gates.specs.declared.Gate.{Gate}
 use Rattle.gates.specs.declared.Gate.the-variants.{Open, Shut}
 use Rattle.gates.specs.Gates.{onGate}
-use Rattle.register.specs.Calls.{done, Outcome, refused}
+use Rattle.changes.specs.Changes.{done, Outcome, refused}
 use Rattle.register.specs.Files.{Call, File}
 use Rattle.demands.specs.Refusals.{BrokenAt, order, OneOf, gives, AcceptedTells}
 use Rattle.demands.proofs.InOrder.{listed, one-of, none-of, Comes}

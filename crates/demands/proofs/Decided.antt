@@ -29,7 +29,8 @@ use Rattle.gates.specs.declared.Gate.{Gate}
 use Rattle.gates.specs.declared.Gate.the-variants.{Open, Shut}
 use Rattle.gates.specs.Gates.{onGate, gateOf, imageGate, growGate}
 use Rattle.register.specs.OneImage.{ImageOfR}
-use Rattle.register.specs.Calls.{done, grownFile}
+use Rattle.changes.specs.Changes.{done}
+use Rattle.register.specs.Calls.{grownFile}
 use Rattle.register.specs.Files.{Call, format, grow, check, File, left}
 use Rattle.demands.specs.Refusals.{RightArea, SomeBroken, LowestBroken, RoomToGrow, order, OneOf, gives, tells, AcceptedTells, Judges}
 use Rattle.demands.proofs.InOrder.{listed, one-of, none-of, Comes}

@@ -14,7 +14,7 @@ use Rattle.state.specs.declared.Answer.the-variants.{Accepted, OutOfRange, Wron
 use Rattle.state.specs.State.{inRange, homes, fresh}
 use Rattle.gates.specs.declared.Gate.the-variants.{Open, Shut}
 use Rattle.gates.specs.Gates.{onGate, gateOf}
-use Rattle.register.specs.Calls.{done, refused}
+use Rattle.changes.specs.Changes.{done, refused}
 use Rattle.register.specs.Files.{format, File, Left, leaves, ofOutcome, left}
 use Rattle.demands.specs.Histories.{stateOf, begun}
 use Rattle.demands.proofs.Standing.{Stands}

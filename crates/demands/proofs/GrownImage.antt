@@ -28,7 +28,8 @@ use Rattle.state.specs.declared.Answer.the-variants.{Accepted, WrongRow, NoRoom
 use Rattle.state.specs.State.{homes, grown}
 use Rattle.gates.specs.declared.Gate.the-variants.{Open}
 use Rattle.gates.specs.Gates.{imageGate}
-use Rattle.register.specs.Calls.{done, checked, Growth, grownFile, grew}
+use Rattle.changes.specs.Changes.{done}
+use Rattle.register.specs.Calls.{checked, Growth, grownFile, grew}
 use Rattle.gates.proofs.Gating.{row-shut, cap-shut, pages-decide}
 use Rattle.gates.proofs.Judging.{good-open}
 use Rattle.register.proofs.CheckImage.{image-good}

@@ -20,7 +20,7 @@ use Rattle.walks.specs.declared.Met.the-variants.{Found, Ends}
 use Rattle.walks.specs.declared.Met.the-variants as mets
 use Rattle.walks.specs.Walks.{Walked, went, stopped, walk, findAnswer, carry, putMet, putWalk}
 use Rattle.gates.specs.Gates.{onGate, gateOf}
-use Rattle.register.specs.Calls.{settled}
+use Rattle.changes.specs.Changes.{settled}
 use Rattle.register.specs.Files.{find, put, File}
 use Rattle.demands.specs.Refusals.{OneOf, tells}
 use Rattle.demands.proofs.InOrder.{listed, none-of, each-of}

@@ -21,7 +21,7 @@ use Rattle.state.specs.State.{homes}
 use Rattle.state.specs.Answer.{again}
 use Rattle.state.proofs.Ranges.{more-range, less-range}
 use Rattle.walks.specs.Walks.{stopped, walk, findAnswer, putWalk, removeWalk}
-use Rattle.register.specs.Calls.{done}
+use Rattle.changes.specs.Changes.{done}
 use Rattle.register.specs.Files.{Call, find, put, remove, File, leaves, left}
 use Rattle.demands.specs.Histories.{Kept, stateOf, without, commitOf, holding}
 use Rattle.demands.specs.ReadMoved.{differ}

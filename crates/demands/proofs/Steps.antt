@@ -21,7 +21,8 @@ use Rattle.state.specs.State.{homes, grown}
 use Rattle.state.specs.Answer.{numbers, again}
 use Rattle.state.proofs.Ranges.{ranged, grown-range}
 use Rattle.state.proofs.Answers.{again-same, again-other}
-use Rattle.register.specs.Calls.{done, Growth, grew}
+use Rattle.changes.specs.Changes.{done}
+use Rattle.register.specs.Calls.{Growth, grew}
 use Rattle.register.specs.Files.{Call, format, find, put, remove, grow, check, due, File, says, Left, leaves, ofGrowth, left, numbersOf, after}
 use Rattle.demands.specs.Histories.{Fits, refusal, Kept, stateOf, without, commitOf, begun, holding, paged, makes, kept}
 use Rattle.demands.proofs.GrownImage.{grownPages, grownRow, accepts, refuses, check-yes, grow-refused-row, grow-at-cap, grow-room, grow-full, grown-image}

@@ -19,7 +19,8 @@ use Rattle.walks.specs.Walks.{Walked, went, stopped, walk, findAnswer, putWalk,
 use Rattle.gates.specs.declared.Gate.{Gate}
 use Rattle.gates.specs.declared.Gate.the-variants.{Open, Shut}
 use Rattle.gates.specs.Gates.{onGate, gateOf, imageGate, growGate}
-use Rattle.register.specs.Calls.{done, Outcome, refused, settled, putOpen, removeOpen, grownFile}
+use Rattle.changes.specs.Changes.{done, Outcome, refused, settled, putOpen, removeOpen}
+use Rattle.register.specs.Calls.{grownFile}
 use Rattle.register.specs.Files.{format, find, put, remove, grow, check, due, File, Left, ofOutcome, ofGrowth, leaves, left, numbersOf}
 use Rattle.demands.specs.Histories.{refusal}
 use Rattle.demands.specs.Demands.{Total}

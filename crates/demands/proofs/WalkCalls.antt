@@ -19,7 +19,7 @@ use Rattle.walks.specs.declared.Met.the-variants.{Found, Ends}
 use Rattle.walks.specs.declared.Met.the-variants as mets
 use Rattle.walks.specs.Walks.{Walked, went, stopped, walk, findAnswer, putWalk, removeWalk}
 use Rattle.gates.specs.Gates.{onGate, gateOf}
-use Rattle.register.specs.Calls.{done, settled, putOpen, removeOpen}
+use Rattle.changes.specs.Changes.{done, settled, putOpen, removeOpen}
 use Rattle.register.specs.Files.{Call, find, put, remove, File, left}
 use Rattle.demands.specs.Refusals.{RightArea, order, OneOf, gives, tells, AcceptedTells}
 use Rattle.demands.proofs.InOrder.{listed, one-of, none-of, Comes}

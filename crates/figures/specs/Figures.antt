@@ -19,7 +19,8 @@ use Rattle.walks.specs.Walks.{walk, putWalk}
 use Rattle.survey.specs.Survey.{isImage, surveyed}
 use Rattle.rebuild.specs.Relaid.{relaid}
 use Rattle.gates.specs.Gates.{gateOf, imageGate, growGate}
-use Rattle.register.specs.Calls.{Outcome, Growth, formatted, stored, grownFile, grew}
+use Rattle.changes.specs.Changes.{Outcome}
+use Rattle.register.specs.Calls.{Growth, formatted, stored, grownFile, grew}
 
 -- "Seed 1: draws"
 abbrev draws : List ℕ

@@ -17,7 +17,7 @@ use Rattle.state.specs.declared.Answer.the-variants.{Accepted, OutOfRange, Wron
 use Rattle.state.specs.State.{inRange, fresh}
 use Rattle.gates.specs.declared.Gate.the-variants.{Open, Shut}
 use Rattle.gates.specs.Gates.{onGate, gateOf}
-use Rattle.register.specs.Calls.{done, Outcome, refused}
+use Rattle.changes.specs.Changes.{done, Outcome, refused}
 use Rattle.register.specs.Files.{Call, format, File, ofOutcome, left, numbersOf, after}
 use Rattle.register.proofs.After.{after-append}
 use Rattle.demands.specs.Histories.{Fits, refusal, Kept, begun, makes, kept}

@@ -23,7 +23,7 @@ use Rattle.walks.specs.declared.Met.the-variants as met
 use Rattle.walks.specs.Walks.{Pages, Walked, went, stopped, andPage, carry, walk, putMet, putWalk, writes}
 use Rattle.gates.specs.declared.Gate.the-variants.{Open, Shut}
 use Rattle.gates.specs.Gates.{onGate, gateOf}
-use Rattle.register.specs.Calls.{refused, settled, putOpen}
+use Rattle.changes.specs.Changes.{refused, settled, putOpen}
 use Rattle.register.specs.Files.{put, File, left}
 
 -- pages that lie below a size

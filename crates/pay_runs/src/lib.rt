@@ -87,7 +87,7 @@ fn put_known(state: State, area: &mut [u8], home: u64, new: Record) -> Done
     let gate = gates::enter(state, area.len());
     match gate {
         Gate::Shut { why } => Done { state, answer: why },
-        Gate::Open => register::put_open(state, area, home, new),
+        Gate::Open => changes::put_open(state, area, home, new),
     }
 }
 

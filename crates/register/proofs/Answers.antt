@@ -18,15 +18,13 @@ use Rattle.state.proofs.Ranges.{ranged}
 use Rattle.gates.specs.declared.Gate.{Gate}
 use Rattle.gates.specs.declared.Gate.the-variants.{Open, Shut}
 use Rattle.gates.specs.Gates.{gateOf, imageGate, growEntry, growGate}
+use Rattle.changes.proofs.Settling.{Comes}
 use Rattle.register.specs.steps.Past.{grewEntered}
-use Rattle.register.specs.Calls.{done, Outcome, formatted, checked, Growth, grownFile, grew}
+use Rattle.changes.specs.Changes.{done, Outcome}
+use Rattle.register.specs.Calls.{formatted, checked, Growth, grownFile, grew}
 use Rattle.gates.proofs.Gating.{range-shut}
 
--- the state and answer, and the area, of an outcome
-abbrev pub Comes : Done → List ℕ → Outcome → Type 0
-Comes d area o = (d ≡ o .done) × (area ≡ o .area)
-
--- the same of a growth, with the row
+-- the state and answer, the area and the row of a growth
 abbrev pub Grows : Done → List ℕ → List ℕ → Growth → Type 0
 Grows d area row o = (d ≡ o .done) × ((area ≡ o .area) × (row ≡ o .row))
 

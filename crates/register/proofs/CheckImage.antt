@@ -25,7 +25,8 @@ use Rattle.state.specs.State.{inRange, homes}
 use Rattle.gates.specs.declared.Gate.the-variants.{Open, Shut}
 use Rattle.gates.specs.Gates.{onGate, gateOf, imageOf, imageGate}
 use Rattle.register.specs.OneImage.{AreaImage, ImageOfR}
-use Rattle.register.specs.Calls.{done, checked}
+use Rattle.changes.specs.Changes.{done}
+use Rattle.register.specs.Calls.{checked}
 use Rattle.gates.proofs.Gating.{gate-open}
 use Rattle.gates.proofs.Judging.{GoodFile, open-good, good-open}
 

@@ -38,7 +38,8 @@ use Rattle.state.proofs.Ranges.{ranged, in-shape, grown-range}
 use Rattle.gates.specs.declared.Gate.the-variants.{Open}
 use Rattle.gates.specs.Gates.{imageOf, imageGate}
 use Rattle.register.specs.steps.Past.{OnePageMore}
-use Rattle.register.specs.Calls.{done, grownCounts, grownFile}
+use Rattle.changes.specs.Changes.{done}
+use Rattle.register.specs.Calls.{grownCounts, grownFile}
 use Rattle.gates.proofs.Judging.{open-counted, GoodFile, open-good}
 use Rattle.register.proofs.Answers.{Grows}
 

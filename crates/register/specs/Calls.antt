@@ -1,7 +1,7 @@
 -- The calls of the register: what each answers, and the state, the area and the row that it leaves,
 -- for any numbers and any bytes. What is quoted is 01's.
 use Prim.Native.Nat.{ℕ, _*_}
-use mathlib.Core.Bool.{Bool, cond}
+use mathlib.Core.Bool.{cond}
 use mathlib.Core.List.{List, []}
 use lib.ListN.{length, replicate}
 use lib.Dec.{eqb}
@@ -13,25 +13,13 @@ use Rattle.pages.specs.Page.{Record, key, homeFor}
 use Rattle.pages.specs.Area.{heldFrom, areaFrom}
 use Rattle.rebuild.specs.Relaid.{relaid}
 use Rattle.state.specs.declared.State.{State}
-use Rattle.state.specs.State.{homes, fresh, oneMore, oneLess, grown}
+use Rattle.state.specs.State.{homes, fresh, grown}
 use Rattle.state.specs.declared.Done.{Done}
 use Rattle.state.specs.declared.Answer.{Answer}
-use Rattle.state.specs.declared.Answer.the-variants.{Accepted, NoRoom, NotImage}
-use Rattle.walks.specs.Walks.{Walked, went, stopped, walk, findAnswer, putWalk, removeWalk, writes}
+use Rattle.state.specs.declared.Answer.the-variants.{Accepted, NoRoom}
+use Rattle.walks.specs.Walks.{walk, findAnswer}
+use Rattle.changes.specs.Changes.{done, Outcome, refused, putOpen, removeOpen}
 use Rattle.gates.specs.Gates.{onGate, gateOf, imageGate, growGate}
-
--- what a call answers, with the state after it
-abbrev pub done : State → Answer → Done
-done s answer = record { state = s; answer = answer }
-
--- what a call that may write comes to
-pub record Outcome : Type 0 where
-  pub done : Done
-  pub area : List ℕ
-
--- "A refusal leaves area and state unchanged"
-abbrev pub refused : State → List ℕ → Answer → Outcome
-refused s area why = record { done = done s why; area = area }
 
 -- Format: "empty file, P = n0 x N, r = 0"; "judged on the numbers it is asked for, not on the state
 -- before it"
@@ -44,23 +32,8 @@ formatted old q cap area =
 abbrev pub found : State → List ℕ → (k : ℕ) → Done
 found s area k = onGate (gateOf s (length area)) (done s) (done s (findAnswer (walk (homes s) area (s .cap) k)))
 
--- "Put and remove 1, 2, the walk (4, 5, 6 or 7 as met), then 9", with 13 beside 6 (02, request 1):
--- where it went well, the state after it is `next`, unless the count is wrong
-abbrev pub settled : State → List ℕ → (next : State) → (wrong : Bool) → Walked → Outcome
-settled s area next wrong (stopped why) = refused s area why
-settled s area next wrong (went pages read moved) =
-    cond wrong (refused s area (NotImage read)) (record { done = done next (Accepted 0 read moved); area = writes area pages })
-
--- 9: "put where r = 12 x cap"
-abbrev pub putOpen : State → List ℕ → Record → Outcome
-putOpen s area x = settled s area (oneMore s) (eqb (s .r) (12 * s .cap)) (putWalk (homes s) area (s .cap) x)
-
 abbrev pub stored : State → List ℕ → Record → Outcome
 stored s area x = onGate (gateOf s (length area)) (refused s area) (putOpen s area x)
-
--- 9: "remove where r = 0"
-abbrev pub removeOpen : State → List ℕ → (k : ℕ) → Outcome
-removeOpen s area k = settled s area (oneLess s) (eqb (s .r) 0) (removeWalk (homes s) area (s .cap) k)
 
 abbrev pub removed : State → List ℕ → (k : ℕ) → Outcome
 removed s area k = onGate (gateOf s (length area)) (refused s area) (removeOpen s area k)

@@ -11,7 +11,8 @@ use Rattle.state.specs.declared.Answer.{Answer}
 use Rattle.state.specs.declared.Numbers.{Numbers}
 use Rattle.state.specs.State.{isDue}
 use Rattle.state.specs.Answer.{numbers}
-use Rattle.register.specs.Calls.{Outcome, Growth, formatted, found, stored, removed, checked, grew}
+use Rattle.changes.specs.Changes.{Outcome}
+use Rattle.register.specs.Calls.{Growth, formatted, found, stored, removed, checked, grew}
 
 -- "Calls: format .., find, put, remove, grow .., check, due", each with what it is given beside
 -- state and area

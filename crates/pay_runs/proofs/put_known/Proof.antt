@@ -1,4 +1,4 @@
--- `pay_runs::put_known` meets its contract: past its gate it is `register::put_open`.
+-- `pay_runs::put_known` meets its contract: past its gate it is `changes::put_open`.
 use denote.Ref.{now}
 use borrow.Author.Needs.{needs}
 use Rattle.gates.proofs.Gating.{past}

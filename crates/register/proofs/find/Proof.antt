@@ -3,7 +3,8 @@ use denote.Ref.{now}
 use borrow.Author.Needs.{needs}
 use Rattle.state.proofs.Ranges.{ranged}
 use Rattle.gates.proofs.Gating.{past}
-use Rattle.register.proofs.Settling.{met-low, shape-fits, find-shut, find-open}
+use Rattle.changes.proofs.Settling.{shape-fits}
+use Rattle.register.proofs.Settling.{met-low, find-shut, find-open}
 use Rattle.register.proofs.find.Statement.{statement}
 use Rattle.register.proofs.find.Tie as tie
 

@@ -13,7 +13,8 @@ use Rattle.state.specs.State.{inRange, grown}
 use Rattle.gates.specs.declared.Gate.{Gate}
 use Rattle.gates.specs.declared.Gate.the-variants.{Open, Shut}
 use Rattle.gates.specs.Gates.{onGate, imageGate}
-use Rattle.register.specs.Calls.{done, Growth, grownFile}
+use Rattle.changes.specs.Changes.{done}
+use Rattle.register.specs.Calls.{Growth, grownFile}
 
 -- what is known past the whole gate of a growth
 abbrev pub OpenToGrow : State → List ℕ → ℕ → Gate → Type 0

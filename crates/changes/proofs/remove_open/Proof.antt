@@ -1,12 +1,12 @@
--- `register::remove_open` meets its contract: the plan decides, then the number of records.
+-- `changes::remove_open` meets its contract: the plan decides, then the number of records.
 use Prim.Native.Nat.{_+_, _*_, _≤_, _<_}
 use lib.ListN.{length}
 use denote.Ref.{now}
 use borrow.Author.Needs.{needs}
 use Rattle.state.proofs.Ranges.{ranged}
-use Rattle.register.proofs.Settling.{shape-fits, remove-stops, remove-none, remove-goes, writes-low}
-use Rattle.register.proofs.remove_open.Statement.{statement}
-use Rattle.register.proofs.remove_open.Tie as tie
+use Rattle.changes.proofs.Settling.{shape-fits, remove-stops, remove-none, remove-goes, writes-low}
+use Rattle.changes.proofs.remove_open.Statement.{statement}
+use Rattle.changes.proofs.remove_open.Tie as tie
 
 -- where the plan writes
 low : (c : tie.After-plan2)

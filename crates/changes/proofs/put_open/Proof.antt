@@ -1,13 +1,13 @@
--- `register::put_open` meets its contract: the plan decides, then the number of records.
+-- `changes::put_open` meets its contract: the plan decides, then the number of records.
 use Prim.Native.Nat.{_+_, _*_, _≤_, _<_}
 use lib.ListN.{length}
 use denote.Ref.{now}
 use borrow.Author.Needs.{needs}
 use Rattle.homes.specs.Homes.{homeIn}
 use Rattle.state.proofs.Ranges.{ranged}
-use Rattle.register.proofs.Settling.{shape-fits, home-shaped, put-stops, put-full, put-goes, writes-low, place-known, more-low}
-use Rattle.register.proofs.put_open.Statement.{statement}
-use Rattle.register.proofs.put_open.Tie as tie
+use Rattle.changes.proofs.Settling.{shape-fits, home-shaped, put-stops, put-full, put-goes, writes-low, place-known, more-low}
+use Rattle.changes.proofs.put_open.Statement.{statement}
+use Rattle.changes.proofs.put_open.Tie as tie
 
 -- where the plan writes
 low : (c : tie.After-plan2)

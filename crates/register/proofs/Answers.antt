@@ -20,7 +20,7 @@ use Rattle.gates.specs.declared.Gate.the-variants.{Open, Shut}
 use Rattle.gates.specs.Gates.{gateOf, imageGate, growEntry, growGate}
 use Rattle.changes.proofs.Settling.{Comes}
 use Rattle.register.specs.steps.Past.{grewEntered}
-use Rattle.changes.specs.Changes.{done, Outcome}
+use Rattle.changes.specs.Changes.{done}
 use Rattle.register.specs.Calls.{formatted, checked, Growth, grownFile, grew}
 use Rattle.gates.proofs.Gating.{range-shut}
 

@@ -1,6 +1,6 @@
 -- The calls of the register: what each answers, and the state, the area and the row that it leaves,
 -- for any numbers and any bytes. What is quoted is 01's.
-use Prim.Native.Nat.{ℕ, _*_}
+use Prim.Native.Nat.{ℕ}
 use mathlib.Core.Bool.{cond}
 use mathlib.Core.List.{List, []}
 use lib.ListN.{length, replicate}
@@ -15,7 +15,6 @@ use Rattle.rebuild.specs.Relaid.{relaid}
 use Rattle.state.specs.declared.State.{State}
 use Rattle.state.specs.State.{homes, fresh, grown}
 use Rattle.state.specs.declared.Done.{Done}
-use Rattle.state.specs.declared.Answer.{Answer}
 use Rattle.state.specs.declared.Answer.the-variants.{Accepted, NoRoom}
 use Rattle.walks.specs.Walks.{walk, findAnswer}
 use Rattle.changes.specs.Changes.{done, Outcome, refused, putOpen, removeOpen}

@@ -41,10 +41,7 @@ uint32_t baseline_home(const struct way *way, uint64_t key) {
 
 // Whether a key is a mover at the last of so many steps, at which a group has `turn` pages.
 bool baseline_mover(uint64_t key, uint32_t turn, uint32_t steps) {
-    uint32_t draw = seed_of(key);
-    for (; steps; steps--)
-        draw = next_draw(draw);
-    return moves(draw, limit_of(turn));
+    return moves(draw_of(seed_of(key), steps), limit_of(turn));
 }
 
 void baseline_homes(const struct way *way, struct sight *sight) {

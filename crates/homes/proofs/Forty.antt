@@ -57,26 +57,6 @@ size-forty n0 N h k l =
     let scaled : sizeAfter n0 40 1 (n0 * N) N ≡ sizeAfter n0 40 1 n0 1 * N = ap (sizeAfter n0 40 1 (n0 * N)) (sym one) ∙ size-scaled n0 N 40 1 n0 1 in
     omega (arith, from-one n0 h k, mul-le-mul-right (sizeAfter n0 40 1 n0 1) l)
 
--- The size never falls below where it started.
-pub size-low : (n0 n x F G : ℕ) → F ≤ sizeAfter n0 n x F G
-unfolding sizeAfter
-size-low n0 zero x F G = omega arith
-size-low n0 (suc n) x F G = omega (arith, size-low n0 n (suc x) (F + G) (nextGroups n0 x G))
-
--- More steps make no smaller size.
-pub size-up : (n0 i j x F G : ℕ) → sizeAfter n0 i x F G ≤ sizeAfter n0 (i + j) x F G
-unfolding sizeAfter
-size-up n0 zero j x F G = size-low n0 (zero + j) x F G
-size-up n0 (suc i) j x F G = rw (suc-add i j) (size-up n0 i j (suc x) (F + G) (nextGroups n0 x G))
-
--- A size below 4,096 comes before step 40, counted from 0: the step taken there is one of the
--- forty.
-pub steps-few : (n0 N i : ℕ) → 1 ≤ n0 → n0 ≤ 4 → 1 ≤ N → sizeAfter n0 i 1 (n0 * N) N < 4096 → i < 40
-steps-few n0 N i h k l e =
-    ⊎-elim (λ lt. lt)
-    (λ ge. absurd (omega (arith, size-forty n0 N h k l, size-up n0 40 (i - 40) 1 (n0 * N) N, ap (λ (n : ℕ). sizeAfter n0 n 1 (n0 * N) N) (add-sub-of-le ge))))
-    (split i 40)
-
 -- As many steps as `home` takes are enough.
 pub whole : (left : ℕ) (q : Params) (P K : ℕ) → InRange q P → P - firstPages q ≤ left → home q P K ≡ homeWithin left q P K
 unfolding home

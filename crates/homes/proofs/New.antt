@@ -39,6 +39,11 @@ pub swept-high : (s F G k : ℕ) → 0 < s → k < G → swept s F G k < F + G
 unfolding swept
 swept-high s F G k hs hk = omega (arith, swept-sweep s G k hs hk, mul-le-mul-right (G / s) (mod-lt k hs), div-add-mod' G s)
 
+-- A new page is as far behind F as it is from 0 at size 0.
+pub swept-from : (s F G k : ℕ) → swept s F G k ≡ F + swept s 0 G k
+unfolding swept
+swept-from s F G k = omega arith
+
 -- A new page is not one of the F pages before it.
 pub new-low : (s F G a : ℕ) → F ≤ newPage s F G a
 unfolding swept

@@ -2,13 +2,15 @@
 --
 use Rattle.homes.specs.Promises.{HomesPromises}
 use Rattle.homes.proofs.New.{new-low, new-high}
-use Rattle.homes.proofs.Sweeps.{new-one, new-onto}
+use Rattle.homes.proofs.Filled.{new-one, new-onto}
+use Rattle.homes.proofs.Draws.{by-table}
 use Rattle.homes.proofs.Forty as Forty
 use Rattle.homes.proofs.Homes as Homes
 
 pub homes-promises : HomesPromises
 homes-promises =
     record {
+      one-step = by-table;
       whole-loop = Forty.whole;
       forty = Forty.forty;
       home-below = Homes.home-below;

@@ -7,7 +7,7 @@ use Prim.Native.Nat.{ℕ, _+_, _≤_, _<_}
 use native.Mathlib.Omega.{arith}
 use lib.ListN.{length, getD, set, length-set}
 use lib.Seq.{getD-set-same, getD-set-other}
-use Rattle.homes.specs.steps.Lanes.{Lane}
+use Rattle.homes.specs.declared.lane.Lane.{Lane}
 use Rattle.homes.proofs.New.{split}
 
 -- the first i places of the row are those that `new` says
@@ -35,5 +35,5 @@ pub over : {n : ℕ} {new : ℕ → ℕ} {row : List ℕ} {i m : ℕ} → Passed
 over p e j h = p .done j (omega arith)
 
 -- Two lanes are the same where their numbers are.
-pub same : {a b : Lane} → a .draw ≡ b .draw → a .turn ≡ b .turn → a .group ≡ b .group → a ≡ b
-same p q r = λ i. record { draw = p i; turn = q i; group = r i }
+pub same : {a b : Lane} → a .turn ≡ b .turn → a .group ≡ b .group → a ≡ b
+same p q = λ i. record { turn = p i; group = q i }

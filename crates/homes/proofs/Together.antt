@@ -1,144 +1,165 @@
--- What the loop of `lanes::homes` holds of each lane before a step, and that a turn keeps it. On
--- plain numbers.
+-- A step of a key that is kept as a lane, alone and with others. On plain numbers.
 --
 use mathlib.Core.Path.{_≡_, refl, sym, ap, subst, _∙_}
-use mathlib.Core.Bool.{Bool, true, false, cond, _&&_}
+use mathlib.Core.Bool.{Bool, true, false, cond, _&&_, false≢true}
+use mathlib.Core.Logic.{_⊎_, inl, inr, ⊎-elim}
 use mathlib.Core.List.{List, [], _∷_, map}
-use Prim.Native.Nat.{ℕ, zero, suc, _+_, _-_, _*_, _/_, _%_, _≤_, _<_}
-use native.Mathlib.Nat.{add-mul, mul-assoc, mul-add-mod-self-right, mod-eq-of-lt, zero-mod, div-add-mod'}
+use Prim.Native.Nat.{ℕ, zero, suc, _+_, _-_, _*_, _%_, _≤_, _<_}
+use native.Mathlib.Nat.{mul-add-mod-self-right, mod-eq-of-lt}
 use native.Mathlib.Omega.{arith}
 use lib.ListN.{length, getD}
-use lib.Dec.{leb, ltb}
+use lib.Dec.{ltb, eqb}
+use borrow.Author.Tests.{lt-ltb, ltb-true, ltb-false, eq-eqb, eqb-true}
 use Rattle.homes.specs.declared.Stage.{Stage}
-use Rattle.homes.specs.Homes.{swept, newPage, movedTo, np, mover, params, home, nextGroups, InRange}
-use Rattle.homes.specs.steps.Stages.{stageAt, nextStep, After, Bounded}
-use Rattle.homes.specs.steps.Lanes.{Lane, startsAt, addressOf, stepped, regrouped}
-use Rattle.homes.proofs.Round.{even-kept, groups-kept, groups-doubled}
-use Rattle.homes.proofs.Steps.{stopped}
-use Rattle.homes.proofs.Turn.{Before, starts, turned}
+use Rattle.homes.specs.declared.lane.Lane.{Lane}
+use Rattle.homes.specs.Homes.{seedOf, newPage, movedTo, mover}
+use Rattle.homes.specs.steps.Stages.{After}
+use Rattle.homes.specs.steps.Lanes.{addressOf, InGroup, aimed, steppedTo, goneTo, picked}
+use Rattle.homes.proofs.New.{split, swept-from, swept-high}
+use Rattle.homes.proofs.Turn.{Stepping, Leads, leads-on, size-next, groups-same, groups-twice}
 
--- Before a step: what holds of a key alone, and that the pages are np for each group.
-pub record Going (n0 N s P K : ℕ) (t : Stage) (l : Lane) : Type 0 where
-  pub before : Before n0 N s P K t (addressOf (t .g) l) (l .draw)
-  pub even : t .f ≡ t .np * t .g
-  pub small : t .f ≤ 8192
+-- The page of a lane's new page.
+new-of : (s F G np : ℕ) (l : Lane) → l .group < G → newPage s F G (addressOf G l) ≡ F + aimed s G np l .group
+new-of s F G np l h =
+    let group : addressOf G l % G ≡ l .group = mul-add-mod-self-right (l .turn) G (l .group) ∙ mod-eq-of-lt h in
+    rw group (swept-from s F G (G - 1 - l .group))
 
--- A new page is as far behind F as it is from 0 at size 0.
-swept-from : (s F G k : ℕ) → swept s F G k ≡ F + swept s 0 G k
-unfolding swept
-swept-from s F G k = omega arith
+-- A lane that goes to its group's new page, or stays, is one of the groups' lanes.
+either-fits : (s G np : ℕ) (l : Lane) (m : Bool) → 1 ≤ s → np < 8 → InGroup G l → InGroup G (cond m (aimed s G np l) l)
+either-fits s G np l true h low fits = (low, omega (arith, swept-high s 0 G (G - 1 - l .group) h (omega arith)))
+either-fits s G np l false h low fits = fits
 
--- The group of an address in a lane is the lane's.
-group-of : (G turn group : ℕ) → group < G → (turn * G + group) % G ≡ group
-group-of G turn group h = mul-add-mod-self-right turn G group ∙ mod-eq-of-lt h
+-- So is one after a step, with others
+pub gone-fits : (s G np m : ℕ) (l : Lane) → 1 ≤ s → np < 8 → InGroup G l → InGroup G (goneTo s G np m l)
+unfolding goneTo
+gone-fits s G np m l = either-fits s G np l (eqb m 1)
 
--- The new page of a lane's address.
-new-of : (s F G turn group : ℕ) → group < G → newPage s F G (turn * G + group) ≡ F + swept s 0 G (G - 1 - group)
-new-of s F G turn group h = rw (group-of G turn group h) (swept-from s F G (G - 1 - group))
+-- or alone.
+pub step-fits : (s P : ℕ) (t : Stage) (moves : Bool) (l : Lane) → 1 ≤ s → t .np < 8 → InGroup (t .g) l → InGroup (t .g) (steppedTo s P t moves l)
+unfolding steppedTo
+step-fits s P t moves l = either-fits s (t .g) (t .np) l (moves && ltb (t .f + aimed s (t .g) (t .np) l .group) P)
 
-module _ (s P : ℕ) (t : Stage) (l : Lane) where
-  -- the draw of a step, how far behind F its new page is, whether the key goes there, and the lane
-  -- after it if it does and if not
-  abbrev next : ℕ
-  next = 16807 * l .draw % 2147483647
+module _ (s : ℕ) (t : Stage) (l : Lane) where
+  -- the new page of a lane in step t, and the lane of one that goes there or not
+  abbrev new : Lane
+  new = aimed s (t .g) (t .np) l
 
-  abbrev to : ℕ
-  to = swept s 0 (t .g) (t .g - 1 - l .group)
+  abbrev either : Bool → Lane
+  either m = cond m new l
 
-  abbrev goes : Bool
-  goes = leb (next * (t .np + 1)) 2147483647 && ltb (t .f + to) P
+  -- Its page is the step's new page or the old one.
+  either-page : (m : Bool) → t .f ≡ t .np * t .g → addressOf (t .g) (either m) ≡ cond m (t .f + new .group) (addressOf (t .g) l)
+  either-page true even = ap (λ (n : ℕ). n + new .group) (sym even)
+  either-page false even = refl
 
-  abbrev after : Bool → Lane
-  after m = cond m (record { draw = next; turn = t .np; group = to }) (record { draw = next; turn = l .turn; group = l .group })
+  module _ (P : ℕ) (even : t .f ≡ t .np * t .g) (fits : InGroup (t .g) l) where
+    -- where the new page is
+    at : newPage s (t .f) (t .g) (addressOf (t .g) l) ≡ t .f + new .group
+    at = new-of s (t .f) (t .g) (t .np) l (fits .1)
 
-  -- A step of a lane draws the next number.
-  step-draw : stepped s P t l .draw ≡ next
-  unfolding stepped
-  step-draw = go goes
-    where
-      go : (m : Bool) → after m .draw ≡ next
-      go true = refl
-      go false = refl
+    -- A step of a lane alone is a step of its page.
+    pub step-page : (moves : Bool) → addressOf (t .g) (steppedTo s P t moves l) ≡ movedTo P moves (newPage s (t .f) (t .g) (addressOf (t .g) l)) (addressOf (t .g) l)
+    unfolding steppedTo movedTo
+    step-page moves = rw at (either-page (moves && ltb (t .f + new .group) P) even)
 
-  -- A step of a lane is a step of its address.
-  step-address : t .f ≡ t .np * t .g → l .group < t .g → addressOf (t .g) (stepped s P t l) ≡ movedTo P (leb (next * (t .np + 1)) 2147483647) (newPage s (t .f) (t .g) (addressOf (t .g) l)) (addressOf (t .g) l)
-  unfolding stepped movedTo
-  step-address even h = rw (new-of s (t .f) (t .g) (l .turn) (l .group) h) (go goes)
-    where
-      go : (m : Bool) → addressOf (t .g) (after m) ≡ cond m (t .f + to) (addressOf (t .g) l)
-      go true = ap (λ (n : ℕ). n + to) (sym even)
-      go false = refl
+    -- So is one with the others, once it is seen which new pages are there.
+    pub gone-page : (m : ℕ) (moves : Bool) → eqb m 1 ≡ moves → addressOf (t .g) l < P → picked P (addressOf (t .g) (goneTo s (t .g) (t .np) m l)) (addressOf (t .g) l) ≡ movedTo P moves (newPage s (t .f) (t .g) (addressOf (t .g) l)) (addressOf (t .g) l)
+    unfolding goneTo movedTo
+    gone-page m moves e below = rw (e, at) (go moves)
+      where
+        go : (b : Bool) → picked P (addressOf (t .g) (either b)) (addressOf (t .g) l) ≡ cond (b && ltb (t .f + new .group) P) (t .f + new .group) (addressOf (t .g) l)
+        go true = rw (either-page true even)
+        go false = rw (lt-ltb (addressOf (t .g) l) P below)
 
--- An address stays as it is with twice as many groups.
-regroup-address : (G : ℕ) (l : Lane) → addressOf (2 * G) (regrouped G l) ≡ addressOf G l
-regroup-address G l =
-    let halves : l .turn / 2 * (2 * G) + l .turn % 2 * G ≡ l .turn * G = rw (← mul-assoc (l .turn / 2) 2 G, ← add-mul (l .turn / 2 * 2) (l .turn % 2) G, div-add-mod' (l .turn) 2) refl in
-    omega (arith, halves)
+    -- It comes to a page below the size after the step.
+    pub gone-below : 1 ≤ s → (m : ℕ) → addressOf (t .g) l < t .f → addressOf (t .g) (goneTo s (t .g) (t .np) m l) < t .f + t .g
+    unfolding goneTo
+    gone-below h m below = go (eqb m 1)
+      where
+        go : (b : Bool) → addressOf (t .g) (either b) < t .f + t .g
+        go true = omega (arith, either-page true even, swept-high s 0 (t .g) (t .g - 1 - l .group) h (omega arith))
+        go false = omega arith
 
--- The first step has n0 pages for each group.
-np-first : (n0 : ℕ) → np n0 1 ≡ n0
-np-first n0 = omega (arith, zero-mod n0)
+-- A step of a lane alone leads home from where it takes the key.
+pub lane-on : {n0 x : ℕ} {t t′ : Stage} (on : Stepping n0 x t) → After n0 t t′ → (N s P K : ℕ) (moves : Bool) (l l′ : Lane) → t .f < P → moves ≡ mover n0 K x → InGroup (t .g) l → l′ ≡ steppedTo s P t moves l → Leads n0 N s P K x t (addressOf (t .g) l) → Leads n0 N s P K (x + 1) t′ (addressOf (t .g) l′)
+lane-on {t = t} on after N s P K moves l l′ below m fits e rest =
+    leads-on on after N s P K (addressOf (t .g) l) (addressOf (t .g) l′) below (rw (e, ← m) (step-page s t l P (on .even) fits moves)) rest
 
--- It holds at the start.
-pub begins : (n0 N s P K : ℕ) (t : Stage) (l : Lane) → InRange (params n0 N s) P → t ≡ stageAt n0 1 (n0 * N) N → Bounded n0 t → l ≡ startsAt (t .f) (t .g) K → Going n0 (t .g) s P K t l
-begins n0 N s P K t l ranges first sound e =
-    let size : t .f ≡ n0 * t .g = rw first in
-    let each : t .np ≡ n0 = rw first (np-first n0) in
-    rw e
-    record {
-      before = rw (div-add-mod' (K % t .f) (t .g)) (starts n0 N s P K t first sound);
-      even = rw each size;
-      small = rw first (omega (arith, ranges .P-low, ranges .P-high));
-    }
+-- A page below P is picked.
+pub picks : (P a b : ℕ) → a < P → picked P a b ≡ a
+picks P a b h = rw (lt-ltb a P h)
 
-module _ (n0 M N s P K : ℕ) (ranges : InRange (params n0 M s) P) (t t′ : Stage) (l : Lane) (on : Going n0 N s P K t l) (after : After n0 t t′) where
-  -- the step that t is, by which t′ is the one after it
-  abbrev x : ℕ
-  x = suc (on .before .i)
+-- A step of many lanes: a lane of G groups before it and after it, with their pages, where m is 1 for
+-- a mover.
+module _ {n0 x : ℕ} {t t′ : Stage} (on : Stepping n0 x t) (after : After n0 t t′) (s G m page page′ : ℕ) (l l′ : Lane) (same : t .g ≡ G) (fits : InGroup G l) (at-page : page ≡ addressOf G l) (below : page < t .f) (is : l′ ≡ goneTo s G (t .np) m l) (at-page′ : page′ ≡ addressOf G l′) where
+  -- the same by the groups of the step
+  in-step : InGroup (t .g) l
+  in-step = rw same fits
 
-  next-is : t′ ≡ nextStep n0 x t
-  next-is = after x (omega arith) (on .before .np-is)
+  old : page ≡ addressOf (t .g) l
+  old = rw same at-page
 
-  groups-next : t′ .g ≡ nextGroups n0 x (t .g)
-  groups-next = ap (λ (u : Stage). u .g) next-is
+  gone : page′ ≡ addressOf (t .g) (goneTo s (t .g) (t .np) m l)
+  gone = rw (same, ← is) at-page′
 
-  -- A step without a doubling leaves the groups as they are,
-  pub kept : t′ .g ≤ t .g → t′ .g ≡ t .g
-  kept h = groups-next ∙ groups-kept n0 x (t .g) (on .before .sound .0) (omega (arith, groups-next))
+  -- It leads home from where it takes the key, once it is seen which new pages are there,
+  pub all-on : (N P K before : ℕ) → t .f < P → eqb m 1 ≡ mover n0 K x → Leads n0 N s P K x t (picked P page before) → Leads n0 N s P K (x + 1) t′ (picked P page′ page)
+  all-on N P K before small moves rest =
+      let moved : picked P page′ page ≡ movedTo P (mover n0 K x) (newPage s (t .f) (t .g) page) page = rw (gone, old) (gone-page s t l P (on .even) in-step m (mover n0 K x) moves (omega (arith, old))) in
+      leads-on on after N s P K (picked P page before) (picked P page′ page) small (rw (picks P page before (omega arith)) moved) rest
 
-  -- and one with a doubling makes them twice as many.
-  pub twice : t .g < t′ .g → t′ .g ≡ 2 * t .g
-  twice h = groups-next ∙ groups-doubled n0 x (t .g) (omega (arith, groups-next))
+  -- and takes it to a page of the step after it.
+  pub all-below : 1 ≤ s → page′ < t′ .f
+  all-below low = omega (arith, gone, size-next on after, gone-below s t l 0 (on .even) in-step low m (omega (arith, old)))
 
-  module _ (inside : l .group < t .g) (below : t .f < P) (sound : Bounded n0 t′) where
-    -- the step of the key alone
-    moves : Before n0 N s P K t′ (addressOf (t .g) (stepped s P t l)) (stepped s P t l .draw)
-    moves =
-        rw (step-draw s P t l) (turned n0 N s P K t t′ (addressOf (t .g) l) (addressOf (t .g) (stepped s P t l)) (l .draw) (next s P t l) (on .before) below refl (step-address s P t l (on .even) inside) after sound)
+-- A number that is 1 for a mover is told from 0.
+pub moves-told : (m : ℕ) (b : Bool) → m ≡ cond b 1 0 → eqb m 1 ≡ b
+moves-told m b e = rw e (go b)
+  where
+    go : (c : Bool) → eqb (cond c 1 0) 1 ≡ c
+    go true = refl
+    go false = refl
 
-    -- what is left is the same for all keys
-    together : (G : ℕ) (l′ : Lane) → t′ .g ≡ G → Before n0 N s P K t′ (addressOf G l′) (l′ .draw) → Going n0 N s P K t′ l′
-    together G l′ e b =
-        let size : t′ .f ≡ t .f + t .g = ap (λ (u : Stage). u .f) next-is in
-        record {
-          before = subst (λ (n : ℕ). Before n0 N s P K t′ (addressOf n l′) (l′ .draw)) (sym e) b;
-          even = rw next-is (even-kept n0 x t (omega arith) (on .before .np-is) (ranges .n0-low) (on .even));
-          small = omega (arith, size, on .before .sound, ranges .P-high);
-        }
+-- From one place of the loops of `lanes::homes` to a later one: where the steps lead a key home from
+-- what is picked of its pages there, they do so here.
+abbrev pub Kept : (n0 s P : ℕ) (seeds : List ℕ) (x₀ : ℕ) (t₀ : Stage) (after₀ before₀ : List ℕ) (x : ℕ) (t : Stage) (after before : List ℕ) → Type 0
+Kept n0 s P seeds x₀ t₀ a₀ b₀ x t a b =
+    (i N K : ℕ) → i < 12 → getD seeds i 0 ≡ 2 * seedOf K → Leads n0 N s P K x₀ t₀ (picked P (getD a₀ i 0) (getD b₀ i 0)) → Leads n0 N s P K x t (picked P (getD a i 0) (getD b i 0))
 
-    -- A step without a doubling keeps it,
-    pub goes-on : (l′ : Lane) → l′ ≡ stepped s P t l → t′ .g ≤ t .g → Going n0 N s P K t′ l′
-    goes-on l′ e h = rw e (together (t .g) (stepped s P t l) (kept h) moves)
+-- It goes on through a round, which has the same sweeps, and then to rows of the same pages.
+pub kept-over : (n0 s s′ P : ℕ) (seeds : List ℕ) (x₀ x₁ x : ℕ) (t₀ t₁ t : Stage) (a₀ b₀ a₁ b₁ a b a′ : List ℕ) → s′ ≡ s → Kept n0 s P seeds x₀ t₀ a₀ b₀ x₁ t₁ a₁ b₁ → Kept n0 s′ P seeds x₁ t₁ a₁ b₁ x t a b → ((i : ℕ) → i < 12 → getD a′ i 0 ≡ getD a i 0) → Kept n0 s P seeds x₀ t₀ a₀ b₀ x t a′ b
+kept-over n0 s s′ P seeds x₀ x₁ x t₀ t₁ t a₀ b₀ a₁ b₁ a b a′ e k k′ same =
+    let on : Kept n0 s P seeds x₁ t₁ a₁ b₁ x t a b = subst (λ (z : ℕ). Kept n0 z P seeds x₁ t₁ a₁ b₁ x t a b) e k′ in
+    λ i N K h q l. rw (same i h) (on i N K h q (k i N K h q l))
 
-    -- and so does one with a doubling, where the lanes are grouped anew.
-    pub doubles : (l′ l″ : Lane) → l′ ≡ stepped s P t l → l″ ≡ regrouped (t .g) l′ → t .g < t′ .g → Going n0 N s P K t′ l″
-    doubles l′ l″ e r h =
-        rw (r, e) (together (2 * t .g) (regrouped (t .g) (stepped s P t l)) (twice h) (rw (regroup-address (t .g) (stepped s P t l)) moves))
+-- How a round goes on: with the groups that it began with, or, when it is over, twice as many.
+abbrev pub Rounding : (G : ℕ) (t₀ t : Stage) → Type 0
+Rounding G t₀ t = ((t .g ≡ G) × (t₀ .f ≤ t .f)) ⊎ ((t .g ≡ 2 * G) × (t₀ .f < t .f))
 
--- At the end the address is the home.
-pub arrived : (n0 N s P K : ℕ) (t : Stage) (l : Lane) → Going n0 N s P K t l → P ≤ t .f → addressOf (t .g) l ≡ home (params n0 N s) P K
-arrived n0 N s P K t l on h =
-    sym (stopped (λ x F. mover n0 K x) (newPage s) n0 P (P - t .f) (suc (on .before .i)) (t .f) (t .g) (addressOf (t .g) l) h) ∙ on .before .rest
+-- A step in a round goes on with it.
+pub rounding-on : {n0 x : ℕ} {t t′ : Stage} (on : Stepping n0 x t) → After n0 t t′ → (G : ℕ) (t₀ : Stage) → t .g ≡ G → Rounding G t₀ t → Rounding G t₀ t′
+rounding-on {t = t} {t′ = t′} on after G t₀ same r =
+    let grown : t₀ .f < t′ .f = omega (arith, size-next on after, on .sound, ⊎-elim {C = t₀ .f ≤ t .f} (λ w. w .1) (λ w. omega (arith, w .1)) r) in
+    ⊎-elim
+    (λ lt. inr (groups-twice on after lt ∙ ap (λ (n : ℕ). 2 * n) same, grown))
+    (λ ge. inl (groups-same on after ge ∙ same, omega arith))
+    (split (t .g) (t′ .g))
+
+-- In a round that goes on the groups are as many, and the size is below P.
+pub round-goes : (g G f P : ℕ) → (eqb g G && ltb f P) ≡ true → (g ≡ G) × (f < P)
+round-goes g G f P = go (eqb g G) (ltb f P) refl refl
+  where
+    go : (u v : Bool) → eqb g G ≡ u → ltb f P ≡ v → (u && v) ≡ true → (g ≡ G) × (f < P)
+    go true true e d h = (eqb-true g G e, ltb-true f P d)
+    go true false e d h = absurd (false≢true h)
+    go false v e d h = absurd (false≢true h)
+
+-- When it stops the size has grown, and below P there are twice as many groups.
+pub round-stops : (G P : ℕ) (t₀ t : Stage) → t₀ .f < P → Rounding G t₀ t → (eqb (t .g) G && ltb (t .f) P) ≡ false → (t₀ .f < t .f) × (t .f < P → t .g ≡ 2 * G)
+round-stops G P t₀ t low (inr w) h = (w .1, λ l. w .0)
+round-stops G P t₀ t low (inl w) h =
+    let over : P ≤ t .f = ltb-false (t .f) P (rw (eq-eqb (t .g) G (w .0)) at h) in
+    (omega arith, λ l. absurd (omega arith))
 
 -- A list that has f of each key at the key's place is the keys' map.
 pub mapped : (f : ℕ → ℕ) (r keys : List ℕ) → length r ≡ length keys → ((i : ℕ) → i < length r → getD r i 0 ≡ f (getD keys i 0)) → r ≡ map f keys

@@ -1,48 +1,127 @@
--- What the loop of `Shape::home` holds before a step, and that a turn keeps it. On plain numbers.
---
-use mathlib.Core.Path.{_≡_, refl, ap, _∙_}
-use Prim.Native.Nat.{ℕ, zero, suc, _+_, _-_, _*_, _%_, _<_}
+-- What the loops of `Shape::home` and `lanes::homes` hold before a step, and that a step keeps it.
+-- On plain numbers.
+use mathlib.Core.Path.{_≡_, sym, ap, _∙_}
+use Prim.Native.Nat.{ℕ, zero, suc, _+_, _-_, _*_, _/_, _%_, _≤_, _<_}
+use native.Mathlib.Nat.{zero-mod}
 use native.Mathlib.Omega.{arith}
 use lib.Dec.{leb}
 use Rattle.homes.specs.declared.Stage.{Stage}
-use Rattle.homes.specs.Homes.{seedOf, draw, np, mover, newPage, movedTo, steps, params, home}
+use Rattle.homes.specs.Homes.{seedOf, draw, np, mover, newPage, movedTo, nextGroups, steps, params, home, InRange}
+use Rattle.homes.specs.steps.Powers.{power, limit, Drawable}
 use Rattle.homes.specs.steps.Stages.{stageAt, nextStep, After, Bounded}
-use Rattle.homes.proofs.Steps.{turn}
+use Rattle.homes.proofs.Draws.{drawable, drawn, limit-is}
+use Rattle.homes.proofs.Forty.{sizeAfter, size-forty}
+use Rattle.homes.proofs.Round.{even-kept, groups-kept, groups-doubled}
+use Rattle.homes.proofs.Steps.{turn, stopped}
 
--- Before step i + 1: the last draw, that t is that step, and that what is left to do leads home.
-pub record Before (n0 N s P K : ℕ) (t : Stage) (a d : ℕ) : Type 0 where
-  pub i : ℕ
-  pub draw-is : d ≡ draw (seedOf K) i
-  pub np-is : t .np ≡ np n0 (suc i)
+-- t is step x: its np, how its pages are grouped, and that size 4,096 is reached by step 40.
+pub record Stepping (n0 x : ℕ) (t : Stage) : Type 0 where
+  pub first : 1 ≤ x
+  pub np-is : t .np ≡ np n0 x
   pub sound : Bounded n0 t
-  pub rest : steps (λ x F. mover n0 K x) (newPage s) n0 P (P - t .f) (suc i) (t .f) (t .g) a ≡ home (params n0 N s) P K
+  pub even : t .f ≡ t .np * t .g
+  pub small : t .f ≤ 8192
+  pub left : ℕ
+  pub count : x + left ≡ 41
+  pub reach : 4096 ≤ sizeAfter n0 left x (t .f) (t .g)
 
--- It holds at the start.
-pub starts : (n0 N s P K : ℕ) (t : Stage) → t ≡ stageAt n0 1 (n0 * N) N → Bounded n0 t → Before n0 (t .g) s P K t (K % t .f) (seedOf K)
-unfolding home draw
-starts n0 N s P K t e sound =
-    record { i = zero; draw-is = refl; np-is = ap (λ (u : Stage). u .np) e; sound = sound; rest = rw e }
+-- The steps from step x on lead a key from page a to its home.
+abbrev pub Leads : (n0 N s P K x : ℕ) (t : Stage) (a : ℕ) → Type 0
+Leads n0 N s P K x t a = steps (λ y F. mover n0 K y) (newPage s) n0 P (P - t .f) x (t .f) (t .g) a ≡ home (params n0 N s) P K
 
--- The code's next draw is the next of 01's.
-draw-next : (K i d next : ℕ) → d ≡ draw (seedOf K) i → next ≡ 16807 * d % 2147483647 → next ≡ draw (seedOf K) (suc i)
-unfolding draw
-draw-next K i d next e n = n ∙ ap (λ (m : ℕ). 16807 * m % 2147483647) e
+-- The first step has n0 pages for each group.
+np-first : (n0 : ℕ) → np n0 1 ≡ n0
+np-first n0 = omega (arith, zero-mod n0)
 
--- The code's test for a mover is 01's, at that draw.
-mover-is : (n0 K x d m : ℕ) → d ≡ draw (seedOf K) x → m ≡ np n0 x → leb (d * (m + 1)) 2147483647 ≡ mover n0 K x
-unfolding mover
-mover-is n0 K x d m e f = rw (e, f)
-
--- A turn keeps it.
-pub turned : (n0 N s P K : ℕ) (t t′ : Stage) (a a′ d d′ : ℕ) → Before n0 N s P K t a d → t .f < P → d′ ≡ 16807 * d % 2147483647 → a′ ≡ movedTo P (leb (d′ * (t .np + 1)) 2147483647) (newPage s (t .f) (t .g) a) a → After n0 t t′ → Bounded n0 t′ → Before n0 N s P K t′ a′ d′
-turned n0 N s P K t t′ a a′ d d′ b below drawn stepped after sound =
-    let x = suc (b .i) in
-    let draws : d′ ≡ draw (seedOf K) x = draw-next K (b .i) d d′ (b .draw-is) drawn in
-    let next : t′ ≡ nextStep n0 x t = after x (omega arith) (b .np-is) in
+-- The first step is step 1,
+pub stepping-first : (n0 N s P : ℕ) (t : Stage) → InRange (params n0 N s) P → t ≡ stageAt n0 1 (n0 * N) N → Bounded n0 t → Stepping n0 1 t
+stepping-first n0 N s P t ranges e sound =
     record {
-      i = x;
-      draw-is = draws;
-      np-is = ap (λ (u : Stage). u .np) next;
+      first = omega arith;
+      np-is = rw e;
       sound = sound;
-      rest = rw (next, stepped, mover-is n0 K x d′ (t .np) draws (b .np-is), ← turn (λ x F. mover n0 K x) (newPage s) n0 P x (t .f) (t .g) a below (b .sound .0)) (b .rest);
+      even = rw (e, np-first n0);
+      small = rw e (omega (arith, ranges .P-low, ranges .P-high));
+      left = 40;
+      count = omega arith;
+      reach = rw e (size-forty n0 N (ranges .n0-low) (ranges .n0-high) (ranges .N-low));
     }
+
+-- and leads a key home from its remainder.
+pub leads-first : (n0 N s P K : ℕ) (t : Stage) → t ≡ stageAt n0 1 (n0 * N) N → Leads n0 (t .g) s P K 1 t (K % t .f)
+unfolding home
+leads-first n0 N s P K t e = rw e
+
+module _ {n0 x : ℕ} {t : Stage} (on : Stepping n0 x t) where
+  -- Below size 4,096 step x is one of the forty.
+  pub few : t .f < 4096 → x ≤ 40
+  unfolding sizeAfter
+  few h = go (on .left) (on .count) (on .reach)
+    where
+      go : (l : ℕ) → x + l ≡ 41 → 4096 ≤ sizeAfter n0 l x (t .f) (t .g) → x ≤ 40
+      go zero c r = absurd (omega arith)
+      go (suc l) c r = omega arith
+
+  -- What is left to reach after a step.
+  onward : t .f < 4096 → (l : ℕ) × (x + 1 + l ≡ 41) × (4096 ≤ sizeAfter n0 l (suc x) (t .f + t .g) (nextGroups n0 x (t .g)))
+  unfolding sizeAfter
+  onward h = go (on .left) (on .count) (on .reach)
+    where
+      go : (l : ℕ) → x + l ≡ 41 → 4096 ≤ sizeAfter n0 l x (t .f) (t .g) → (l : ℕ) × (x + 1 + l ≡ 41) × (4096 ≤ sizeAfter n0 l (suc x) (t .f + t .g) (nextGroups n0 x (t .g)))
+      go zero c r = absurd (omega arith)
+      go (suc l) c r = (l, omega arith, r)
+
+  module _ {t′ : Stage} (after : After n0 t t′) where
+    next-is : t′ ≡ nextStep n0 x t
+    next-is = after x (on .first) (on .np-is)
+
+    groups-next : t′ .g ≡ nextGroups n0 x (t .g)
+    groups-next = ap (λ (u : Stage). u .g) next-is
+
+    -- A step adds a page for each group.
+    pub size-next : t′ .f ≡ t .f + t .g
+    size-next = ap (λ (u : Stage). u .f) next-is
+
+    -- It leaves the groups as they are where they are no more,
+    pub groups-same : t′ .g ≤ t .g → t′ .g ≡ t .g
+    groups-same h = groups-next ∙ groups-kept n0 x (t .g) (on .sound .0) (omega (arith, groups-next))
+
+    -- or else makes them twice as many.
+    pub groups-twice : t .g < t′ .g → t′ .g ≡ 2 * t .g
+    groups-twice h = groups-next ∙ groups-doubled n0 x (t .g) (omega (arith, groups-next))
+
+    -- The step after step x is step x + 1,
+    pub stepping-on : 1 ≤ n0 → t .f < 4096 → Bounded n0 t′ → Stepping n0 (x + 1) t′
+    stepping-on low below sound =
+        let e : x + 1 ≡ suc x = omega arith in
+        let more = onward below in
+        record {
+          first = omega arith;
+          np-is = rw e (ap (λ (u : Stage). u .np) next-is);
+          sound = sound;
+          even = rw next-is (even-kept n0 x t (on .first) (on .np-is) low (on .even));
+          small = omega (arith, size-next, on .sound .1);
+          left = more .0;
+          count = more .1;
+          reach = rw (e, next-is) (more .2);
+        }
+
+    -- and it leads home from where step x takes a key.
+    pub leads-on : (N s P K a a′ : ℕ) → t .f < P → a′ ≡ movedTo P (mover n0 K x) (newPage s (t .f) (t .g) a) a → Leads n0 N s P K x t a → Leads n0 N s P K (x + 1) t′ a′
+    leads-on N s P K a a′ below moved rest =
+        let e : x + 1 ≡ suc x = omega arith in
+        rw (e, next-is, moved, ← turn (λ y F. mover n0 K y) (newPage s) n0 P x (t .f) (t .g) a below (on .sound .0)) rest
+
+-- At size P a key is at home.
+pub leads-home : (n0 N s P K x : ℕ) (t : Stage) (a : ℕ) → P ≤ t .f → Leads n0 N s P K x t a → a ≡ home (params n0 N s) P K
+leads-home n0 N s P K x t a h rest =
+    sym (stopped (λ y F. mover n0 K y) (newPage s) n0 P (P - t .f) x (t .f) (t .g) a h) ∙ rest
+
+-- A power from the table and a key's doubled seed give a draw,
+pub draws : (K x p d : ℕ) → p ≡ power x → d ≡ 2 * seedOf K → Drawable d p
+draws K x p d e f = rw (e, f) (drawable K x)
+
+-- and the code's test for a mover, by it and the limit for np, is 01's.
+pub mover-by : (n0 K x p d r l m : ℕ) → p ≡ power x → d ≡ 2 * seedOf K → r ≡ p * (d / 2) % 2147483647 → l ≡ limit m → m ≡ np n0 x → leb r l ≡ mover n0 K x
+unfolding mover
+mover-by n0 K x p d r l m e f g h k = rw (g, e, f, drawn K x, h, k) (limit-is (draw (seedOf K) x) (np n0 x))

@@ -1,9 +1,16 @@
 // Where a key lives: its home page, from the numbers of the file and the key.
+mod lane;
 pub mod lanes;
+mod powers;
+mod starts;
+mod sweeps;
 
+use lane::Lane;
+use starts::Start;
+use sweeps::Sweeps;
 ghost use mathlib.Core.Path.{_≡_};
-ghost use Prim.Native.Nat.{_*_, _%_, _≤_, _<_, min};
-ghost use Rattle.homes.specs.Homes.{InRange, Ready, shapeOf, homeIn, newPage, movedTo};
+ghost use Prim.Native.Nat.{_*_, _%_, _≤_, _<_};
+ghost use Rattle.homes.specs.Homes.{InRange, Ready, shapeOf, homeIn, newPage};
 ghost use Rattle.homes.specs.steps.Stages.{firstStep, After, Bounded};
 ghost use Rattle.homes.specs.steps.Last.{Within, lastStep, staysAt};
 
@@ -27,8 +34,9 @@ pub struct Stage {
     pub np: u64,
 }
 
-// The draw after a draw; after the seed, the first. The modulus is 2^31 - 1, so 2^31 counts as 1:
-// the high bits are added to the low ones, and nothing is divided.
+// The draw after a draw; after the seed, the first. Homes take their draws from a table (`powers`);
+// this is for draws that it doesn't reach. The modulus is 2^31 - 1, so 2^31 counts as 1: the high
+// bits are added to the low ones, and nothing is divided.
 pub fn next_draw(draw: u32) -> u32
     requires { ⌜ draw < 2147483647 ⌝ }
     ensures { λ r. ⌜ r ≡ 16807 * draw % 2147483647 ⌝ }
@@ -43,32 +51,13 @@ pub fn next_draw(draw: u32) -> u32
     }
 }
 
-fn least(a: u64, b: u64) -> u64
-    ensures { λ r. ⌜ r ≡ min a b ⌝ }
+// The page that the group of a page grows into, at size f, with g groups and s sweeps.
+fn new_page(s: u16, f: u64, g: u64, page: u64) -> u64
+    requires { ⌜ (1 ≤ s) × (s ≤ 8) × (1 ≤ g) × (g ≤ f) × (f < 4096) ⌝ }
+    ensures { λ r. ⌜ r ≡ newPage s f g page ⌝ }
 {
-    if a < b { a } else { b }
-}
-
-// The page that the group of an address grows into, at size f, with g groups and s sweeps.
-fn new_page(s: u64, f: u64, g: u64, address: u64) -> u64
-    requires { ⌜ (1 ≤ s) × (1 ≤ g) × (g ≤ f) × (f < 4096) ⌝ }
-    ensures { λ r. ⌜ r ≡ newPage s f g address ⌝ }
-{
-    let k = g - 1 - address % g;
-    let w = k % s;
-    f + w * (g / s) + least(w, g % s) + k / s
-}
-
-// The address after a step. Where a mover goes is worked out only for a mover.
-fn step(s: u64, f: u64, g: u64, p: u64, moves: bool, address: u64) -> u64
-    requires { ⌜ (1 ≤ s) × (1 ≤ g) × (g ≤ f) × (f < 4096) ⌝ }
-    ensures { λ r. ⌜ r ≡ movedTo p moves (newPage s f g address) address ⌝ }
-{
-    if !moves {
-        return address;
-    }
-    let new = new_page(s, f, g, address);
-    if new < p { new } else { address }
+    let groups = g as u16;
+    f + Sweeps::new(s, groups).target(groups, (page % g) as u16) as u64
 }
 
 impl Stage {
@@ -119,18 +108,27 @@ impl Shape {
         ensures { λ r. ⌜ r ≡ homeIn self key ⌝ }
     {
         let n0 = self.params.n0 as u64;
-        let s = self.params.s as u64;
         let p = self.p;
+        let powers = powers::powers();
+        let limits = powers::limits();
+        let seed = powers::twice_seed(key);
         let mut stage = self.first();
-        let mut address = key % stage.f;
-        let mut draw = (key % 2147483646 + 1) as u32;
+        let start = Start::new(stage.f);
+        let mut lane = Lane::new(start.page(key) as u16, self.params.n);
+        let mut sweeps = Sweeps::new(self.params.s, self.params.n);
+        let mut x = 1;
         while stage.f < p {
-            draw = next_draw(draw);
-            let moves = draw as u64 * (stage.np + 1) <= 2147483647;
-            address = step(s, stage.f, stage.g, p, moves, address);
-            stage = stage.next(n0);
+            let moves = powers::draw(seed, powers[x]) <= limits[stage.np as usize];
+            lane = lane.step(stage, sweeps, p, moves);
+            x += 1;
+            let next = stage.next(n0);
+            if stage.g < next.g {
+                lane = lane.regroup(stage.g as u16);
+                sweeps = sweeps.doubled();
+            }
+            stage = next;
         }
-        address
+        lane.turn as u64 * stage.g + lane.group as u64
     }
 
     // The last step that a file of this shape takes, asked for once a growth.
@@ -155,7 +153,7 @@ impl Shape {
         ensures { λ r. ⌜ r ≡ staysAt self last page ⌝ }
     {
         let added = self.p - 1;
-        let new = new_page(self.params.s as u64, last.f, last.g, page);
+        let new = new_page(self.params.s, last.f, last.g, page);
         (page < added) & (new != added)
     }
 }

@@ -1,144 +1,102 @@
--- `homes::lanes::step_all` meets its contract. The loop's invariant: in both rows that it fills,
--- the places below i are those after the step.
+-- `homes::lanes::step_all` meets its contract. The loop's invariant: in the rows that it fills, the
+-- places below i are those after the step.
 -- The measure is what is left of the sixteen.
-use mathlib.Core.Path.{_≡_, refl, sym, _∙_}
-use mathlib.Core.Bool.{Bool, true, false, cond, _&&_}
-use mathlib.Core.List.{List}
+use mathlib.Core.Path.{_≡_, refl, _∙_}
+use mathlib.Core.Bool.{true, false}
 use mathlib.Core.Logic.{⊎-elim}
-use Prim.Native.Nat.{ℕ, _+_, _-_, _*_, _%_, _≤_, _<_}
-use native.Mathlib.Nat.{div-le-self}
+use Prim.Native.Nat.{ℕ, _+_, _-_, _*_, _≤_, _<_}
 use native.Mathlib.Omega.{arith}
 use borrow.Author.Needs.{needs}
-use borrow.Author.Tests.{lt-ltb, le-ltb}
-use lib.Dec.{leb, ltb, eqb}
-use lib.ListN.{length, getD, List·getD-eq-default}
-use Rattle.homes.specs.declared.Stage.{Stage}
+use lib.Dec.{eqb}
+use lib.ListN.{getD}
+use Rattle.homes.specs.declared.lane.Lane.{Lane}
 use Rattle.homes.specs.Homes.{swept}
-use Rattle.homes.specs.steps.Lanes.{Lane, InGroup, stepped}
-use Rattle.homes.proofs.New.{split, swept-high}
+use Rattle.homes.specs.steps.Lanes.{InGroup, addressOf, goneTo}
+use Rattle.homes.proofs.Beginning.{page-fits}
 use Rattle.homes.proofs.Rowed.{Passed, none, one, over, same}
+use Rattle.homes.proofs.Together.{gone-fits}
 use Rattle.homes.proofs.lanes.step_all.Statement.{statement}
 use Rattle.homes.proofs.lanes.step_all.Tie as tie
+use Rattle.homes.proofs.lanes.step_all.Reads as reads
+use Rattle.homes.proofs.lanes.step_all.Lts as lts
+use Rattle.homes.proofs.sweeps.Sweeps.target.Reads as target-reads
 
--- the next draw
-abbrev drawn : ℕ → ℕ
-drawn d = 16807 * d % 2147483647
+-- the lane of these numbers after the step
+abbrev after : (s g np m turn group : ℕ) → Lane
+after s g np m u r = goneTo s g np m (record { turn = u; group = r })
 
--- how far behind the first new page that of a group is
-abbrev leads : (s g group : ℕ) → ℕ
-leads s g r = swept s 0 g (g - 1 - r)
+-- one that goes has turn np,
+went-turn : (s g np m u r x : ℕ) → eqb m 1 ≡ true → x ≡ np → x ≡ after s g np m u r .turn
+unfolding goneTo
+went-turn s g np m u r x t e = rw t e
 
--- whether a lane goes, by the numbers that the loop has
-unfoldable goes : (s g room m group : ℕ) → Bool
-goes s g room m r = eqb m 1 && ltb (leads s g r) room
+-- and the group of the new page;
+went-group : (s g np m u r to x : ℕ) → to ≡ swept s 0 g (g - 1 - r) → eqb m 1 ≡ true → x ≡ to → x ≡ after s g np m u r .group
+unfolding goneTo
+went-group s g np m u r to x q t e = rw t (e ∙ q)
 
--- one that goes takes the new number
-went : (s g room m r to new old x : ℕ) → to ≡ leads s g r → (eqb m 1 && ltb to room) ≡ true → x ≡ new → x ≡ cond (goes s g room m r) new old
-unfolding goes
-went s g room m r to new old x q t e = rw (← q, t) e
+-- others keep theirs
+kept-turn : (s g np m u r x : ℕ) → eqb m 1 ≡ false → x ≡ u → x ≡ after s g np m u r .turn
+unfolding goneTo
+kept-turn s g np m u r x t e = rw t e
 
--- which may be that of its new group
-arrived : (s g room m r to old x : ℕ) → to ≡ leads s g r → (eqb m 1 && ltb to room) ≡ true → x ≡ to → x ≡ cond (goes s g room m r) (leads s g r) old
-arrived s g room m r to old x q t e = went s g room m r to (leads s g r) old x q t (e ∙ q)
+kept-group : (s g np m u r x : ℕ) → eqb m 1 ≡ false → x ≡ r → x ≡ after s g np m u r .group
+unfolding goneTo
+kept-group s g np m u r x t e = rw t e
 
--- others keep the old one
-stayed : (s g room m r to new old x : ℕ) → to ≡ leads s g r → (eqb m 1 && ltb to room) ≡ false → x ≡ old → x ≡ cond (goes s g room m r) new old
-unfolding goes
-stayed s g room m r to new old x q t e = rw (← q, t) e
+-- the page of a lane, by its numbers
+page-is : (g t r : ℕ) (l : Lane) → t ≡ l .turn → r ≡ l .group → t * g + r ≡ addressOf g l
+page-is g t r l e f = rw (e, f)
 
--- 1 for a mover is told from 0
-mover-is : (b : Bool) → eqb (cond b 1 0) 1 ≡ b
-mover-is true = refl
-mover-is false = refl
-
--- a page fits into the room where it is below P
-room-is : (f P to : ℕ) → f < P → ltb to (P - f) ≡ ltb (f + to) P
-room-is f P to h =
-    ⊎-elim
-    (λ l. lt-ltb _ _ l ∙ sym (lt-ltb (f + to) P (omega arith)))
-    (λ l. le-ltb _ _ l ∙ sym (le-ltb (f + to) P (omega arith)))
-    (split to (P - f))
-
--- a lane of these numbers
-abbrev lane : (draw turn group : ℕ) → Lane
-lane d u r = record { draw = d; turn = u; group = r }
-
--- a choice of lanes is one of their numbers
-each : (m : Bool) (d u r v q : ℕ) → lane d (cond m u v) (cond m r q) ≡ cond m (lane d u r) (lane d v q)
-each true d u r v q = refl
-each false d u r v q = refl
-
--- So a lane of the numbers that the loop makes is one after the step,
-step-is : (s P : ℕ) (t : Stage) (l a : Lane) (m : ℕ) → t .f < P → m ≡ cond (leb (a .draw * (t .np + 1)) 2147483647) 1 0 → a .draw ≡ drawn (l .draw) → a .turn ≡ cond (goes s (t .g) (P - t .f) m (l .group)) (t .np) (l .turn) → a .group ≡ cond (goes s (t .g) (P - t .f) m (l .group)) (leads s (t .g) (l .group)) (l .group) → a ≡ stepped s P t l
-unfolding goes stepped
-step-is s P t l a m h e p q r =
-    let to = leads s (t .g) (l .group) in
-    let test : eqb m 1 ≡ leb (drawn (l .draw) * (t .np + 1)) 2147483647 = rw (e, p) (mover-is (leb (drawn (l .draw) * (t .np + 1)) 2147483647)) in
-    same p q r
-    ∙ each (eqb m 1 && ltb to (P - t .f)) (drawn (l .draw)) (t .np) to (l .turn) (l .group)
-    ∙ rw (test, room-is (t .f) P to h)
-
--- and fits, whether it goes or stays.
-step-fits : (s g np room m : ℕ) (l a : Lane) → 1 ≤ s → np < 8 → InGroup g l → a .draw < 2147483647 → a .turn ≡ cond (goes s g room m (l .group)) np (l .turn) → a .group ≡ cond (goes s g room m (l .group)) (leads s g (l .group)) (l .group) → InGroup g a
-step-fits s g np room m l a h low fits d = go (goes s g room m (l .group))
-  where
-    go : (b : Bool) → a .turn ≡ cond b np (l .turn) → a .group ≡ cond b (leads s g (l .group)) (l .group) → InGroup g a
-    go true q r = (d, omega arith, omega (arith, swept-high s 0 g (g - 1 - l .group) h (omega arith)))
-    go false q r = (d, omega arith, omega arith)
-
--- a draw is below the modulus, and so is what is read past the twelve
-draw-fits : (old draws : List ℕ) → length draws ≡ 12 → ((i : ℕ) → i < 12 → getD draws i 0 ≡ drawn (getD old i 0)) → (i : ℕ) → getD draws i 0 < 2147483647
-draw-fits old draws long each i =
-    ⊎-elim
-    (λ l. omega (arith, each i l))
-    (λ l. omega (arith, List·getD-eq-default draws 0 {n = i} (omega arith)))
-    (split i 12)
+-- a lane that is one that fits does, with its page
+placed : (g page : ℕ) (l a : Lane) → a ≡ l → InGroup g l → page ≡ addressOf g l → InGroup g a × (page ≡ addressOf g a)
+placed g page l a e fits p = rw e (fits, p)
 
 abbrev Inv-loop : tie.InvT-loop
-Inv-loop sweeps p s g np share each more room old-turns old-groups draws moves turns₀ groups₀ i₀ turns groups i =
-    Passed 16 (λ j. cond (goes s g room (getD moves j 0) (getD old-groups j 0)) np (getD old-turns j 0)) turns i
-    × Passed 16 (λ j. cond (goes s g room (getD moves j 0) (getD old-groups j 0)) (leads s g (getD old-groups j 0)) (getD old-groups j 0)) groups i
+Inv-loop np g sweeps moves old-turns old-groups turns₀ groups₀ pages₀ i₀ turns groups pages i =
+    Passed 16 (λ j. after (sweeps .s) g np (getD moves j 0) (getD old-turns j 0) (getD old-groups j 0) .turn) turns i
+    × Passed 16 (λ j. after (sweeps .s) g np (getD moves j 0) (getD old-turns j 0) (getD old-groups j 0) .group) groups i
+    × Passed 16 (λ j. addressOf g (after (sweeps .s) g np (getD moves j 0) (getD old-turns j 0) (getD old-groups j 0))) pages i
     × (i ≤ 16)
 
 abbrev μ-loop : tie.MeasureT-loop
-μ-loop sweeps p s g np share each more room old-turns old-groups draws moves turns₀ groups₀ i₀ turns groups i =
-    16 - i
+μ-loop np g sweeps moves old-turns old-groups turns₀ groups₀ pages₀ i₀ turns groups pages i = 16 - i
 
-cast-s : tie.Need-cast-s Inv-loop μ-loop
-cast-s c = search needs
-
-cast-g : tie.Need-cast-g Inv-loop μ-loop
-cast-g c = search needs
-
-cast-np : tie.Need-cast-np Inv-loop μ-loop
-cast-np c = search needs
-
-div-share : tie.Need-div-share Inv-loop μ-loop
-div-share c = search needs
-
-add-share : tie.Need-add-share Inv-loop μ-loop
-add-share c = omega (arith, div-le-self 32768 (c .args .sweeps))
-
-div-each : tie.Need-div-each Inv-loop μ-loop
-div-each c = search needs
-
-rem-more : tie.Need-rem-more Inv-loop μ-loop
-rem-more c = search needs
-
-sub-room : tie.Need-sub-room Inv-loop μ-loop
-sub-room c = search needs
-
-cast-room : tie.Need-cast-room Inv-loop μ-loop
-cast-room c = search needs
-
-draw-all-requires : tie.Need-draw-all-requires Inv-loop μ-loop
-draw-all-requires c κs = λ i h. c .before .before .before .pre .1 .2 i (omega arith) .0
-
-movers-requires : tie.Need-movers-requires Inv-loop μ-loop
-movers-requires c κs = c .before .before .before .before .pre .1 .1
+-- what a turn makes of its place: the lane after the step, and a page that fits
+made : (c : lts.Joined2 (target-reads.Asked, target-reads.Learnt) reads.Pre reads.Post Inv-loop μ-loop) → let at = c .before .before .before .before .before .before .before .args in let i = c .before .before .before .before .loop .i in let l = after (at .sweeps .s) (at .g) (at .np) (getD (at .t2) i 0) (getD (at .lanes .turns) i 0) (getD (at .lanes .groups) i 0) in (c .before .if1 .turn ≡ l .turn) × (c .if2 .group ≡ l .group) × (c .before .if1 .turn * at .g + c .if2 .group < 65536)
+made c =
+    let call = c .before .before in
+    let loop = call .before .before in
+    let start = loop .before .before .before in
+    let at = start .args in
+    let m = getD (at .t2) (loop .loop .i) 0 in
+    let u = getD (at .lanes .turns) (loop .loop .i) 0 in
+    let r = getD (at .lanes .groups) (loop .loop .i) 0 in
+    let l = after (at .sweeps .s) (at .g) (at .np) m u r in
+    let turn : c .before .if1 .turn ≡ l .turn = ⊎-elim (λ w. went-turn (at .sweeps .s) (at .g) (at .np) m u r _ (w .0 .taken) (w .1)) (λ w. kept-turn (at .sweeps .s) (at .g) (at .np) m u r _ (w .0 .left) (w .1)) (c .before .if1 .came) in
+    let group : c .if2 .group ≡ l .group = ⊎-elim (λ w. went-group (at .sweeps .s) (at .g) (at .np) m u r _ _ (call .target .ensures .0) (w .0 .taken) (w .1)) (λ w. kept-group (at .sweeps .s) (at .g) (at .np) m u r _ (w .0 .left) (w .1)) (c .if2 .came) in
+    let fits : InGroup (at .g) l = gone-fits (at .sweeps .s) (at .g) (at .np) m (record { turn = u; group = r }) (start .pre .0 .0) (start .pre .0 .4) (start .pre .1 (loop .loop .i) (call .before .loop-test .taken)) in
+    (turn, group, page-fits _ _ _ (omega (arith, start .pre .0 .3)) (omega (arith, turn, fits .0)) (omega (arith, group, fits .1)))
 
 loop-holds : tie.Need-loop-holds Inv-loop μ-loop
-loop-holds c = (none _ _ refl, none _ _ refl, search needs)
+loop-holds c = (none _ _ refl, none _ _ refl, none _ _ refl, search needs)
+
+mul-target : tie.Need-mul-target Inv-loop μ-loop
+mul-target c = search needs
+
+array-read-target : tie.Need-array-read-target Inv-loop μ-loop
+array-read-target c = search needs
+
+target-requires : tie.Need-target-requires Inv-loop μ-loop
+target-requires c κs =
+    let start = c .before .before .before .before in
+    (start .pre .0 .0, start .pre .0 .1, start .pre .0 .2, start .pre .1 (c .before .loop .i) (c .loop-test .taken) .1, start .pre .0 .3)
+
+mul-goes : tie.Need-mul-goes Inv-loop μ-loop
+mul-goes c = search needs
+
+array-read-goes : tie.Need-array-read-goes Inv-loop μ-loop
+array-read-goes c = search needs
 
 mul-turn : tie.Need-mul-turn Inv-loop μ-loop
 mul-turn c = search needs
@@ -152,17 +110,6 @@ mul-group c = search needs
 array-read-group : tie.Need-array-read-group Inv-loop μ-loop
 array-read-group c = search needs
 
-target-requires : tie.Need-target-requires Inv-loop μ-loop
-target-requires c κs =
-    let start = c .before .before .before .before .before .before .before in
-    (start .pre .0 .0, start .pre .0 .1, refl, start .pre .1 .2 (c .before .loop .i) (c .loop-test .taken) .2, omega arith, refl, refl)
-
-mul-goes : tie.Need-mul-goes Inv-loop μ-loop
-mul-goes c = search needs
-
-array-read-goes : tie.Need-array-read-goes Inv-loop μ-loop
-array-read-goes c = search needs
-
 mul-turns : tie.Need-mul-turns Inv-loop μ-loop
 mul-turns c = search needs
 
@@ -175,6 +122,18 @@ mul-groups c = search needs
 array-write-groups : tie.Need-array-write-groups Inv-loop μ-loop
 array-write-groups c = search needs
 
+mul-pages : tie.Need-mul-pages Inv-loop μ-loop
+mul-pages c = omega (arith, made (c .before) .2)
+
+add-pages : tie.Need-add-pages Inv-loop μ-loop
+add-pages c = omega (arith, made (c .before .before) .2)
+
+mul-pages-2 : tie.Need-mul-pages-2 Inv-loop μ-loop
+mul-pages-2 c = search needs
+
+array-write-pages : tie.Need-array-write-pages Inv-loop μ-loop
+array-write-pages c = search needs
+
 add-i : tie.Need-add-i Inv-loop μ-loop
 add-i c = search needs
 
@@ -183,27 +142,20 @@ loop-less c = search needs
 
 loop-again : tie.Need-loop-again Inv-loop μ-loop
 loop-again c =
-    let target = c .before .before in
-    let inv = target .before .before .loop .inv in
-    let h = target .before .loop-test .taken in
-    let to = target .target .ensures .0 in (
-      one _ _ _ _ (inv .0) h (⊎-elim (λ w. went _ _ _ _ _ _ _ _ _ to (w .0 .taken) (w .1)) (λ w. stayed _ _ _ _ _ _ _ _ _ to (w .0 .left) (w .1)) (c .before .if1 .came)),
-      one _ _ _ _ (inv .1) h (⊎-elim (λ w. arrived _ _ _ _ _ _ _ _ to (w .0 .taken) (w .1)) (λ w. stayed _ _ _ _ _ _ _ _ _ to (w .0 .left) (w .1)) (c .if2 .came)),
-      search needs,
-    )
+    let pages = c .before in
+    let new = made (pages .before) in
+    let at = pages .before .before .before .before .before in
+    let inv = at .loop .inv in
+    let h = pages .before .before .before .before .loop-test .taken in
+    (one _ _ _ _ (inv .0) h (new .0), one _ _ _ _ (inv .1) h (new .1), one _ _ _ _ (inv .2) h (page-is _ _ _ _ (new .0) (new .1)), search needs)
 
 returns : tie.Need-returns Inv-loop μ-loop
 returns c =
-    let movers = c .before .before in
-    let draws = movers .before in
-    let start = draws .before .before .before .before in
+    let start = c .before .before .before .before in
     let inv = c .before .loop .inv in
     let end = c .loop-test .left in
-    let long : length (draws .draw-all .result) ≡ 12 = search needs in
-    let drawn-fit = draw-fits (start .args .lanes .draws) (draws .draw-all .result) long (draws .draw-all .ensures) in (
-      λ i h. step-is _ _ _ _ _ _ (start .pre .0 .4) (movers .movers .ensures i h) (draws .draw-all .ensures i h) (over (inv .0) end i (omega arith)) (over (inv .1) end i (omega arith)),
-      λ i h. step-fits _ _ _ _ _ _ _ (start .pre .0 .0) (start .pre .1 .1) (start .pre .1 .2 i h) (drawn-fit i) (over (inv .0) end i h) (over (inv .1) end i h),
-    )
+    let each : (i : ℕ) → i < 16 → _ = λ i h. same (over (inv .0) end i h) (over (inv .1) end i h) in
+    (each, λ i h. placed _ _ _ _ (each i h) (gone-fits _ _ _ _ _ (start .pre .0 .0) (start .pre .0 .4) (start .pre .1 i h)) (over (inv .2) end i h))
 
 pub step-all-spec : {M : Type 1} → statement M
 step-all-spec =
@@ -211,29 +163,24 @@ step-all-spec =
     (tie.spec
     Inv-loop
     μ-loop
-    cast-s
-    cast-g
-    cast-np
-    div-share
-    add-share
-    div-each
-    rem-more
-    sub-room
-    cast-room
-    draw-all-requires
-    movers-requires
     loop-holds
+    mul-target
+    array-read-target
+    target-requires
+    mul-goes
+    array-read-goes
     mul-turn
     array-read-turn
     mul-group
     array-read-group
-    target-requires
-    mul-goes
-    array-read-goes
     mul-turns
     array-write-turns
     mul-groups
     array-write-groups
+    mul-pages
+    add-pages
+    mul-pages-2
+    array-write-pages
     add-i
     loop-less
     loop-again

@@ -1,27 +1,22 @@
--- `homes::lanes::turn_of` meets its contract.
-use mathlib.Core.Path.{_≡_, refl, sym, ap, _∙_}
+-- `homes::lane::turn_of` meets its contract: three tests count the turns.
+--
+use mathlib.Core.Path.{_≡_, refl}
 use mathlib.Core.Bool.{Bool, true, false}
 use Prim.Native.Nat.{ℕ, _+_, _-_, _*_, _/_, _≤_, _<_}
 use native.Mathlib.Omega.{arith}
 use mir.Val.{boolByte}
-use lib.Arith.{digits-div}
 use lib.Dec.{leb}
 use borrow.Author.Needs.{needs}
 use borrow.Author.Tests.{leb-true, leb-false}
-use Rattle.homes.proofs.lanes.turn_of.Statement.{statement}
-use Rattle.homes.proofs.lanes.turn_of.Tie as tie
-
--- a test is 1 at most
-bit : (t : Bool) → boolByte t ≤ 1
-bit true = omega arith
-bit false = omega arith
+use Rattle.homes.proofs.Bits.{bit}
+use Rattle.homes.proofs.Quotients.{parts}
+use Rattle.homes.proofs.lane.turn_of.Statement.{statement}
+use Rattle.homes.proofs.lane.turn_of.Tie as tie
 
 module _ (a g : ℕ) where
   -- between q and q + 1 times g the quotient is q
   between : (q : ℕ) → q * g ≤ a → a < q * g + g → q ≡ a / g
-  between q l h =
-      let r : a ≡ q * g + (a - q * g) = omega arith in
-      sym (ap (λ (x : ℕ). x / g) r ∙ digits-div q (omega arith))
+  between q l h = parts a g q (a - q * g) (omega arith) (omega arith) .0
 
   -- three tests count it
   counted : 1 ≤ g → a < 4 * g → boolByte (leb g a) + boolByte (leb (2 * g) a) + boolByte (leb (3 * g) a) ≡ a / g
@@ -46,7 +41,7 @@ cast-result-2 : tie.Need-cast-result-2
 cast-result-2 c = search needs
 
 add-result : tie.Need-add-result
-add-result c = omega (arith, bit (leb (c .args .g) (c .args .address)), bit (leb (2 * c .args .g) (c .args .address)))
+add-result c = omega (arith, bit (leb (c .args .g) (c .args .page)), bit (leb (2 * c .args .g) (c .args .page)))
 
 mul-result-2 : tie.Need-mul-result-2
 mul-result-2 c = search needs
@@ -56,10 +51,10 @@ cast-result-3 c = search needs
 
 add-result-2 : tie.Need-add-result-2
 add-result-2 c =
-    omega (arith, bit (leb (c .args .g) (c .args .address)), bit (leb (2 * c .args .g) (c .args .address)), bit (leb (3 * c .args .g) (c .args .address)))
+    omega (arith, bit (leb (c .args .g) (c .args .page)), bit (leb (2 * c .args .g) (c .args .page)), bit (leb (3 * c .args .g) (c .args .page)))
 
 returns : tie.Need-returns
-returns c = counted (c .args .address) (c .args .g) (c .pre .0) (c .pre .2)
+returns c = counted (c .args .page) (c .args .g) (c .pre .0) (c .pre .2)
 
 pub turn-of-spec : {M : Type 1} → statement M
 turn-of-spec =

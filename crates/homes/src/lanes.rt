@@ -22,7 +22,8 @@ pub struct Begun {
     pub pages: [u16; 16],
 }
 
-// Where each key is on its way: its page, which is its group, and its turn among the group's pages.
+// Where each key is on its way: its page, and the same by its group and its turn among the group's
+// pages.
 pub struct Lanes {
     pub turns: [u16; 16],
     pub groups: [u16; 16],
@@ -169,7 +170,8 @@ fn pick(before: [u16; 16], after: [u16; 16], p: u16) -> [u64; 12]
 }
 
 // The homes of twelve keys. The groups stay as many for the n0 steps of a round, which the compiler
-// makes use of. What a round leaves undone at size p is done with: only the pages count then.
+// makes use of. At size p a round may stop before its last step: its lanes mean nothing then, and
+// its pages are what counts.
 pub fn homes(shape: Shape, keys: [u64; 12]) -> [u64; 12]
     requires { ⌜ Ready shape ⌝ }
     ensures { λ r. ⌜ r ≡ map (homeIn shape) keys ⌝ }

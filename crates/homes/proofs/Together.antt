@@ -89,8 +89,8 @@ lane-on {t = t} on after N s P K moves l l′ below m fits e rest =
 pub picks : (P a b : ℕ) → a < P → picked P a b ≡ a
 picks P a b h = rw (lt-ltb a P h)
 
--- A step of many lanes: a lane of G groups before it and after it, with their pages, where m is 1 for
--- a mover.
+-- A step of many lanes: a lane of G groups before it and after it, with their pages, where m is 1
+-- for a mover.
 module _ {n0 x : ℕ} {t t′ : Stage} (on : Stepping n0 x t) (after : After n0 t t′) (s G m page page′ : ℕ) (l l′ : Lane) (same : t .g ≡ G) (fits : InGroup G l) (at-page : page ≡ addressOf G l) (below : page < t .f) (is : l′ ≡ goneTo s G (t .np) m l) (at-page′ : page′ ≡ addressOf G l′) where
   -- the same by the groups of the step
   in-step : InGroup (t .g) l
@@ -120,8 +120,8 @@ moves-told m b e = rw e (go b)
     go true = refl
     go false = refl
 
--- From one place of the loops of `lanes::homes` to a later one: where the steps lead a key home from
--- what is picked of its pages there, they do so here.
+-- From one place of the loops of `lanes::homes` to a later one: where the steps lead a key home
+-- from what is picked of its pages there, they do so here.
 abbrev pub Kept : (n0 s P : ℕ) (seeds : List ℕ) (x₀ : ℕ) (t₀ : Stage) (after₀ before₀ : List ℕ) (x : ℕ) (t : Stage) (after before : List ℕ) → Type 0
 Kept n0 s P seeds x₀ t₀ a₀ b₀ x t a b =
     (i N K : ℕ) → i < 12 → getD seeds i 0 ≡ 2 * seedOf K → Leads n0 N s P K x₀ t₀ (picked P (getD a₀ i 0) (getD b₀ i 0)) → Leads n0 N s P K x t (picked P (getD a i 0) (getD b i 0))

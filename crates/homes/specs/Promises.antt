@@ -7,8 +7,8 @@ use Rattle.homes.specs.declared.Params.{Params}
 use Rattle.homes.specs.Homes.{seedOf, draw, newPage, firstPages, homeWithin, home, InRange}
 
 pub record HomesPromises : Type 0 where
-  -- "draw 1 = 16807 x seed mod 2147483647, each next draw 16807 times the last, same modulus": so draw
-  -- x of a key is its seed times draw x of the seed 1, a number that no key has a part in
+  -- "draw 1 = 16807 x seed mod 2147483647, each next draw 16807 times the last, same modulus": so
+  -- draw x of a key is its seed times draw x of the seed 1, a number that no key has a part in
   pub one-step : (K x : ℕ) → draw 1 x * seedOf K % 2147483647 ≡ draw (seedOf K) x
   -- "while F < P": the bound on the steps never cuts them short; any other that is no lower leads
   -- to the same page

@@ -94,10 +94,10 @@ pub fn twice_seed(key: u64) -> u64
     2 * (key % 2147483646) + 2
 }
 
-// The draw of a power and a seed that is given doubled. The modulus is 2^31 - 1, so 2^31 counts as 1:
-// the product's high half and its low bits are added, and the sum's bit 31 once more. As the seed is
-// doubled, the high half begins at bit 32, where it costs nothing to take. The first remainder says
-// that the seed has 32 bits, for which there is a quicker product.
+// The draw of a power and a seed that is given doubled. The modulus is 2^31 - 1, so 2^31 counts as
+// 1: the product's high half and its low bits are added, and the sum's bit 31 once more. As the
+// seed is doubled, the high half begins at bit 32, where it costs nothing to take. The first
+// remainder says that the seed has 32 bits, for which there is a quicker product.
 pub fn draw(twice: u64, power: u32) -> u32
     requires { ⌜ Drawable twice power ⌝ }
     ensures { λ r. ⌜ r ≡ power * (twice / 2) % 2147483647 ⌝ }

@@ -11,8 +11,8 @@ pub struct Start {
     pub of_34: u64,
 }
 
-// What m leaves of a number below 2^26, where `by` is (2^34 - 1) / m: for these the product with `by`
-// is close enough to give the quotient.
+// What m leaves of a number below 2^26, where `by` is (2^34 - 1) / m: for these the product with
+// `by` is close enough to give the quotient.
 fn rest(x: u64, m: u64, by: u64) -> u64
     requires { ⌜ (1 ≤ m) × (m ≤ 256) × (by ≡ 17179869183 / m) × (x < 67108864) ⌝ }
     ensures { λ r. ⌜ r ≡ x % m ⌝ }

@@ -1,5 +1,5 @@
--- `homes::lanes::begin` meets its contract. The loop's invariant: in each row the places below i are
--- as they start, and the others 0.
+-- `homes::lanes::begin` meets its contract. The loop's invariant: in each row the places below i
+-- are as they start, and the others 0.
 -- The measure is what is left of the twelve.
 use mathlib.Core.Path.{_≡_, refl, ap, _∙_}
 use mathlib.Core.List.{List}

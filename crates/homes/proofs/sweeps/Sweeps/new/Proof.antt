@@ -1,32 +1,24 @@
--- `homes::sweeps::Sweeps::new` meets its contract: each entry of the table is right, and the row
--- before g + 1 is g by s.
+-- `homes::sweeps::Sweeps::new` meets its contract: the table is that of its rule, as is computed,
+-- and the row before g + 1 is g by s.
 --
-use mathlib.Core.Path.{_≡_, refl}
-use mathlib.Core.List.{List, [], _∷_}
-use Prim.Native.Nat.{ℕ, zero, suc, _+_, _-_, _*_, _/_, _%_, _≤_}
+use mathlib.Core.Path.{_≡_}
+use mathlib.Core.List.{List}
+use Prim.Native.Nat.{ℕ, _+_, _-_, _*_, _/_, _%_, _≤_}
 use native.Mathlib.Omega.{arith}
 use lib.ListN.{getD}
 use borrow.Author.Needs.{needs}
 use Rattle.homes.proofs.Quotients.{remains}
+use Rattle.homes.proofs.Table.{table, at}
 use Rattle.homes.proofs.sweeps.Sweeps.new.Statement.{statement}
 use Rattle.homes.proofs.sweeps.Sweeps.new.Tie as tie
 
 -- the table
 abbrev shares : List ℕ
-shares = 0 ∷ 65535 ∷ 32767 ∷ 21845 ∷ 16383 ∷ 13107 ∷ 10922 ∷ 9362 ∷ 8191 ∷ []
+shares = table (λ s. 65535 / s) 9
 
 -- its entry for s is 65535 by s
-share-is : (s : ℕ) → 1 ≤ s → s ≤ 8 → getD shares s 0 ≡ 65535 / s
-share-is zero h l = absurd (omega arith)
-share-is (suc zero) h l = refl
-share-is (suc (suc zero)) h l = refl
-share-is (suc (suc (suc zero))) h l = refl
-share-is (suc (suc (suc (suc zero)))) h l = refl
-share-is (suc (suc (suc (suc (suc zero))))) h l = refl
-share-is (suc (suc (suc (suc (suc (suc zero)))))) h l = refl
-share-is (suc (suc (suc (suc (suc (suc (suc zero))))))) h l = refl
-share-is (suc (suc (suc (suc (suc (suc (suc (suc zero)))))))) h l = refl
-share-is (suc (suc (suc (suc (suc (suc (suc (suc (suc s))))))))) h l = absurd (omega arith)
+share-is : (s : ℕ) → s ≤ 8 → getD shares s 0 ≡ 65535 / s
+share-is s l = at (λ k. 65535 / k) 9 s (omega arith)
 
 -- the groups of each sweep
 each-is : (c : tie.After-row-before) → c .row-before .result ≡ c .before .args .g / c .before .args .s
@@ -46,7 +38,7 @@ add-row-before : tie.Need-add-row-before
 add-row-before c = search needs
 
 row-before-requires : tie.Need-row-before-requires
-row-before-requires c κs = (c .pre .0, c .pre .1, share-is (c .args .s) (c .pre .0) (c .pre .1), search needs, search needs)
+row-before-requires c κs = (c .pre .0, c .pre .1, share-is (c .args .s) (c .pre .1), search needs, search needs)
 
 mul-t11 : tie.Need-mul-t11
 mul-t11 c = omega (arith, leaves c)
@@ -56,7 +48,7 @@ sub-t12 c = leaves c .0
 
 returns : tie.Need-returns
 returns c =
-    let share : getD shares (c .before .args .s) 0 ≡ 65535 / c .before .args .s = share-is (c .before .args .s) (c .before .pre .0) (c .before .pre .1) in
+    let share : getD shares (c .before .args .s) 0 ≡ 65535 / c .before .args .s = share-is (c .before .args .s) (c .before .pre .1) in
     λ i. record { s = c .before .args .s; share = share i; each = each-is c i; more = leaves c .1 i }
 
 pub new-spec : {M : Type 1} → statement M

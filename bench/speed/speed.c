@@ -104,14 +104,15 @@ static void print_runs(void) {
 }
 
 static void print_reasons(void) {
-    puts("\nWhere ours is the slower, and why. To work homes out together pays the more the more steps a home takes: at "
-         "P 64 there are four, and what a page costs beside them shows, a remainder of 64 bits for each of twelve keys "
-         "and the page itself, which is read into memory as one value. Put and remove judge first and write then, and "
-         "read again what they write. C moves only the records that a growth displaces; ours lays all of them anew, "
-         "and works out again the homes of those that lie off their page. C in step keeps a draw unreduced from step "
-         "to step and holds a page in place, in loops made for the processor's registers. A run of ours works out "
-         "the homes of twelve puts together and for the rest does for each what a call does; C works each home out "
-         "by itself, and looks at the state once a run.");
+    puts("\nWhere ours is the slower, and why. To work homes out together pays the more the more steps a home takes: "
+         "at P 64 there are four, and what a page costs beside them shows: the seeds and first pages of twelve keys, "
+         "which go through memory, the inverse that remainders are found by, which C works out once a call, and the "
+         "page itself, which is read into memory as one value. Put and remove judge first and write then, and read "
+         "again what they write. C moves only the records that a growth displaces; ours lays all of them anew, and "
+         "works out again the homes of those that lie off their page. C in step draws from step to step, which takes "
+         "shorter products than a table, and holds a page in place, in loops made for the processor's registers. A "
+         "run of ours works out the homes of twelve puts together and for the rest does for each what a call does; C "
+         "works each home out by itself, and looks at the state once a run.");
 }
 
 // Grow and check look at all pages lent, so theirs is the cost of a lent page.

@@ -2,14 +2,12 @@
 --
 use mathlib.Core.Path.{_≡_, refl, sym, ap, _∙_}
 use mathlib.Core.Bool.{Bool, true, false, cond}
-use mathlib.Core.Logic.{⊎-elim}
-use Prim.Native.Nat.{ℕ, zero, suc, _+_, _-_, _*_, _%_, _≤_, _<_}
-use native.Mathlib.Nat.{suc-add, add-mul, mul-assoc, mul-le-mul-right, add-sub-of-le}
+use Prim.Native.Nat.{ℕ, zero, suc, _+_, _-_, _*_, _%_, _≤_}
+use native.Mathlib.Nat.{suc-add, add-mul, mul-assoc, mul-le-mul-right}
 use native.Mathlib.Omega.{arith}
 use lib.Dec.{ltb, eqb, lit≤}
 use Rattle.homes.specs.declared.Params.{Params}
 use Rattle.homes.specs.Homes.{nextGroups, steps, mover, newPage, firstPages, homeWithin, home, InRange}
-use Rattle.homes.proofs.New.{split}
 use Rattle.homes.proofs.Steps.{stopped, enough}
 
 -- The size after n steps, from step x on.

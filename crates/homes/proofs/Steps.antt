@@ -19,16 +19,6 @@ pub record Into (goes : ℕ → ℕ → ℕ → ℕ) : Type 0 where
   pub low : (F G a : ℕ) → F ≤ goes F G a
   pub high : (F G a : ℕ) → 0 < G → goes F G a < F + G
 
--- Who is no mover stays.
-pub moved-off : (P : ℕ) (mv : Bool) (new a : ℕ) → mv ≡ false → movedTo P mv new a ≡ a
-unfolding movedTo
-moved-off P mv new a e = rw e
-
--- A mover goes to a new page that is below P.
-pub moved-on : (P : ℕ) (mv : Bool) (new a : ℕ) → mv ≡ true → new < P → movedTo P mv new a ≡ new
-unfolding movedTo
-moved-on P mv new a e h = rw (e, lt-ltb new P h)
-
 -- Nobody goes to page P or a page past it.
 pub moved-past : (P : ℕ) (mv : Bool) (new a : ℕ) → P ≤ new → movedTo P mv new a ≡ a
 unfolding movedTo

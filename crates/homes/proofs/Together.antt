@@ -52,6 +52,15 @@ module _ (s : ℕ) (t : Stage) (l : Lane) where
   either-page true even = ap (λ (n : ℕ). n + new .group) (sym even)
   either-page false even = refl
 
+  -- So a step comes to a page below the size after it.
+  pub gone-below : t .f ≡ t .np * t .g → InGroup (t .g) l → 1 ≤ s → (m : ℕ) → addressOf (t .g) l < t .f → addressOf (t .g) (goneTo s (t .g) (t .np) m l) < t .f + t .g
+  unfolding goneTo
+  gone-below even fits h m below = go (eqb m 1)
+    where
+      go : (b : Bool) → addressOf (t .g) (either b) < t .f + t .g
+      go true = omega (arith, either-page true even, swept-high s 0 (t .g) (t .g - 1 - l .group) h (omega arith))
+      go false = omega arith
+
   module _ (P : ℕ) (even : t .f ≡ t .np * t .g) (fits : InGroup (t .g) l) where
     -- where the new page is
     at : newPage s (t .f) (t .g) (addressOf (t .g) l) ≡ t .f + new .group
@@ -70,15 +79,6 @@ module _ (s : ℕ) (t : Stage) (l : Lane) where
         go : (b : Bool) → picked P (addressOf (t .g) (either b)) (addressOf (t .g) l) ≡ cond (b && ltb (t .f + new .group) P) (t .f + new .group) (addressOf (t .g) l)
         go true = rw (either-page true even)
         go false = rw (lt-ltb (addressOf (t .g) l) P below)
-
-    -- It comes to a page below the size after the step.
-    pub gone-below : 1 ≤ s → (m : ℕ) → addressOf (t .g) l < t .f → addressOf (t .g) (goneTo s (t .g) (t .np) m l) < t .f + t .g
-    unfolding goneTo
-    gone-below h m below = go (eqb m 1)
-      where
-        go : (b : Bool) → addressOf (t .g) (either b) < t .f + t .g
-        go true = omega (arith, either-page true even, swept-high s 0 (t .g) (t .g - 1 - l .group) h (omega arith))
-        go false = omega arith
 
 -- A step of a lane alone leads home from where it takes the key.
 pub lane-on : {n0 x : ℕ} {t t′ : Stage} (on : Stepping n0 x t) → After n0 t t′ → (N s P K : ℕ) (moves : Bool) (l l′ : Lane) → t .f < P → moves ≡ mover n0 K x → InGroup (t .g) l → l′ ≡ steppedTo s P t moves l → Leads n0 N s P K x t (addressOf (t .g) l) → Leads n0 N s P K (x + 1) t′ (addressOf (t .g) l′)
@@ -110,7 +110,7 @@ module _ {n0 x : ℕ} {t t′ : Stage} (on : Stepping n0 x t) (after : After n0 
 
   -- and takes it to a page of the step after it.
   pub all-below : 1 ≤ s → page′ < t′ .f
-  all-below low = omega (arith, gone, size-next on after, gone-below s t l 0 (on .even) in-step low m (omega (arith, old)))
+  all-below low = omega (arith, gone, size-next on after, gone-below s t l (on .even) in-step low m (omega (arith, old)))
 
 -- A number that is 1 for a mover is told from 0.
 pub moves-told : (m : ℕ) (b : Bool) → m ≡ cond b 1 0 → eqb m 1 ≡ b

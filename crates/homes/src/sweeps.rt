@@ -15,10 +15,9 @@ pub struct Sweeps {
     pub more: u16,
 }
 
-// The number before `next` by s, by the share of s: exact for so few groups.
-fn row_before(next: u16, share: u16, s: u16) -> u16
-    requires { ⌜ (1 ≤ s) × (s ≤ 8) × (share ≡ 65535 / s) × (1 ≤ next) × (next ≤ 4096) ⌝ }
-    ensures { λ r. ⌜ r ≡ (next - 1) / s ⌝ }
+// The number before `next` by s, where the share is that of s: exact for so few groups.
+fn row_before(next: u16, share: u16) -> u16
+    ensures { λ r. ⌜ r ≡ next * share / 65536 ⌝ }
 {
     (next as u32 * share as u32 / 65536) as u16
 }
@@ -30,7 +29,7 @@ impl Sweeps {
     {
         let shares = SHARES;
         let share = shares[s as usize];
-        let each = row_before(g + 1, share, s);
+        let each = row_before(g + 1, share);
         Self {
             s,
             share,
@@ -63,7 +62,7 @@ impl Sweeps {
         ensures within { λ r. ⌜ r < g ⌝ }
     {
         let next = g - group;
-        let row = row_before(next, self.share, self.s);
+        let row = row_before(next, self.share);
         let w = next - row * self.s - 1;
         let least = if w < self.more { w } else { self.more };
         w * self.each + least + row

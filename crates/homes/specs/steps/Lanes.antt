@@ -25,7 +25,7 @@ InGroup G l = (l .turn < 8) × (l .group < G)
 abbrev pub regrouped : (G : ℕ) → Lane → Lane
 regrouped G l = record { turn = l .turn / 2; group = l .turn % 2 * G + l .group }
 
--- the new page of a lane's group, which is turn np of the group that it is counted in
+-- the lane of its group's new page, which is so far behind size F = np x G
 abbrev pub aimed : (s G np : ℕ) → Lane → Lane
 aimed s G np l = record { turn = np; group = swept s 0 G (G - 1 - l .group) }
 

@@ -1,6 +1,6 @@
 -- The last step of a file, by which its last page was added: what it leaves as it was. A step
 -- between code and definition.
-use Prim.Native.Nat.{ℕ, zero, suc, _+_, _-_, _*_, _≤_, _<_}
+use Prim.Native.Nat.{ℕ, zero, suc, _+_, _-_, _≤_, _<_}
 use mathlib.Core.Bool.{Bool, cond, not, _&&_}
 use lib.Dec.{ltb, eqb}
 use Rattle.homes.specs.declared.Shape.{Shape}

@@ -1,13 +1,13 @@
 -- `homes::sweeps::Sweeps::new` meets its contract: the table is that of its rule, as is computed,
 -- and the row before g + 1 is g by s.
 --
-use mathlib.Core.Path.{_≡_}
+use mathlib.Core.Path.{_≡_, _∙_}
 use mathlib.Core.List.{List}
 use Prim.Native.Nat.{ℕ, _+_, _-_, _*_, _/_, _%_, _≤_}
 use native.Mathlib.Omega.{arith}
 use lib.ListN.{getD}
 use borrow.Author.Needs.{needs}
-use Rattle.homes.proofs.Quotients.{remains}
+use Rattle.homes.proofs.Quotients.{remains, by-share}
 use Rattle.homes.proofs.Table.{table, at}
 use Rattle.homes.proofs.sweeps.Sweeps.new.Statement.{statement}
 use Rattle.homes.proofs.sweeps.Sweeps.new.Tie as tie
@@ -22,7 +22,10 @@ share-is s l = at (λ k. 65535 / k) 9 s (omega arith)
 
 -- the groups of each sweep
 each-is : (c : tie.After-row-before) → c .row-before .result ≡ c .before .args .g / c .before .args .s
-each-is c = let one : c .before .args .g + 1 - 1 ≡ c .before .args .g = omega arith in rw one at (c .row-before .ensures)
+each-is c =
+    let at = c .before .args in
+    let one : at .g + 1 - 1 ≡ at .g = omega arith in
+    rw one at (c .row-before .ensures ∙ by-share (at .g + 1) _ (at .s) (c .before .pre .0) (c .before .pre .1) (share-is (at .s) (c .before .pre .1)) (omega arith) (omega arith))
 
 -- and what they leave
 leaves : (c : tie.After-row-before) → let at = c .before .args in let q = c .row-before .result in (q * at .s ≤ at .g) × (at .g - q * at .s ≡ at .g % at .s)
@@ -38,7 +41,7 @@ add-row-before : tie.Need-add-row-before
 add-row-before c = search needs
 
 row-before-requires : tie.Need-row-before-requires
-row-before-requires c κs = (c .pre .0, c .pre .1, share-is (c .args .s) (c .pre .1), search needs, search needs)
+row-before-requires c κs = search needs
 
 mul-t11 : tie.Need-mul-t11
 mul-t11 c = omega (arith, leaves c)

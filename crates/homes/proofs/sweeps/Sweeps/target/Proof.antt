@@ -1,7 +1,7 @@
 -- `homes::sweeps::Sweeps::target` meets its contract: the row is the order of growth by s, and the
 -- rest is the sweeps' sum.
 --
-use mathlib.Core.Path.{_≡_, ap}
+use mathlib.Core.Path.{_≡_, ap, _∙_}
 use mathlib.Core.Logic.{⊎-elim}
 use Prim.Native.Nat.{ℕ, _+_, _-_, _*_, _/_, _%_, _≤_, _<_, min}
 use native.Mathlib.Omega.{arith}
@@ -9,7 +9,7 @@ use borrow.Author.Needs.{needs}
 use Rattle.homes.specs.declared.sweeps.Sweeps.{Sweeps}
 use Rattle.homes.specs.Homes.{swept}
 use Rattle.homes.proofs.New.{swept-high}
-use Rattle.homes.proofs.Quotients.{remains}
+use Rattle.homes.proofs.Quotients.{remains, by-share}
 use Rattle.homes.proofs.sweeps.Sweeps.target.Statement.{statement}
 use Rattle.homes.proofs.sweeps.Sweeps.target.Tie as tie
 
@@ -39,7 +39,7 @@ over c = c .before .args .g - c .before .args .group - c .row-before .result * c
 
 -- the row that the call gives is the right one
 row-is : (c : tie.After-row-before) → let s = c .before .args .self .s in let row = c .row-before .result in (row ≡ order c / s) × (row * s ≤ order c) × (over c ≡ order c % s)
-row-is c = rest (c .before .args .self .s) (order c) (c .before .args .g - c .before .args .group) (c .row-before .result) (omega arith) (c .row-before .ensures)
+row-is c = rest (c .before .args .self .s) (order c) (c .before .args .g - c .before .args .group) (c .row-before .result) (omega arith) (c .row-before .ensures ∙ by-share _ _ _ (c .before .pre .0) (c .before .pre .1) (ap (λ (w : Sweeps). w .share) (c .before .pre .2)) (omega arith) (omega arith))
 
 -- the result
 result-is : (c : tie.Joined1) → let t = c .before .before .before in let at = t .before .args in let r = over t * at .self .each + c .if1 .least + t .row-before .result in (r ≡ swept (at .self .s) 0 (at .g) (order t)) × (r < at .g)
@@ -55,7 +55,7 @@ sub-next : tie.Need-sub-next
 sub-next c = search needs
 
 row-before-requires : tie.Need-row-before-requires
-row-before-requires c κs = (c .pre .0, c .pre .1, ap (λ (w : Sweeps). w .share) (c .pre .2), omega arith, omega arith)
+row-before-requires c κs = search needs
 
 mul-w : tie.Need-mul-w
 mul-w c = omega (arith, row-is (c .before))

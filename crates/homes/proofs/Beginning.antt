@@ -4,11 +4,12 @@ use mathlib.Core.Path.{_≡_, refl, sym, ap, _∙_}
 use Prim.Native.Nat.{ℕ, _+_, _*_, _%_, _≤_, _<_}
 use native.Mathlib.Nat.{mod-lt, div-le-self, mul-pos, mul-le-mul, mul-le-mul-right}
 use native.Mathlib.Omega.{arith}
+use Rattle.homes.specs.declared.Params.{Params}
 use Rattle.homes.specs.declared.Stage.{Stage}
 use Rattle.homes.specs.declared.lane.Lane.{Lane}
 use Rattle.homes.specs.declared.starts.Start.{Start}
 use Rattle.homes.specs.declared.sweeps.Sweeps.{Sweeps}
-use Rattle.homes.specs.Homes.{params, InRange}
+use Rattle.homes.specs.Homes.{firstPages, InRange}
 use Rattle.homes.specs.steps.Stages.{stageAt}
 use Rattle.homes.specs.steps.Starts.{startOf}
 use Rattle.homes.specs.steps.Sweeps.{sweepsOf}
@@ -23,13 +24,13 @@ pub record First (N : ℕ) (t : Stage) : Type 0 where
   pub four : t .f ≤ 4 * N
   pub groups : t .g ≡ N
 
-pub first-is : (n0 N s P : ℕ) (t : Stage) → InRange (params n0 N s) P → t ≡ stageAt n0 1 (n0 * N) N → First N t
-first-is n0 N s P t ranges e =
+pub first-is : (q : Params) (P : ℕ) (t : Stage) → InRange q P → t ≡ stageAt (q .n0) 1 (firstPages q) (q .n) → First (q .n) t
+first-is q P t ranges e =
     rw e
     record {
       low = mul-pos (ranges .n0-low) (ranges .N-low);
       high = mul-le-mul {n₂ = 4} {m₂ = 64} (ranges .n0-high) (ranges .N-high);
-      four = mul-le-mul-right N (ranges .n0-high);
+      four = mul-le-mul-right (q .n) (ranges .n0-high);
       groups = refl;
     }
 
@@ -45,8 +46,8 @@ pub lane-is : (G N a : ℕ) (l : Lane) → G ≡ N → l ≡ laneAt N a → 1 �
 lane-is G N a l q e low high = rw (q, e) (sym (at-address N a), at-fits N a low high)
 
 -- The first step leads home from a page that is the key's remainder.
-pub leads-begin : (n0 N s P K a : ℕ) (t : Stage) → t ≡ stageAt n0 1 (n0 * N) N → a ≡ K % t .f → Leads n0 (t .g) s P K 1 t a
-leads-begin n0 N s P K a t e f = rw f (leads-first n0 N s P K t e)
+pub leads-begin : (d n0 N s P K a : ℕ) (t : Stage) → t ≡ stageAt n0 1 (n0 * N) N → a ≡ K % t .f → Leads d n0 (t .g) s P K 1 t a
+leads-begin d n0 N s P K a t e f = rw f (leads-first d n0 N s P K t e)
 
 -- Sweeps that are those of s over G groups are so by their own s, which is s,
 pub sweeps-are : (s G : ℕ) (w : Sweeps) → w ≡ sweepsOf s G → (w .s ≡ s) × (w ≡ sweepsOf (w .s) G)

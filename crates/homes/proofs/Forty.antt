@@ -7,7 +7,7 @@ use native.Mathlib.Nat.{suc-add, add-mul, mul-assoc, mul-le-mul-right}
 use native.Mathlib.Omega.{arith}
 use lib.Dec.{ltb, eqb, lit≤}
 use Rattle.homes.specs.declared.Params.{Params}
-use Rattle.homes.specs.Homes.{nextGroups, steps, mover, newPage, firstPages, homeWithin, home, InRange}
+use Rattle.homes.specs.Homes.{nextGroups, steps, later, mover, newPage, firstPages, homeWithin, home, InRange}
 use Rattle.homes.proofs.Steps.{stopped, enough}
 
 -- The size after n steps, from step x on.
@@ -59,7 +59,7 @@ size-forty n0 N h k l =
 pub whole : (left : ℕ) (q : Params) (P K : ℕ) → InRange q P → P - firstPages q ≤ left → home q P K ≡ homeWithin left q P K
 unfolding home
 whole left q P K r h =
-    enough (λ x F. mover (q .n0) K x) (newPage (q .s)) (q .n0) P (P - firstPages q) left 1 (firstPages q) (q .n) (K % firstPages q) (r .N-low) (omega arith) h
+    enough (λ x F. mover (later (q .edition)) (q .n0) K x) (newPage (q .s)) (q .n0) P (P - firstPages q) left 1 (firstPages q) (q .n) (K % firstPages q) (r .N-low) (omega arith) h
 
 -- A home is found in forty steps.
 pub forty : (q : Params) (P K : ℕ) → InRange q P → home q P K ≡ homeWithin 40 q P K
@@ -68,4 +68,4 @@ forty q P K r =
     let F = firstPages q in
     let left = P - F in
     whole (40 + left) q P K r (omega arith)
-    ∙ cut (λ x F. mover (q .n0) K x) (newPage (q .s)) (q .n0) P 40 left 1 F (q .n) (K % F) (omega (arith, r .P-high, size-forty (q .n0) (q .n) (r .n0-low) (r .n0-high) (r .N-low)))
+    ∙ cut (λ x F. mover (later (q .edition)) (q .n0) K x) (newPage (q .s)) (q .n0) P 40 left 1 F (q .n) (K % F) (omega (arith, r .P-high, size-forty (q .n0) (q .n) (r .n0-low) (r .n0-high) (r .N-low)))

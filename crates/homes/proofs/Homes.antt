@@ -7,7 +7,7 @@ use Prim.Native.Nat.{ℕ, zero, suc, _+_, _-_, _%_, _<_}
 use native.Mathlib.Nat.{mod-lt, mul-pos}
 use native.Mathlib.Omega.{arith}
 use Rattle.homes.specs.declared.Params.{Params}
-use Rattle.homes.specs.Homes.{seedOf, draw, mover, newPage, firstPages, home, InRange, shapeOf}
+use Rattle.homes.specs.Homes.{seedOf, draw, later, mover, newPage, firstPages, home, InRange, shapeOf}
 use Rattle.homes.specs.steps.Last.{lastStep}
 use Rattle.homes.proofs.New.{new-low, new-high}
 use Rattle.homes.proofs.Steps.{Into, OneMore, steps-below, grown}
@@ -24,14 +24,14 @@ first-below q P K r = omega (arith, mod-lt K (mul-pos (r .n0-low) (r .N-low)), r
 pub home-below : (q : Params) (P K : ℕ) → InRange q P → home q P K < P
 unfolding home
 home-below q P K r =
-    steps-below (λ x F. mover (q .n0) K x) (newPage (q .s)) (q .n0) P (P - firstPages q) 1 (firstPages q) (q .n) (K % firstPages q) (first-below q P K r)
+    steps-below (λ x F. mover (later (q .edition)) (q .n0) K x) (newPage (q .s)) (q .n0) P (P - firstPages q) 1 (firstPages q) (q .n) (K % firstPages q) (first-below q P K r)
 
 -- With one page more each key stays at home, or its home becomes that page, where the last step
 -- leads there from it.
 pub home-more : (q : Params) (P K : ℕ) → InRange q P → OneMore (newPage (q .s)) P (lastStep (shapeOf q (P + 1))) (home q P K) (home q (P + 1) K)
 unfolding home
 home-more q P K r =
-    grown (λ x F. mover (q .n0) K x) (newPage (q .s)) (new-into (q .s) (r .s-low)) (q .n0) P 1 (firstPages q) (q .n) (K % firstPages q) (r .N-low)
+    grown (λ x F. mover (later (q .edition)) (q .n0) K x) (newPage (q .s)) (new-into (q .s) (r .s-low)) (q .n0) P 1 (firstPages q) (q .n) (K % firstPages q) (r .N-low)
 
 -- In short: it stays or becomes that page.
 pub home-grown : (q : Params) (P K : ℕ) → InRange q P → (home q (P + 1) K ≡ home q P K) ⊎ (home q (P + 1) K ≡ P)

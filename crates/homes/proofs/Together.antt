@@ -81,9 +81,9 @@ module _ (s : ℕ) (t : Stage) (l : Lane) where
         go false = rw (lt-ltb (addressOf (t .g) l) P below)
 
 -- A step of a lane alone leads home from where it takes the key.
-pub lane-on : {n0 x : ℕ} {t t′ : Stage} (on : Stepping n0 x t) → After n0 t t′ → (N s P K : ℕ) (moves : Bool) (l l′ : Lane) → t .f < P → moves ≡ mover n0 K x → InGroup (t .g) l → l′ ≡ steppedTo s P t moves l → Leads n0 N s P K x t (addressOf (t .g) l) → Leads n0 N s P K (x + 1) t′ (addressOf (t .g) l′)
-lane-on {t = t} on after N s P K moves l l′ below m fits e rest =
-    leads-on on after N s P K (addressOf (t .g) l) (addressOf (t .g) l′) below (rw (e, ← m) (step-page s t l P (on .even) fits moves)) rest
+pub lane-on : {n0 x : ℕ} {t t′ : Stage} (on : Stepping n0 x t) → After n0 t t′ → (d N s P K : ℕ) (moves : Bool) (l l′ : Lane) → t .f < P → moves ≡ mover d n0 K x → InGroup (t .g) l → l′ ≡ steppedTo s P t moves l → Leads d n0 N s P K x t (addressOf (t .g) l) → Leads d n0 N s P K (x + 1) t′ (addressOf (t .g) l′)
+lane-on {t = t} on after d N s P K moves l l′ below m fits e rest =
+    leads-on on after d N s P K (addressOf (t .g) l) (addressOf (t .g) l′) below (rw (e, ← m) (step-page s t l P (on .even) fits moves)) rest
 
 -- A page below P is picked.
 pub picks : (P a b : ℕ) → a < P → picked P a b ≡ a
@@ -103,10 +103,10 @@ module _ {n0 x : ℕ} {t t′ : Stage} (on : Stepping n0 x t) (after : After n0 
   gone = rw (same, ← is) at-page′
 
   -- It leads home from where it takes the key, once it is seen which new pages are there,
-  pub all-on : (N P K before : ℕ) → t .f < P → eqb m 1 ≡ mover n0 K x → Leads n0 N s P K x t (picked P page before) → Leads n0 N s P K (x + 1) t′ (picked P page′ page)
-  all-on N P K before small moves rest =
-      let moved : picked P page′ page ≡ movedTo P (mover n0 K x) (newPage s (t .f) (t .g) page) page = rw (gone, old) (gone-page s t l P (on .even) in-step m (mover n0 K x) moves (omega (arith, old))) in
-      leads-on on after N s P K (picked P page before) (picked P page′ page) small (rw (picks P page before (omega arith)) moved) rest
+  pub all-on : (d N P K before : ℕ) → t .f < P → eqb m 1 ≡ mover d n0 K x → Leads d n0 N s P K x t (picked P page before) → Leads d n0 N s P K (x + 1) t′ (picked P page′ page)
+  all-on d N P K before small moves rest =
+      let moved : picked P page′ page ≡ movedTo P (mover d n0 K x) (newPage s (t .f) (t .g) page) page = rw (gone, old) (gone-page s t l P (on .even) in-step m (mover d n0 K x) moves (omega (arith, old))) in
+      leads-on on after d N s P K (picked P page before) (picked P page′ page) small (rw (picks P page before (omega arith)) moved) rest
 
   -- and takes it to a page of the step after it.
   pub all-below : 1 ≤ s → page′ < t′ .f
@@ -122,14 +122,14 @@ moves-told m b e = rw e (go b)
 
 -- From one place of the loops of `lanes::homes` to a later one: where the steps lead a key home
 -- from what is picked of its pages there, they do so here.
-abbrev pub Kept : (n0 s P : ℕ) (seeds : List ℕ) (x₀ : ℕ) (t₀ : Stage) (after₀ before₀ : List ℕ) (x : ℕ) (t : Stage) (after before : List ℕ) → Type 0
-Kept n0 s P seeds x₀ t₀ a₀ b₀ x t a b =
-    (i N K : ℕ) → i < 12 → getD seeds i 0 ≡ 2 * seedOf K → Leads n0 N s P K x₀ t₀ (picked P (getD a₀ i 0) (getD b₀ i 0)) → Leads n0 N s P K x t (picked P (getD a i 0) (getD b i 0))
+abbrev pub Kept : (d n0 s P : ℕ) (seeds : List ℕ) (x₀ : ℕ) (t₀ : Stage) (after₀ before₀ : List ℕ) (x : ℕ) (t : Stage) (after before : List ℕ) → Type 0
+Kept d n0 s P seeds x₀ t₀ a₀ b₀ x t a b =
+    (i N K : ℕ) → i < 12 → getD seeds i 0 ≡ 2 * seedOf K → Leads d n0 N s P K x₀ t₀ (picked P (getD a₀ i 0) (getD b₀ i 0)) → Leads d n0 N s P K x t (picked P (getD a i 0) (getD b i 0))
 
 -- It goes on through a round, which has the same sweeps, and then to rows of the same pages.
-pub kept-over : (n0 s s′ P : ℕ) (seeds : List ℕ) (x₀ x₁ x : ℕ) (t₀ t₁ t : Stage) (a₀ b₀ a₁ b₁ a b a′ : List ℕ) → s′ ≡ s → Kept n0 s P seeds x₀ t₀ a₀ b₀ x₁ t₁ a₁ b₁ → Kept n0 s′ P seeds x₁ t₁ a₁ b₁ x t a b → ((i : ℕ) → i < 12 → getD a′ i 0 ≡ getD a i 0) → Kept n0 s P seeds x₀ t₀ a₀ b₀ x t a′ b
-kept-over n0 s s′ P seeds x₀ x₁ x t₀ t₁ t a₀ b₀ a₁ b₁ a b a′ e k k′ same =
-    let on : Kept n0 s P seeds x₁ t₁ a₁ b₁ x t a b = subst (λ (z : ℕ). Kept n0 z P seeds x₁ t₁ a₁ b₁ x t a b) e k′ in
+pub kept-over : (d n0 s s′ P : ℕ) (seeds : List ℕ) (x₀ x₁ x : ℕ) (t₀ t₁ t : Stage) (a₀ b₀ a₁ b₁ a b a′ : List ℕ) → s′ ≡ s → Kept d n0 s P seeds x₀ t₀ a₀ b₀ x₁ t₁ a₁ b₁ → Kept d n0 s′ P seeds x₁ t₁ a₁ b₁ x t a b → ((i : ℕ) → i < 12 → getD a′ i 0 ≡ getD a i 0) → Kept d n0 s P seeds x₀ t₀ a₀ b₀ x t a′ b
+kept-over d n0 s s′ P seeds x₀ x₁ x t₀ t₁ t a₀ b₀ a₁ b₁ a b a′ e k k′ same =
+    let on : Kept d n0 s P seeds x₁ t₁ a₁ b₁ x t a b = subst (λ (z : ℕ). Kept d n0 z P seeds x₁ t₁ a₁ b₁ x t a b) e k′ in
     λ i N K h q l. rw (same i h) (on i N K h q (k i N K h q l))
 
 -- How a round goes on: with the groups that it began with, or, when it is over, twice as many.

@@ -5,8 +5,9 @@ use Prim.Native.Nat.{ℕ, zero, suc, _+_, _-_, _*_, _/_, _%_, _≤_, _<_}
 use native.Mathlib.Nat.{zero-mod}
 use native.Mathlib.Omega.{arith}
 use lib.Dec.{leb}
+use Rattle.homes.specs.declared.Params.{Params}
 use Rattle.homes.specs.declared.Stage.{Stage}
-use Rattle.homes.specs.Homes.{seedOf, draw, np, mover, newPage, movedTo, nextGroups, steps, params, home, InRange}
+use Rattle.homes.specs.Homes.{seedOf, draw, later, np, mover, newPage, movedTo, nextGroups, steps, firstPages, home, InRange}
 use Rattle.homes.specs.steps.Powers.{power, limit, Drawable}
 use Rattle.homes.specs.steps.Stages.{stageAt, nextStep, After, Bounded}
 use Rattle.homes.proofs.Draws.{drawable, drawn, limit-is}
@@ -25,32 +26,41 @@ pub record Stepping (n0 x : ℕ) (t : Stage) : Type 0 where
   pub count : x + left ≡ 41
   pub reach : 4096 ≤ sizeAfter n0 left x (t .f) (t .g)
 
+-- The home of a key by the numbers that the loops have, of which d says how many draws after draw x
+-- step x takes its draw.
+abbrev pub homeBy : (d n0 N s P K : ℕ) → ℕ
+homeBy d n0 N s P K = steps (λ y F. mover d n0 K y) (newPage s) n0 P (P - n0 * N) 1 (n0 * N) N (K % (n0 * N))
+
+-- It is that of the file with these numbers.
+pub home-by : (q : Params) (d N s P K : ℕ) → d ≡ later (q .edition) → N ≡ q .n → s ≡ q .s → homeBy d (q .n0) N s P K ≡ home q P K
+unfolding home
+home-by q d N s P K e f g = rw (e, f, g)
+
 -- The steps from step x on lead a key from page a to its home.
-abbrev pub Leads : (n0 N s P K x : ℕ) (t : Stage) (a : ℕ) → Type 0
-Leads n0 N s P K x t a = steps (λ y F. mover n0 K y) (newPage s) n0 P (P - t .f) x (t .f) (t .g) a ≡ home (params n0 N s) P K
+abbrev pub Leads : (d n0 N s P K x : ℕ) (t : Stage) (a : ℕ) → Type 0
+Leads d n0 N s P K x t a = steps (λ y F. mover d n0 K y) (newPage s) n0 P (P - t .f) x (t .f) (t .g) a ≡ homeBy d n0 N s P K
 
 -- The first step has n0 pages for each group.
 np-first : (n0 : ℕ) → np n0 1 ≡ n0
 np-first n0 = omega (arith, zero-mod n0)
 
 -- The first step is step 1,
-pub stepping-first : (n0 N s P : ℕ) (t : Stage) → InRange (params n0 N s) P → t ≡ stageAt n0 1 (n0 * N) N → Bounded n0 t → Stepping n0 1 t
-stepping-first n0 N s P t ranges e sound =
+pub stepping-first : (q : Params) (P : ℕ) (t : Stage) → InRange q P → t ≡ stageAt (q .n0) 1 (firstPages q) (q .n) → Bounded (q .n0) t → Stepping (q .n0) 1 t
+stepping-first q P t ranges e sound =
     record {
       first = omega arith;
       np-is = rw e;
       sound = sound;
-      even = rw (e, np-first n0);
+      even = rw (e, np-first (q .n0));
       small = rw e (omega (arith, ranges .P-low, ranges .P-high));
       left = 40;
       count = omega arith;
-      reach = rw e (size-forty n0 N (ranges .n0-low) (ranges .n0-high) (ranges .N-low));
+      reach = rw e (size-forty (q .n0) (q .n) (ranges .n0-low) (ranges .n0-high) (ranges .N-low));
     }
 
 -- and leads a key home from its remainder.
-pub leads-first : (n0 N s P K : ℕ) (t : Stage) → t ≡ stageAt n0 1 (n0 * N) N → Leads n0 (t .g) s P K 1 t (K % t .f)
-unfolding home
-leads-first n0 N s P K t e = rw e
+pub leads-first : (d n0 N s P K : ℕ) (t : Stage) → t ≡ stageAt n0 1 (n0 * N) N → Leads d n0 (t .g) s P K 1 t (K % t .f)
+leads-first d n0 N s P K t e = rw e
 
 module _ {n0 x : ℕ} {t : Stage} (on : Stepping n0 x t) where
   -- Below size 4,096 step x is one of the forty.
@@ -107,21 +117,21 @@ module _ {n0 x : ℕ} {t : Stage} (on : Stepping n0 x t) where
         }
 
     -- and it leads home from where step x takes a key.
-    pub leads-on : (N s P K a a′ : ℕ) → t .f < P → a′ ≡ movedTo P (mover n0 K x) (newPage s (t .f) (t .g) a) a → Leads n0 N s P K x t a → Leads n0 N s P K (x + 1) t′ a′
-    leads-on N s P K a a′ below moved rest =
+    pub leads-on : (d N s P K a a′ : ℕ) → t .f < P → a′ ≡ movedTo P (mover d n0 K x) (newPage s (t .f) (t .g) a) a → Leads d n0 N s P K x t a → Leads d n0 N s P K (x + 1) t′ a′
+    leads-on d N s P K a a′ below moved rest =
         let e : x + 1 ≡ suc x = omega arith in
-        rw (e, next-is, moved, ← turn (λ y F. mover n0 K y) (newPage s) n0 P x (t .f) (t .g) a below (on .sound .0)) rest
+        rw (e, next-is, moved, ← turn (λ y F. mover d n0 K y) (newPage s) n0 P x (t .f) (t .g) a below (on .sound .0)) rest
 
 -- At size P a key is at home.
-pub leads-home : (n0 N s P K x : ℕ) (t : Stage) (a : ℕ) → P ≤ t .f → Leads n0 N s P K x t a → a ≡ home (params n0 N s) P K
-leads-home n0 N s P K x t a h rest =
-    sym (stopped (λ y F. mover n0 K y) (newPage s) n0 P (P - t .f) x (t .f) (t .g) a h) ∙ rest
+pub leads-home : (d n0 N s P K x : ℕ) (t : Stage) (a : ℕ) → P ≤ t .f → Leads d n0 N s P K x t a → a ≡ homeBy d n0 N s P K
+leads-home d n0 N s P K x t a h rest =
+    sym (stopped (λ y F. mover d n0 K y) (newPage s) n0 P (P - t .f) x (t .f) (t .g) a h) ∙ rest
 
 -- A power from the table and a key's doubled seed give a draw,
 pub draws : (K x p d : ℕ) → p ≡ power x → d ≡ 2 * seedOf K → Drawable d p
 draws K x p d e f = rw (e, f) (drawable K x)
 
 -- and the code's test for a mover, by it and the limit for np, is 01's.
-pub mover-by : (n0 K x p d r l m : ℕ) → p ≡ power x → d ≡ 2 * seedOf K → r ≡ p * (d / 2) % 2147483647 → l ≡ limit m → m ≡ np n0 x → leb r l ≡ mover n0 K x
+pub mover-by : (d n0 K x p z r l m : ℕ) → p ≡ power (x + d) → z ≡ 2 * seedOf K → r ≡ p * (z / 2) % 2147483647 → l ≡ limit m → m ≡ np n0 x → leb r l ≡ mover d n0 K x
 unfolding mover
-mover-by n0 K x p d r l m e f g h k = rw (g, e, f, drawn K x, h, k) (limit-is (draw (seedOf K) x) (np n0 x))
+mover-by d n0 K x p z r l m e f g h k = rw (g, e, f, drawn K (x + d), h, k) (limit-is (draw (seedOf K) (x + d)) (np n0 x))

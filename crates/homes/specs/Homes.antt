@@ -1,5 +1,5 @@
--- Where a key lives: the section of that name of document 01, in its words and its order. What is
--- quoted is 01's.
+-- Where a key lives: the section of that name of document 01, in its words and its order, and 02's
+-- request 4 for the editions. What is quoted is 01's, or 02's where that is said.
 use Prim.Native.Nat.{ℕ, zero, suc, _+_, _-_, _*_, _/_, _%_, _≤_, min}
 use mathlib.Core.Bool.{Bool, cond, _&&_}
 use lib.Dec.{leb, ltb, eqb}
@@ -16,13 +16,19 @@ unfoldable pub draw : ℕ → ℕ → ℕ
 draw seed zero = seed
 draw seed (suc x) = 16807 * draw seed x % 2147483647
 
+-- 02, request 4: "From the new edition on, step x uses draw x + 10", and in edition 1 draw x: how
+-- many draws after draw x
+abbrev pub later : (edition : ℕ) → ℕ
+later edition = cond (eqb edition 2) 10 0
+
 -- "np = n0 + ((x - 1) mod n0)"
 abbrev pub np : ℕ → ℕ → ℕ
 np n0 x = n0 + (x - 1) % n0
 
--- "The key is a mover if draw x times (np + 1) is at most 2147483647."
-unfoldable pub mover : (n0 K x : ℕ) → Bool
-mover n0 K x = leb (draw (seedOf K) x * (np n0 x + 1)) 2147483647
+-- "The key is a mover if draw x times (np + 1) is at most 2147483647.": here draw x + d, by the
+-- edition
+unfoldable pub mover : (d n0 K x : ℕ) → Bool
+mover d n0 K x = leb (draw (seedOf K) (x + d) * (np n0 x + 1)) 2147483647
 
 -- "w = k mod s, new = F + w x (G div s) + min(w, G mod s) + (k div s)"
 unfoldable pub swept : (s F G k : ℕ) → ℕ
@@ -52,8 +58,8 @@ module _ (moves : ℕ → ℕ → Bool) (goes : ℕ → ℕ → ℕ → ℕ) (n0
       cond (ltb F P) on a
 
 -- the parameters of a file, from their numbers
-abbrev pub params : (n0 N s : ℕ) → Params
-params n0 N s = record { n0 = n0; n = N; s = s }
+abbrev pub params : (n0 N s edition : ℕ) → Params
+params n0 N s edition = record { n0 = n0; n = N; s = s; edition = edition }
 
 -- the pages of a file at the start
 abbrev pub firstPages : Params → ℕ
@@ -63,7 +69,7 @@ firstPages q = q .n0 * q .n
 -- are taken
 abbrev pub homeWithin : (left : ℕ) → (q : Params) → (P K : ℕ) → ℕ
 homeWithin left q P K =
-    steps (λ x F. mover (q .n0) K x) (newPage (q .s)) (q .n0) P left 1 (firstPages q) (q .n) (K % firstPages q)
+    steps (λ x F. mover (later (q .edition)) (q .n0) K x) (newPage (q .s)) (q .n0) P left 1 (firstPages q) (q .n) (K % firstPages q)
 
 -- Each step adds a page at least, so P - F of them reach P. "The last address is the home."
 unfoldable pub home : (q : Params) → (P K : ℕ) → ℕ

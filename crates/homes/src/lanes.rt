@@ -180,6 +180,7 @@ pub fn homes(shape: Shape, keys: [u64; 12]) -> [u64; 12]
     let p = shape.p;
     let powers = crate::powers::powers();
     let limits = crate::powers::limits();
+    let later = crate::powers::later(shape.params.edition);
     let mut stage = shape.first();
     let begun = begin(keys, stage.f);
     let seeds = begun.seeds;
@@ -191,7 +192,7 @@ pub fn homes(shape: Shape, keys: [u64; 12]) -> [u64; 12]
     while stage.f < p {
         let g = stage.g as u16;
         while (stage.g == g as u64) & (stage.f < p) {
-            let moves = movers(seeds, powers[x], limits[stage.np as usize]);
+            let moves = movers(seeds, powers[x + later], limits[stage.np as usize]);
             let pages = lanes.pages;
             before = pages;
             lanes = step_all(lanes, moves, stage.np as u16, g, sweeps);

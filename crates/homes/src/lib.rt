@@ -14,11 +14,13 @@ ghost use Rattle.homes.specs.Homes.{InRange, Ready, shapeOf, homeIn, new
 ghost use Rattle.homes.specs.steps.Stages.{firstStep, After, Bounded};
 ghost use Rattle.homes.specs.steps.Last.{Within, lastStep, staysAt};
 
-// The parameters of a file: pages a group and groups at the start, and sweeps.
+// The parameters of a file: pages a group and groups at the start, sweeps, and the edition, which
+// says which draws its steps take.
 pub struct Params {
     pub n0: u16,
     pub n: u16,
     pub s: u16,
+    pub edition: u16,
 }
 
 // What the homes of a file depend on: its parameters, and the pages grown to.
@@ -111,6 +113,7 @@ impl Shape {
         let p = self.p;
         let powers = powers::powers();
         let limits = powers::limits();
+        let later = powers::later(self.params.edition);
         let seed = powers::twice_seed(key);
         let mut stage = self.first();
         let start = Start::new(stage.f);
@@ -118,7 +121,7 @@ impl Shape {
         let mut sweeps = Sweeps::new(self.params.s, self.params.n);
         let mut x = 1;
         while stage.f < p {
-            let moves = powers::draw(seed, powers[x]) <= limits[stage.np as usize];
+            let moves = powers::draw(seed, powers[x + later]) <= limits[stage.np as usize];
             lane = lane.step(stage, sweeps, p, moves);
             x += 1;
             let next = stage.next(n0);

@@ -2,13 +2,13 @@
 // waits for the one before it. A constant table is written out where it is used, so a loop takes it
 // once, before its first turn.
 ghost use mathlib.Core.Path.{_≡_};
-ghost use Prim.Native.Nat.{ℕ, _*_, _/_, _%_, _<_};
+ghost use Prim.Native.Nat.{ℕ, _*_, _/_, _%_, _≤_, _<_};
 ghost use lib.ListN.{getD};
-ghost use Rattle.homes.specs.Homes.{seedOf};
+ghost use Rattle.homes.specs.Homes.{seedOf, later};
 ghost use Rattle.homes.specs.steps.Powers.{power, limit, Drawable};
 
 // Power 0 is 1, and each next 16807 times the last, modulo 2147483647. A file takes forty steps at
-// most; ten powers more serve draws that start later.
+// most, and edition 2 begins ten draws later.
 const POWERS: [u32; 51] = [
     1,
     16807,
@@ -85,6 +85,14 @@ pub fn limits() -> [u32; 8]
     ensures { λ r. ⌜ ((np : ℕ) → np < 8 → getD r np 0 ≡ limit np) ⌝ }
 {
     LIMITS
+}
+
+// How many draws after draw x step x takes its draw.
+pub fn later(edition: u16) -> usize
+    ensures { λ r. ⌜ r ≡ later edition ⌝ }
+    ensures within { λ r. ⌜ r ≤ 10 ⌝ }
+{
+    if edition == 2 { 10 } else { 0 }
 }
 
 // Twice the seed of a key: all that its draws need of it.

@@ -17,40 +17,72 @@ use Rattle.records.specs.declared.Form.the-variants as form
 use Rattle.records.specs.declared.Command.{Command}
 use Rattle.records.specs.declared.Command.the-variants.{Format, Put}
 use Rattle.records.specs.declared.Item.the-variants.{Asks, Unknown, Cut}
-use Rattle.records.specs.Records.{lengthOf, formOf, recordIn, commandOf, firstOf}
+use Rattle.records.specs.Records.{lengthOf, known, formatFor, formOf, recordIn, formatIn, commandOf, firstOf}
 use Rattle.records.specs.steps.Within.{Formed}
 
 -- the number that a record has for its kind
 abbrev pub numberOf : Kind → ℕ
 numberOf kind.Format = 257
+numberOf kind.FormatEdition = 257
 numberOf kind.Put = 258
 numberOf kind.Find = 259
 numberOf kind.Remove = 260
 numberOf kind.Grow = 261
 numberOf kind.Check = 262
 
--- which has the kind's form
-pub known-form : (k : Kind) (n : ℕ) → n ≡ numberOf k → form.Known k (lengthOf k) ≡ formOf n
+-- the length that is told chooses between the records of a format, and no others
+abbrev pub Chosen : ℕ → Kind → Type 0
+Chosen told kind.Format = formatFor told ≡ kind.Format
+Chosen told kind.FormatEdition = formatFor told ≡ kind.FormatEdition
+Chosen told kind.Put = Unit {0}
+Chosen told kind.Find = Unit {0}
+Chosen told kind.Remove = Unit {0}
+Chosen told kind.Grow = Unit {0}
+Chosen told kind.Check = Unit {0}
+
+-- so does the length of a kind's record
+pub chosen : (k : Kind) (told : ℕ) → told ≡ lengthOf k → Chosen told k
+chosen kind.Format told e = rw e
+chosen kind.FormatEdition told e = rw e
+chosen kind.Put told e = tt
+chosen kind.Find told e = tt
+chosen kind.Remove told e = tt
+chosen kind.Grow told e = tt
+chosen kind.Check told e = tt
+
+-- a kind's number has the kind's form
+pub known-form : (k : Kind) (told n : ℕ) → n ≡ numberOf k → Chosen told k → known k ≡ formOf told n
 unfolding formOf
-known-form kind.Format n e = rw e
-known-form kind.Put n e = rw e
-known-form kind.Find n e = rw e
-known-form kind.Remove n e = rw e
-known-form kind.Grow n e = rw e
-known-form kind.Check n e = rw e
+known-form kind.Format told n e h = rw (e, h)
+known-form kind.FormatEdition told n e h = rw (e, h)
+known-form kind.Put told n e h = rw e
+known-form kind.Find told n e h = rw e
+known-form kind.Remove told n e h = rw e
+known-form kind.Grow told n e h = rw e
+known-form kind.Check told n e h = rw e
+
+-- a format's has that of the length that is told
+pub format-form : (told n : ℕ) → n ≡ 257 → known (formatFor told) ≡ formOf told n
+unfolding formOf
+format-form told n e = rw e
+
+-- and its kind's length
+pub format-formed : (told : ℕ) (f : Form) → f ≡ known (formatFor told) → Formed f
+format-formed told f e = rw e refl
 
 -- any other number has none
-pub other-form : (n : ℕ)
+pub other-form : (told n : ℕ)
     → ((((((Unit {0} × (n ≡ 257 → ⊥)) × (n ≡ 258 → ⊥)) × (n ≡ 259 → ⊥)) × (n ≡ 260 → ⊥)) × (n ≡ 261 → ⊥)) × (n ≡ 262 → ⊥))
-    → form.Unknown ≡ formOf n
+    → form.Unknown ≡ formOf told n
 unfolding formOf
-other-form n h =
+other-form told n h =
     rw
     (ne-eqb n 257 (h .0 .0 .0 .0 .0 .1), ne-eqb n 258 (h .0 .0 .0 .0 .1), ne-eqb n 259 (h .0 .0 .0 .1), ne-eqb n 260 (h .0 .0 .1), ne-eqb n 261 (h .0 .1), ne-eqb n 262 (h .1))
 
 -- a record has a head at least
 pub head-low : (k : Kind) → 4 ≤ lengthOf k
 head-low kind.Format = omega arith
+head-low kind.FormatEdition = omega arith
 head-low kind.Put = omega arith
 head-low kind.Find = omega arith
 head-low kind.Remove = omega arith
@@ -62,30 +94,38 @@ abbrev pub Of : ℕ → Form → Type 0
 Of x f = (k : Kind) (n : ℕ) → f ≡ form.Known k n → (x ≡ numberOf k) × (n ≡ lengthOf k)
 
 -- so it is with one test more
-of-test : (x : ℕ) (j : Kind) (f : Form) → Of x f → Of x (cond (eqb x (numberOf j)) (form.Known j (lengthOf j)) f)
-of-test x j f h = go (eqb x (numberOf j)) refl
+of-test : (x m : ℕ) (j : Kind) (f : Form) → m ≡ numberOf j → Of x f → Of x (cond (eqb x m) (known j) f)
+of-test x m j f is h = go (eqb x m) refl
   where
-    go : (u : Bool) → eqb x (numberOf j) ≡ u → Of x (cond u (form.Known j (lengthOf j)) f)
-    go true e = λ k n q. let d : x ≡ numberOf j = eqb-true x (numberOf j) e in (cc, cc)
+    go : (u : Bool) → eqb x m ≡ u → Of x (cond u (known j) f)
+    go true e = λ k n q. let d : x ≡ m = eqb-true x m e in (cc, cc)
     go false e = h
 
+-- both records of a format have its number
+format-number : (told : ℕ) → 257 ≡ numberOf (formatFor told)
+format-number told = go (eqb told 14)
+  where
+    go : (u : Bool) → 257 ≡ numberOf (cond u kind.FormatEdition kind.Format)
+    go true = refl
+    go false = refl
+
 -- and with all of them
-pub of-number : (x : ℕ) → Of x (formOf x)
+pub of-number : (told x : ℕ) → Of x (formOf told x)
 unfolding formOf
-of-number x =
-    of-test x kind.Format _
-    (of-test x kind.Put _
-    (of-test x kind.Find _
-    (of-test x kind.Remove _ (of-test x kind.Grow _ (of-test x kind.Check form.Unknown (λ k n q. (cc, cc)))))))
+of-number told x =
+    of-test x 257 (formatFor told) _ (format-number told)
+    (of-test x 258 kind.Put _ refl
+    (of-test x 259 kind.Find _ refl
+    (of-test x 260 kind.Remove _ refl (of-test x 261 kind.Grow _ refl (of-test x 262 kind.Check form.Unknown refl (λ k n q. (cc, cc)))))))
 
 -- there is a whole record of a kind, and so of the kind that it turns out to be
 pub long : (n : ℕ) (j k : Kind) → lengthOf j ≤ n → j ≡ k → lengthOf k ≤ n
 long n j k h e = rw e at h
 
 -- the command of a format's numbers
-pub format-read : (k : Kind) (l : List ℕ) (a b c d : ℕ) → k ≡ kind.Format → a ≡ numberAt 2 l 4 → b ≡ numberAt 2 l 6 → c ≡ numberAt 2 l 8 → d ≡ numberAt 2 l 10
-    → Format (params a b c) d ≡ commandOf k l
-format-read k l a b c d e f g h i = rw (e, f, g, h, i)
+pub format-read : (l : List ℕ) (a b c d edition : ℕ) → a ≡ numberAt 2 l 4 → b ≡ numberAt 2 l 6 → c ≡ numberAt 2 l 8 → d ≡ numberAt 2 l 10
+    → Format (params a b c edition) d ≡ formatIn l edition
+format-read l a b c d edition f g h i = rw (f, g, h, i)
 
 -- the command of a put's record
 pub put-read : (k : Kind) (l : List ℕ) (x : Record) → k ≡ kind.Put → x ≡ recordIn l → Put x ≡ commandOf k l
@@ -102,25 +142,25 @@ module _ (l : List ℕ) where
   unfolding firstOf
   head-cut h = rw (lt-ltb (length l) 4 h)
 
-  module _ (h : 4 ≤ length l) {number : ℕ} (second : number ≡ numberAt 2 l 2) {f : Form} (is : f ≡ formOf number) where
+  module _ (h : 4 ≤ length l) {told number : ℕ} (first : told ≡ numberAt 2 l 0) (second : number ≡ numberAt 2 l 2) {f : Form} (is : f ≡ formOf told number) where
     -- an unknown kind
     pub kind-unknown : f ≡ form.Unknown → Unknown ≡ firstOf l
     unfolding firstOf
-    kind-unknown e = rw (le-ltb (length l) 4 h, ← second, ← is, e)
+    kind-unknown e = rw (le-ltb (length l) 4 h, ← first, ← second, ← is, e)
 
-    module _ {k : Kind} {n : ℕ} (e : f ≡ form.Known k n) {told : ℕ} (first : told ≡ numberAt 2 l 0) where
+    module _ {k : Kind} {n : ℕ} (e : f ≡ form.Known k n) where
       -- a length that is wrong for the kind
       pub length-wrong : (told ≡ n → ⊥) → Unknown ≡ firstOf l
       unfolding firstOf
-      length-wrong m = rw (le-ltb (length l) 4 h, ← second, ← is, e, ← first, ne-eqb told n m)
+      length-wrong m = rw (le-ltb (length l) 4 h, ← first, ← second, ← is, e, ← first, ne-eqb told n m)
 
       module _ (m : told ≡ n) where
         -- no whole body
         pub body-cut : length l < n → Cut ≡ firstOf l
         unfolding firstOf
-        body-cut b = rw (le-ltb (length l) 4 h, ← second, ← is, e, ← first, eq-eqb told n m, lt-ltb (length l) n b)
+        body-cut b = rw (le-ltb (length l) 4 h, ← first, ← second, ← is, e, ← first, eq-eqb told n m, lt-ltb (length l) n b)
 
         -- a whole record
         pub whole : n ≤ length l → (c : Command) → c ≡ commandOf k l → Asks c n ≡ firstOf l
         unfolding firstOf
-        whole b c q = rw (le-ltb (length l) 4 h, ← second, ← is, e, ← first, eq-eqb told n m, le-ltb (length l) n b, q)
+        whole b c q = rw (le-ltb (length l) 4 h, ← first, ← second, ← is, e, ← first, eq-eqb told n m, le-ltb (length l) n b, q)

@@ -1,11 +1,15 @@
--- The log's records to the byte (01, 'The log program'). What is quoted is 01's.
+-- The log's records to the byte (01, 'The log program'; 02, request 4: a format with its edition).
+-- What is quoted is 01's, or 02's where that is said.
 use Prim.Native.Nat.{ℕ}
+use mathlib.Core.Path.{_≡_}
 use mathlib.Core.Bool.{Bool, true, false, cond}
+use mathlib.Core.Logic.{_⊎_}
 use mathlib.Core.List.{List, [], _∷_, _++_}
 use lib.ListN.{length}
 use lib.Dec.{eqb, ltb}
 use Rattle.numbers.specs.Little.{numberAt}
 use Rattle.numbers.specs.Fields.{Field, encode}
+use Rattle.homes.specs.declared.Params.{Params}
 use Rattle.homes.specs.Homes.{params}
 use Rattle.pages.specs.Page.{Record, key, value, recordWith}
 use Rattle.state.specs.declared.State.{State}
@@ -24,23 +28,29 @@ use Rattle.records.specs.declared.Item.the-variants.{Asks, Unknown, Cut}
 use Rattle.records.specs.declared.Told.{Told}
 
 -- "257 format: n0, N, s, cap (2 bytes each), length 12. 258 put: key, value, length 20. 259 find
--- and 260 remove: key, length 12. 261 grow and 262 check: length 4."
+-- and 260 remove: key, length 12. 261 grow and 262 check: length 4." 02, request 4: "a format command
+-- of length 14"
 abbrev pub lengthOf : Kind → ℕ
 lengthOf kind.Format = 12
+lengthOf kind.FormatEdition = 14
 lengthOf kind.Put = 20
 lengthOf kind.Find = 12
 lengthOf kind.Remove = 12
 lengthOf kind.Grow = 4
 lengthOf kind.Check = 4
 
-abbrev known : Kind → Form
+abbrev pub known : Kind → Form
 known k = form.Known k (lengthOf k)
 
+-- which of a format's two records one of this length is
+abbrev pub formatFor : (length : ℕ) → Kind
+formatFor n = cond (eqb n 14) kind.FormatEdition kind.Format
+
 -- "Kinds 257 to 262 are commands, 513 is a reply, all others are unknown; a reply is unknown as
--- input."
-unfoldable pub formOf : ℕ → Form
-formOf k =
-    cond (eqb k 257) (known kind.Format)
+-- input." What a kind stands for, in a record that tells this length.
+unfoldable pub formOf : (length kind : ℕ) → Form
+formOf n k =
+    cond (eqb k 257) (known (formatFor n))
     (cond (eqb k 258) (known kind.Put)
     (cond (eqb k 259) (known kind.Find)
     (cond (eqb k 260) (known kind.Remove)
@@ -51,9 +61,15 @@ formOf k =
 abbrev pub recordIn : List ℕ → Record
 recordIn l = recordWith (numberAt 8 l 4) (numberAt 8 l 12)
 
--- the command of a record
+-- a format of that edition: "n0, N, s, cap"
+abbrev pub formatIn : List ℕ → (edition : ℕ) → Command
+formatIn l edition = Format (params (numberAt 2 l 4) (numberAt 2 l 6) (numberAt 2 l 8) edition) (numberAt 2 l 10)
+
+-- the command of a record. 02, request 4: "a format command of length 14 carries" the edition "as a
+-- last two-byte number, and length 12 still means edition 1"
 abbrev pub commandOf : Kind → List ℕ → Command
-commandOf kind.Format l = Format (params (numberAt 2 l 4) (numberAt 2 l 6) (numberAt 2 l 8)) (numberAt 2 l 10)
+commandOf kind.Format l = formatIn l 1
+commandOf kind.FormatEdition l = formatIn l (numberAt 2 l 12)
 commandOf kind.Put l = Put (recordIn l)
 commandOf kind.Find l = Find (numberAt 8 l 4)
 commandOf kind.Remove l = Remove (numberAt 8 l 4)
@@ -68,7 +84,7 @@ formed l (form.Known k n) = cond (eqb (numberAt 2 l 0) n) (cond (ltb (length l) 
 -- the first record of an input: "the four head bytes (11 if fewer)", then what they ask for.
 -- "Length covers the whole record."
 unfoldable pub firstOf : List ℕ → Item
-firstOf l = cond (ltb (length l) 4) Cut (formed l (formOf (numberAt 2 l 2)))
+firstOf l = cond (ltb (length l) 4) Cut (formed l (formOf (numberAt 2 l 0) (numberAt 2 l 2)))
 
 -- whether an input begins with a whole put record
 abbrev pub asksPut : Command → Bool
@@ -84,15 +100,35 @@ isPut (Asks c n) = asksPut c
 isPut Unknown = false
 isPut Cut = false
 
--- the bytes of a command's record: length and kind, "length first", then its numbers.
--- `RecordPromises` (Promises.antt) says that a command is read from these bytes and from no others.
+-- a format's record: length and kind, "length first", then its numbers, and what more there is
+abbrev formatWith : (length : ℕ) → Params → (cap : ℕ) → List Field → List Field
+formatWith n q cap more = (2, n) ∷ (2, 257) ∷ (2, q .n0) ∷ (2, q .n) ∷ (2, q .s) ∷ (2, cap) ∷ more
+
+-- the bytes of a command's record
 abbrev pub layoutOf : Command → List Field
-layoutOf (Format q cap) = (2, 12) ∷ (2, 257) ∷ (2, q .n0) ∷ (2, q .n) ∷ (2, q .s) ∷ (2, cap) ∷ []
+layoutOf (Format q cap) = formatWith 14 q cap ((2, q .edition) ∷ [])
 layoutOf (Put x) = (2, 20) ∷ (2, 258) ∷ (8, key x) ∷ (8, value x) ∷ []
 layoutOf (Find k) = (2, 12) ∷ (2, 259) ∷ (8, k) ∷ []
 layoutOf (Remove k) = (2, 12) ∷ (2, 260) ∷ (8, k) ∷ []
 layoutOf Grow = (2, 4) ∷ (2, 261) ∷ []
 layoutOf Check = (2, 4) ∷ (2, 262) ∷ []
+
+-- and of the shorter record that a format of edition 1 has too
+abbrev pub shortOf : Params → (cap : ℕ) → List Field
+shortOf q cap = formatWith 12 q cap []
+
+abbrev pub IsShort : Command → List Field → Type 0
+IsShort (Format q cap) w = (q .edition ≡ 1) × (w ≡ shortOf q cap)
+IsShort (Put x) w = ⊥
+IsShort (Find k) w = ⊥
+IsShort (Remove k) w = ⊥
+IsShort Grow w = ⊥
+IsShort Check w = ⊥
+
+-- the records of a command. `RecordPromises` (Promises.antt) says that it is read from their bytes
+-- and from no others.
+abbrev pub IsRecord : Command → List Field → Type 0
+IsRecord c w = (w ≡ layoutOf c) ⊎ IsShort c w
 
 abbrev pub bit : Bool → ℕ
 bit u = cond u 1 0

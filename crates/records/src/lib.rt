@@ -9,12 +9,14 @@ ghost use mathlib.Core.Path.{_≡_};
 ghost use Prim.Native.Nat.{_≤_};
 ghost use lib.ListN.{length};
 ghost use Rattle.numbers.specs.Fields.{encode};
-ghost use Rattle.records.specs.Records.{lengthOf, formOf, recordIn, commandOf, firstOf, asksPut, isPut, refusedBy, tells, replyOf};
+ghost use Rattle.records.specs.Records.{lengthOf, known, formatFor, formOf, recordIn, formatIn, commandOf, firstOf, asksPut, isPut, refusedBy, tells, replyOf};
 ghost use Rattle.records.specs.steps.Within.{Formed, Lies};
 
-// What a kind stands for.
+// What a kind stands for. A format's record has two lengths, of which the longer one names the
+// edition.
 pub enum Kind {
     Format,
+    FormatEdition,
     Put,
     Find,
     Remove,
@@ -51,17 +53,30 @@ pub struct Told {
     pub numbers: Numbers,
 }
 
-// The command that a kind stands for, and the length of its record.
-fn form_of(kind: u16) -> Form
-    ensures { λ r. ⌜ r ≡ formOf kind ⌝ }
+// Which of a format's two records one of this length is.
+fn format_form(told: u16) -> Form
+    ensures { λ r. ⌜ r ≡ known (formatFor told) ⌝ }
+{
+    if told == 14 {
+        return Form::Known {
+            kind: Kind::FormatEdition,
+            length: 14,
+        };
+    }
+    Form::Known {
+        kind: Kind::Format,
+        length: 12,
+    }
+}
+
+// The command that a kind stands for, and the length of its record, where this one is told.
+fn form_of(told: u16, kind: u16) -> Form
+    ensures { λ r. ⌜ r ≡ formOf told kind ⌝ }
     ensures within { λ r. ⌜ Formed r ⌝ }
 {
     match kind {
         0..=256 => Form::Unknown,
-        257 => Form::Known {
-            kind: Kind::Format,
-            length: 12,
-        },
+        257 => format_form(told),
         258 => Form::Known {
             kind: Kind::Put,
             length: 20,
@@ -97,23 +112,31 @@ pub fn record_in(input: &[u8]) -> Record
     }
 }
 
+// A format of this edition, from its record.
+fn format_in(input: &[u8], edition: u16) -> Command
+    requires { ⌜ 12 ≤ length (now input) ⌝ }
+    ensures { λ r. ⌜ r ≡ formatIn (now (input .entry)) edition ⌝ }
+{
+    let params = Params {
+        n0: numbers::get_u16(input, 4),
+        n: numbers::get_u16(input, 6),
+        s: numbers::get_u16(input, 8),
+        edition,
+    };
+    Command::Format {
+        params,
+        cap: numbers::get_u16(input, 10),
+    }
+}
+
 // The command of a whole record, from its body.
 fn command_of(kind: Kind, input: &[u8]) -> Command
     requires { ⌜ lengthOf kind ≤ length (now input) ⌝ }
     ensures { λ r. ⌜ r ≡ commandOf kind (now (input .entry)) ⌝ }
 {
     match kind {
-        Kind::Format => {
-            let params = Params {
-                n0: numbers::get_u16(input, 4),
-                n: numbers::get_u16(input, 6),
-                s: numbers::get_u16(input, 8),
-            };
-            Command::Format {
-                params,
-                cap: numbers::get_u16(input, 10),
-            }
-        }
+        Kind::Format => format_in(input, 1),
+        Kind::FormatEdition => format_in(input, numbers::get_u16(input, 12)),
         Kind::Put => Command::Put {
             new: record_in(input),
         },
@@ -137,7 +160,7 @@ pub fn first(input: &[u8]) -> Item
         return Item::Cut;
     }
     let told = numbers::get_u16(input, 0);
-    let form = form_of(numbers::get_u16(input, 2));
+    let form = form_of(told, numbers::get_u16(input, 2));
     match form {
         Form::Unknown => Item::Unknown,
         Form::Known { kind, length } => {

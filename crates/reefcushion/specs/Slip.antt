@@ -1,11 +1,12 @@
 -- The slip: forty bytes by which a program in another language hands a call the state of its file,
 -- and is handed the state and the answer. What is quoted is 01's.
-use Prim.Native.Nat.{ℕ}
+use Prim.Native.Nat.{ℕ, _+_, _%_}
 use mathlib.Core.Bool.{Bool, cond}
 use mathlib.Core.List.{List, _++_}
 use lib.ListN.{length}
 use lib.Dec.{eqb}
 use Rattle.numbers.specs.Fields.{encode}
+use Rattle.homes.specs.Homes.{params}
 use Rattle.state.specs.declared.State.{State}
 use Rattle.state.specs.declared.Numbers.{Numbers}
 use Rattle.state.specs.State.{isDue}
@@ -16,13 +17,20 @@ use Rattle.register.specs.Files.{Call, grow, File, fileOf, Left, left, numbersO
 abbrev pub isSlip : List ℕ → Bool
 isSlip l = eqb (length l) 40
 
--- the state that a slip brings, in its first sixteen bytes; those of an answer aren't looked at
-abbrev pub stateIn : List ℕ → State
-stateIn l = stateAt l 0
+-- a state with its edition so many more, as numbers of two bytes go round
+abbrev pub renumbered : (by : ℕ) → State → State
+renumbered by s =
+    record { params = params (s .params .n0) (s .params .n) (s .params .s) ((s .params .edition + by) % 65536); p = s .p; cap = s .cap; r = s .r }
 
--- a slip: the state's bytes, with 0 for the idle number, and then the answer's
+-- the state that a slip brings, in its first sixteen bytes; those of an answer aren't looked at. It
+-- has the edition less 1: slips from before there were editions have 0 there, and "Edition 1 files
+-- stay readable and writable as they are" (02, request 4).
+abbrev pub stateIn : List ℕ → State
+stateIn l = renumbered 1 (stateAt l 0)
+
+-- a slip: the state's bytes, with the edition less 1, and then the answer's
 abbrev pub slipOf : State → Numbers → List ℕ
-slipOf s n = encode (stateFields s 0 ++ answerFields n)
+slipOf s n = encode (stateFields (renumbered 65535 s) ++ answerFields n)
 
 -- the file that a slip and an area are
 abbrev pub fileIn : (slip area : List ℕ) → File

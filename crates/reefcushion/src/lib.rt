@@ -5,19 +5,48 @@ use homes::Params;
 use pages::Record;
 use records::Told;
 use state::Done;
+use state::State;
 ghost use mathlib.Core.Path.{_≡_};
 ghost use lib.ListN.{length};
 ghost use Rattle.homes.specs.Homes.{params};
 ghost use Rattle.pages.specs.Page.{recordWith};
 ghost use Rattle.state.specs.Answer.{numbers};
 ghost use Rattle.register.specs.Files.{format, find, put, remove, grow, check};
-ghost use Rattle.reefcushion.specs.Slip.{stateIn, slipOf, served, servedRow, servedRun, servedRoom, dueOn};
+ghost use Rattle.reefcushion.specs.Slip.{renumbered, stateIn, slipOf, served, servedRow, servedRun, servedRoom, dueOn};
 
 // The bytes of a slip.
 const SLIP: usize = 40;
 
 // What a call returns that has no slip of that length. It then does nothing.
 const NO_SLIP: u32 = 100;
+
+// The state with its edition so many more, as numbers of two bytes go round. A slip has the edition
+// less 1.
+fn renumbered(state: State, by: u16) -> State
+    ensures { λ r. ⌜ r ≡ renumbered by state ⌝ }
+{
+    let edition = state.params.edition as u32 + by as u32;
+    let params = Params {
+        n0: state.params.n0,
+        n: state.params.n,
+        s: state.params.s,
+        edition: (edition % 65536) as u16,
+    };
+    State {
+        params,
+        p: state.p,
+        cap: state.cap,
+        r: state.r,
+    }
+}
+
+// The state that a slip brings.
+fn state_in(slip: &[u8]) -> State
+    requires { ⌜ length (now slip) ≡ 40 ⌝ }
+    ensures { λ r. ⌜ r ≡ stateIn (now (slip .entry)) ⌝ }
+{
+    renumbered(slips::get_state(slip, 0), 1)
+}
 
 // What a call came to, over all of the slip. It brings the next call the state that this one left.
 fn hand_back(slip: &mut [u8], told: Told) -> u32
@@ -28,7 +57,7 @@ fn hand_back(slip: &mut [u8], told: Told) -> u32
 {
     let state = told.state;
     let numbers = told.numbers;
-    slips::put_state(slip, 0, state, 0);
+    slips::put_state(slip, 0, renumbered(state, 65535));
     slips::put_answer(slip, 16, numbers);
     numbers.refusal as u32
 }
@@ -43,6 +72,29 @@ fn tell(slip: &mut [u8], done: Done) -> u32
     hand_back(slip, told)
 }
 
+// A file of the edition that is asked for.
+#[no_mangle]
+pub extern "C" fn reefcushion_format_edition(
+    slip: &mut [u8],
+    area: &mut [u8],
+    n0: u16,
+    n: u16,
+    s: u16,
+    cap: u16,
+    edition: u16,
+) -> u32
+    ensures { λ r. let o = served (now (slip .entry)) (now (area .entry)) (format (params n0 n s edition) cap) in ⌜ (r ≡ o .returned) × ((now (slip .exit) ≡ o .slip) × ((now (area .exit) ≡ o .file .area) × (stateIn (now (slip .exit)) ≡ o .file .state))) ⌝ }
+{
+    if slip.len() != SLIP {
+        return NO_SLIP;
+    }
+    let state = state_in(&slip[..]);
+    let params = Params { n0, n, s, edition };
+    let done = register::format(state, params, cap, area);
+    tell(slip, done)
+}
+
+// A file of edition 1, which a format makes that names none.
 #[no_mangle]
 pub extern "C" fn reefcushion_format(
     slip: &mut [u8],
@@ -52,15 +104,9 @@ pub extern "C" fn reefcushion_format(
     s: u16,
     cap: u16,
 ) -> u32
-    ensures { λ r. let o = served (now (slip .entry)) (now (area .entry)) (format (params n0 n s) cap) in ⌜ (r ≡ o .returned) × ((now (slip .exit) ≡ o .slip) × ((now (area .exit) ≡ o .file .area) × (stateIn (now (slip .exit)) ≡ o .file .state))) ⌝ }
+    ensures { λ r. let o = served (now (slip .entry)) (now (area .entry)) (format (params n0 n s 1) cap) in ⌜ (r ≡ o .returned) × ((now (slip .exit) ≡ o .slip) × ((now (area .exit) ≡ o .file .area) × (stateIn (now (slip .exit)) ≡ o .file .state))) ⌝ }
 {
-    if slip.len() != SLIP {
-        return NO_SLIP;
-    }
-    let state = slips::get_state(&slip[..], 0);
-    let params = Params { n0, n, s };
-    let done = register::format(state, params, cap, area);
-    tell(slip, done)
+    reefcushion_format_edition(slip, area, n0, n, s, cap, 1)
 }
 
 #[no_mangle]
@@ -70,7 +116,7 @@ pub extern "C" fn reefcushion_find(slip: &mut [u8], area: &[u8], key: u64) -> u3
     if slip.len() != SLIP {
         return NO_SLIP;
     }
-    let state = slips::get_state(&slip[..], 0);
+    let state = state_in(&slip[..]);
     let done = register::find(state, area, key);
     tell(slip, done)
 }
@@ -82,7 +128,7 @@ pub extern "C" fn reefcushion_put(slip: &mut [u8], area: &mut [u8], key: u64, va
     if slip.len() != SLIP {
         return NO_SLIP;
     }
-    let state = slips::get_state(&slip[..], 0);
+    let state = state_in(&slip[..]);
     let done = register::put(state, area, Record { key, value });
     tell(slip, done)
 }
@@ -94,7 +140,7 @@ pub extern "C" fn reefcushion_remove(slip: &mut [u8], area: &mut [u8], key: u64)
     if slip.len() != SLIP {
         return NO_SLIP;
     }
-    let state = slips::get_state(&slip[..], 0);
+    let state = state_in(&slip[..]);
     let done = register::remove(state, area, key);
     tell(slip, done)
 }
@@ -106,7 +152,7 @@ pub extern "C" fn reefcushion_grow(slip: &mut [u8], area: &mut [u8], row: &mut [
     if slip.len() != SLIP {
         return NO_SLIP;
     }
-    let state = slips::get_state(&slip[..], 0);
+    let state = state_in(&slip[..]);
     let done = register::grow(state, area, row);
     tell(slip, done)
 }
@@ -118,7 +164,7 @@ pub extern "C" fn reefcushion_check(slip: &mut [u8], area: &[u8]) -> u32
     if slip.len() != SLIP {
         return NO_SLIP;
     }
-    let state = slips::get_state(&slip[..], 0);
+    let state = state_in(&slip[..]);
     let done = register::check(state, area);
     tell(slip, done)
 }
@@ -136,7 +182,7 @@ pub extern "C" fn reefcushion_put_run(
     if slip.len() != SLIP {
         return NO_SLIP;
     }
-    let state = slips::get_state(&slip[..], 0);
+    let state = state_in(&slip[..]);
     let told = pay_runs::put_run(state, area, input, replies);
     hand_back(slip, told)
 }
@@ -149,6 +195,6 @@ pub extern "C" fn reefcushion_due(slip: &[u8]) -> u32
     if slip.len() != SLIP {
         return 0;
     }
-    let state = slips::get_state(slip, 0);
+    let state = state_in(slip);
     if state.due() { 1 } else { 0 }
 }

@@ -10,11 +10,12 @@ use Rattle.state.specs.declared.State.{State}
 use Rattle.slips.specs.Slips.{stateAt, stateFields}
 
 -- between other bytes, where its numbers fit their widths
-pub state-again : (s : State) (idle : ℕ) (p q : List ℕ) (at : ℕ) → length p ≡ at → Fit (stateFields s idle) → stateAt (p ++ (encode (stateFields s idle) ++ q)) at ≡ s
-state-again s idle p q at n fit =
-    let l : List ℕ = p ++ (encode (stateFields s idle) ++ q) in
-    let k : matches l at (stateFields s idle) ≡ true = matches-complete (stateFields s idle) p q at n fit in
-    let f₅ : List Field = (2, idle) ∷ (4, s .r) ∷ [] in
+pub state-again : (s : State) (p q : List ℕ) (at : ℕ) → length p ≡ at → Fit (stateFields s) → stateAt (p ++ (encode (stateFields s) ++ q)) at ≡ s
+state-again s p q at n fit =
+    let l : List ℕ = p ++ (encode (stateFields s) ++ q) in
+    let k : matches l at (stateFields s) ≡ true = matches-complete (stateFields s) p q at n fit in
+    let f₆ : List Field = (4, s .r) ∷ [] in
+    let f₅ : List Field = (2, s .params .edition) ∷ f₆ in
     let f₄ : List Field = (2, s .cap) ∷ f₅ in
     let f₃ : List Field = (2, s .p) ∷ f₄ in
     let f₂ : List Field = (2, s .params .s) ∷ f₃ in
@@ -25,5 +26,6 @@ state-again s idle p q at n fit =
       match-at ((2, s .params .n0) ∷ (2, s .params .n) ∷ []) 2 (s .params .s) f₃ l at k,
       match-at ((2, s .params .n0) ∷ (2, s .params .n) ∷ (2, s .params .s) ∷ []) 2 (s .p) f₄ l at k,
       match-at ((2, s .params .n0) ∷ (2, s .params .n) ∷ (2, s .params .s) ∷ (2, s .p) ∷ []) 2 (s .cap) f₅ l at k,
-      match-at ((2, s .params .n0) ∷ (2, s .params .n) ∷ (2, s .params .s) ∷ (2, s .p) ∷ (2, s .cap) ∷ (2, idle) ∷ []) 4 (s .r) [] l at k,
+      match-at ((2, s .params .n0) ∷ (2, s .params .n) ∷ (2, s .params .s) ∷ (2, s .p) ∷ (2, s .cap) ∷ []) 2 (s .params .edition) f₆ l at k,
+      match-at ((2, s .params .n0) ∷ (2, s .params .n) ∷ (2, s .params .s) ∷ (2, s .p) ∷ (2, s .cap) ∷ (2, s .params .edition) ∷ []) 4 (s .r) [] l at k,
     )

@@ -8,15 +8,15 @@ use Rattle.homes.specs.Homes.{params}
 use Rattle.state.specs.declared.State.{State}
 use Rattle.state.specs.declared.Numbers.{Numbers}
 
--- the state whose sixteen bytes stand at an offset: "n0 .., N .., s .., P .., cap .., r". The idle
--- number before r isn't looked at.
+-- the state whose sixteen bytes stand at an offset: "n0 .., N .., s .., P .., cap .., r", with the
+-- edition (02, request 4) before r
 abbrev pub stateAt : List ℕ → ℕ → State
 stateAt l at =
-    record { params = params (numberAt 2 l at) (numberAt 2 l (at + 2)) (numberAt 2 l (at + 4)); p = numberAt 2 l (at + 6); cap = numberAt 2 l (at + 8); r = numberAt 4 l (at + 12) }
+    record { params = params (numberAt 2 l at) (numberAt 2 l (at + 2)) (numberAt 2 l (at + 4)) (numberAt 2 l (at + 10)); p = numberAt 2 l (at + 6); cap = numberAt 2 l (at + 8); r = numberAt 4 l (at + 12) }
 
--- a state's bytes, with an idle number before r
-abbrev pub stateFields : State → (idle : ℕ) → List Field
-stateFields s idle = (2, s .params .n0) ∷ (2, s .params .n) ∷ (2, s .params .s) ∷ (2, s .p) ∷ (2, s .cap) ∷ (2, idle) ∷ (4, s .r) ∷ []
+-- a state's bytes
+abbrev pub stateFields : State → List Field
+stateFields s = (2, s .params .n0) ∷ (2, s .params .n) ∷ (2, s .params .s) ∷ (2, s .p) ∷ (2, s .cap) ∷ (2, s .params .edition) ∷ (4, s .r) ∷ []
 
 -- an answer's bytes in a slip, in 01's numbers, with four zeros at the end
 abbrev pub answerFields : Numbers → List Field

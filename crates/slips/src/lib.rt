@@ -19,6 +19,7 @@ pub fn get_state(bytes: &[u8], at: usize) -> State
         n0: numbers::get_u16(bytes, at),
         n: numbers::get_u16(bytes, at + 2),
         s: numbers::get_u16(bytes, at + 4),
+        edition: numbers::get_u16(bytes, at + 10),
     };
     State {
         params,
@@ -28,17 +29,17 @@ pub fn get_state(bytes: &[u8], at: usize) -> State
     }
 }
 
-// A state's sixteen bytes to an offset, with an idle number before r.
-pub fn put_state(bytes: &mut [u8], at: usize, state: State, idle: u16)
+// A state's sixteen bytes to an offset.
+pub fn put_state(bytes: &mut [u8], at: usize, state: State)
     requires { ⌜ at + 16 ≤ length (now bytes) ⌝ }
-    ensures { λ _. ⌜ now (bytes .exit) ≡ written (now (bytes .entry)) at (encode (stateFields state idle)) ⌝ }
+    ensures { λ _. ⌜ now (bytes .exit) ≡ written (now (bytes .entry)) at (encode (stateFields state)) ⌝ }
 {
     numbers::put_u16(bytes, at, state.params.n0);
     numbers::put_u16(bytes, at + 2, state.params.n);
     numbers::put_u16(bytes, at + 4, state.params.s);
     numbers::put_u16(bytes, at + 6, state.p);
     numbers::put_u16(bytes, at + 8, state.cap);
-    numbers::put_u16(bytes, at + 10, idle);
+    numbers::put_u16(bytes, at + 10, state.params.edition);
     numbers::put_u32(bytes, at + 12, state.r);
 }
 

@@ -13,10 +13,10 @@ use Rattle.state.specs.declared.State.{State}
 use Rattle.state.specs.State.{all, ranges, inRange, oneMore, oneLess, grown}
 use Rattle.state.specs.Promises.{Ranged}
 
--- Eleven tests joined from left to right are all of their list.
-pub tests-all : (a b c d e f g h i j k : Bool) → (a && b && c && d && e && f && g && h && i && j && k) ≡ all (a ∷ b ∷ c ∷ d ∷ e ∷ f ∷ g ∷ h ∷ i ∷ j ∷ k ∷ [])
+-- Thirteen tests joined from left to right are all of their list.
+pub tests-all : (a b c d e f g h i j k l m : Bool) → (a && b && c && d && e && f && g && h && i && j && k && l && m) ≡ all (a ∷ b ∷ c ∷ d ∷ e ∷ f ∷ g ∷ h ∷ i ∷ j ∷ k ∷ l ∷ m ∷ [])
 unfolding all
-tests-all a b c d e f g h i j k = simp (and-assoc, and-true)
+tests-all a b c d e f g h i j k l m = simp (and-assoc, and-true)
 
 -- The product of two numbers of 16 bits fits 32.
 pub product-fits : (a b : ℕ) → a < 65536 → b < 65536 → a * b < 4294967296
@@ -47,11 +47,13 @@ ranged s h =
       n-high = leb-true _ _ (holds 3);
       s-low = leb-true _ _ (holds 4);
       s-high = leb-true _ _ (holds 5);
-      cap-low = leb-true _ _ (holds 6);
-      cap-high = leb-true _ _ (holds 7);
-      p-low = leb-true _ _ (holds 8);
-      p-high = leb-true _ _ (holds 9);
-      r-high = leb-true _ _ (holds 10);
+      edition-low = leb-true _ _ (holds 6);
+      edition-high = leb-true _ _ (holds 7);
+      cap-low = leb-true _ _ (holds 8);
+      cap-high = leb-true _ _ (holds 9);
+      p-low = leb-true _ _ (holds 10);
+      p-high = leb-true _ _ (holds 11);
+      r-high = leb-true _ _ (holds 12);
     }
 
 -- The tests hold of a state in its ranges.
@@ -65,6 +67,8 @@ in-range s r =
       le-leb _ _ (r .n-high),
       le-leb _ _ (r .s-low),
       le-leb _ _ (r .s-high),
+      le-leb _ _ (r .edition-low),
+      le-leb _ _ (r .edition-high),
       le-leb _ _ (r .cap-low),
       le-leb _ _ (r .cap-high),
       le-leb _ _ (r .p-low),

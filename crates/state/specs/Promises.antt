@@ -1,5 +1,5 @@
--- What is promised of a state's tests (01, 'The register'): each says the inequalities that 01
--- writes. What is quoted is 01's.
+-- What is promised of a state's tests (01, 'The register'; 02, request 4): each says the
+-- inequalities that 01 and 02 write. What is quoted is 01's, or 02's where that is said.
 use Prim.Native.Nat.{_*_, _≤_, _<_}
 use mathlib.Core.Path.{_≡_}
 use mathlib.Core.Bool.{true}
@@ -7,7 +7,8 @@ use mathlib.Core.Logic.{_↔_}
 use Rattle.state.specs.declared.State.{State}
 use Rattle.state.specs.State.{inRange, isDue}
 
--- "Ranges: n0 1 to 4, N 1 to 64, s 1 to 8, cap 1 to 4,096, n0 x N <= P <= cap, r <= 12 x cap."
+-- "Ranges: n0 1 to 4, N 1 to 64, s 1 to 8, cap 1 to 4,096, n0 x N <= P <= cap, r <= 12 x cap." 02,
+-- request 4: "The state carries the edition, 1 or 2"
 pub record Ranged (x : State) : Type 0 where
   pub n0-low : 1 ≤ x .params .n0
   pub n0-high : x .params .n0 ≤ 4
@@ -15,6 +16,8 @@ pub record Ranged (x : State) : Type 0 where
   pub n-high : x .params .n ≤ 64
   pub s-low : 1 ≤ x .params .s
   pub s-high : x .params .s ≤ 8
+  pub edition-low : 1 ≤ x .params .edition
+  pub edition-high : x .params .edition ≤ 2
   pub cap-low : 1 ≤ x .cap
   pub cap-high : x .cap ≤ 4096
   pub p-low : x .params .n0 * x .params .n ≤ x .p

@@ -1,4 +1,5 @@
--- The state of a file (01, 'The register'). What is quoted is 01's.
+-- The state of a file (01, 'The register'; 02, request 4: its edition). What is quoted is 01's, or
+-- 02's where that is said.
 use Prim.Native.Nat.{ℕ, _+_, _-_, _*_}
 use mathlib.Core.Bool.{Bool, true, _&&_}
 use mathlib.Core.List.{List, [], _∷_}
@@ -12,12 +13,14 @@ unfoldable pub all : List Bool → Bool
 all [] = true
 all (t ∷ ts) = t && all ts
 
--- "Ranges: n0 1 to 4, N 1 to 64, s 1 to 8, cap 1 to 4,096, n0 x N <= P <= cap, r <= 12 x cap."
+-- "Ranges: n0 1 to 4, N 1 to 64, s 1 to 8, cap 1 to 4,096, n0 x N <= P <= cap, r <= 12 x cap." 02,
+-- request 4: "The state carries the edition, 1 or 2"
 abbrev pub ranges : State → List Bool
 ranges s =
     leb 1 (s .params .n0) ∷ leb (s .params .n0) 4
     ∷ leb 1 (s .params .n) ∷ leb (s .params .n) 64
     ∷ leb 1 (s .params .s) ∷ leb (s .params .s) 8
+    ∷ leb 1 (s .params .edition) ∷ leb (s .params .edition) 2
     ∷ leb 1 (s .cap) ∷ leb (s .cap) 4096
     ∷ leb (firstPages (s .params)) (s .p) ∷ leb (s .p) (s .cap)
     ∷ leb (s .r) (12 * s .cap)

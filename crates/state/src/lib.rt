@@ -69,6 +69,7 @@ impl State {
         let n0 = self.params.n0;
         let n = self.params.n;
         let s = self.params.s;
+        let edition = self.params.edition;
         let p = self.p;
         let cap = self.cap;
         (1 <= n0)
@@ -77,6 +78,8 @@ impl State {
             & (n <= 64)
             & (1 <= s)
             & (s <= 8)
+            & (1 <= edition)
+            & (edition <= 2)
             & (1 <= cap)
             & (cap <= 4096)
             & ((n0 as u32) * (n as u32) <= p as u32)

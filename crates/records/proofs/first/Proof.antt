@@ -29,7 +29,7 @@ returns-2 c =
     let k = c .before .before in
     let f = k .before .before in
     let g = f .before .before in
-    (length-wrong _ (g .before .if1 .left) (f .before .get-u162 .ensures) (f .form-of .ensures .0) (k .form .given .1) (g .get-u16 .ensures) (c .if2 .taken), tt)
+    (length-wrong _ (g .before .if1 .left) (g .get-u16 .ensures) (f .before .get-u162 .ensures) (f .form-of .ensures .0) (k .form .given .1) (c .if2 .taken), tt)
 
 cast-if3 : tie.Need-cast-if3
 cast-if3 c = search needs
@@ -39,7 +39,7 @@ returns-3 c =
     let k = c .before .before .before in
     let f = k .before .before in
     let g = f .before .before in
-    let w = body-cut _ (g .before .if1 .left) (f .before .get-u162 .ensures) (f .form-of .ensures .0) (k .form .given .1) (g .get-u16 .ensures) in
+    let w = body-cut _ (g .before .if1 .left) (g .get-u16 .ensures) (f .before .get-u162 .ensures) (f .form-of .ensures .0) (k .form .given .1) in
     (w (c .before .if2 .left) (c .if3 .taken), tt)
 
 command-of-requires : tie.Need-command-of-requires
@@ -53,7 +53,7 @@ cast-t11 c = search needs
 returns-4 : tie.Need-returns-4
 returns-4 c =
     let f = c .before .before in
-    (kind-unknown _ (f .before .before .before .if1 .left) (f .before .get-u162 .ensures) (f .form-of .ensures .0) (c .enum-told .given .1), tt)
+    (kind-unknown _ (f .before .before .before .if1 .left) (f .before .before .get-u16 .ensures) (f .before .get-u162 .ensures) (f .form-of .ensures .0) (c .enum-told .given .1), tt)
 
 returns-5 : tie.Need-returns-5
 returns-5 c =
@@ -61,7 +61,7 @@ returns-5 c =
     let k = e .before .before .before in
     let f = k .before .before in
     let g = f .before .before in
-    let w = whole _ (g .before .if1 .left) (f .before .get-u162 .ensures) (f .form-of .ensures .0) (k .form .given .1) (g .get-u16 .ensures) in
+    let w = whole _ (g .before .if1 .left) (g .get-u16 .ensures) (f .before .get-u162 .ensures) (f .form-of .ensures .0) (k .form .given .1) in
     (w (e .before .if2 .left) (e .if3 .left) _ (c .command-of .ensures), e .if3 .left)
 
 pub first-spec : {M : Type 1} → statement M

@@ -30,6 +30,12 @@ add-get-u16-4 c = search needs
 get-u16-requires-5 : tie.Need-get-u16-requires-5
 get-u16-requires-5 c κs = search needs
 
+add-get-u16-5 : tie.Need-add-get-u16-5
+add-get-u16-5 c = search needs
+
+get-u16-requires-6 : tie.Need-get-u16-requires-6
+get-u16-requires-6 c κs = search needs
+
 add-get-u32 : tie.Need-add-get-u32
 add-get-u32 c = search needs
 
@@ -52,6 +58,8 @@ get-state-spec =
     get-u16-requires-4
     add-get-u16-4
     get-u16-requires-5
+    add-get-u16-5
+    get-u16-requires-6
     add-get-u32
     get-u32-requires
     returns)

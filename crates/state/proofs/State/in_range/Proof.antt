@@ -27,7 +27,7 @@ mul-result-2 c = search needs
 
 returns : tie.Need-returns
 unfolding inRange
-returns c = tests-all _ _ _ _ _ _ _ _ _ _ _
+returns c = tests-all _ _ _ _ _ _ _ _ _ _ _ _ _
 
 pub in-range-spec : {M : Type 1} → statement M
 in-range-spec =

@@ -1,0 +1,15 @@
+-- `homes::powers::later` meets its contract.
+use Prim.Native.Nat.{_≤_}
+use native.Mathlib.Omega.{arith}
+use borrow.Author.Tests.{eq-eqb, ne-eqb}
+use Rattle.homes.proofs.powers.later.Statement.{statement}
+use Rattle.homes.proofs.powers.later.Tie as tie
+
+returns : tie.Need-returns
+returns c = (rw (eq-eqb _ 2 (c .if1 .taken)), omega arith)
+
+returns-2 : tie.Need-returns-2
+returns-2 c = (rw (ne-eqb _ 2 (c .if1 .left)), omega arith)
+
+pub later-spec : {M : Type 1} → statement M
+later-spec = tie.close (tie.spec returns returns-2)

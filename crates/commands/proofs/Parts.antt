@@ -17,16 +17,22 @@ use Rattle.records.specs.declared.Form.{Form}
 use Rattle.records.specs.declared.Form.the-variants as form
 use Rattle.records.specs.declared.Item.{Item}
 use Rattle.records.specs.declared.Item.the-variants.{Asks, Unknown, Cut}
-use Rattle.records.specs.Records.{lengthOf, formOf, commandOf, formed, firstOf}
+use Rattle.records.specs.Records.{lengthOf, formOf, formatIn, commandOf, formed, firstOf}
 use Rattle.commands.specs.Execute.{Site, Executed}
 use Rattle.commands.specs.Log.{Turn, waits, stops, goes, onItem, turn, Log, rests, answered, onTurn, log, wholeLog}
 use Rattle.commands.specs.Promises.{joined}
 use Rattle.records.proofs.Reading.{head-low, of-number}
 
--- the command of a whole record is the same with more behind it
-command-front : (k : Kind) (l m : List ℕ) → lengthOf k ≤ length l → commandOf k (l ++ m) ≡ commandOf k l
-command-front kind.Format l m h =
+-- a format's numbers are the same with more behind its record
+format-front : (l m : List ℕ) (edition : ℕ) → 12 ≤ length l → formatIn (l ++ m) edition ≡ formatIn l edition
+format-front l m edition h =
     rw (number-front 2 l m 4 (omega arith), number-front 2 l m 6 (omega arith), number-front 2 l m 8 (omega arith), number-front 2 l m 10 (omega arith))
+
+-- and so is the command of every whole record
+command-front : (k : Kind) (l m : List ℕ) → lengthOf k ≤ length l → commandOf k (l ++ m) ≡ commandOf k l
+command-front kind.Format l m h = format-front l m 1 h
+command-front kind.FormatEdition l m h =
+    rw (number-front 2 l m 12 (omega arith)) (format-front l m (numberAt 2 l 12) (omega arith))
 command-front kind.Put l m h = rw (number-front 8 l m 4 (omega arith), number-front 8 l m 12 (omega arith))
 command-front kind.Find l m h = rw (number-front 8 l m 4 (omega arith))
 command-front kind.Remove l m h = rw (number-front 8 l m 4 (omega arith))
@@ -34,9 +40,9 @@ command-front kind.Grow l m h = refl
 command-front kind.Check l m h = refl
 
 -- so is what a whole head asks for
-head-front : (l m : List ℕ) → 4 ≤ length l → firstOf (l ++ m) ≡ formed (l ++ m) (formOf (numberAt 2 l 2))
+head-front : (l m : List ℕ) → 4 ≤ length l → firstOf (l ++ m) ≡ formed (l ++ m) (formOf (numberAt 2 l 0) (numberAt 2 l 2))
 unfolding firstOf
-head-front l m h = rw (le-ltb (length (l ++ m)) 4 (omega (arith, length-append l m)), number-front 2 l m 2 (omega arith))
+head-front l m h = rw (le-ltb (length (l ++ m)) 4 (omega (arith, length-append l m)), number-front 2 l m 0 (omega arith), number-front 2 l m 2 (omega arith))
 
 -- a first record that is not cut off is the same with more behind it, and a command's lies within
 -- the bytes
@@ -45,7 +51,7 @@ ReadSame l Cut = Unit {0}
 ReadSame l Unknown = (m : List ℕ) → firstOf (l ++ m) ≡ Unknown
 ReadSame l (Asks c n) = (0 < n) × (n ≤ length l) × ((m : List ℕ) → firstOf (l ++ m) ≡ Asks c n)
 
-form-same : (l : List ℕ) → 4 ≤ length l → (f : Form) → formOf (numberAt 2 l 2) ≡ f → ReadSame l (formed l f)
+form-same : (l : List ℕ) → 4 ≤ length l → (f : Form) → formOf (numberAt 2 l 0) (numberAt 2 l 2) ≡ f → ReadSame l (formed l f)
 form-same l h form.Unknown e = λ m. head-front l m h ∙ rw e
 form-same l h (form.Known k n) e = go (eqb (numberAt 2 l 0) n) refl (ltb (length l) n) refl
   where
@@ -54,7 +60,7 @@ form-same l h (form.Known k n) e = go (eqb (numberAt 2 l 0) n) refl (ltb (length
     go true p true q = tt
     go true p false q =
         let b : n ≤ length l = ltb-false (length l) n q in
-        let w : n ≡ lengthOf k = of-number (numberAt 2 l 2) k n e .1 in (
+        let w : n ≡ lengthOf k = of-number (numberAt 2 l 0) (numberAt 2 l 2) k n e .1 in (
           omega (arith, head-low k),
           b,
           λ m. head-front l m h ∙ rw (e, number-front 2 l m 0 (omega arith), p, le-ltb (length (l ++ m)) n (omega (arith, length-append l m)), command-front k l m (omega arith)),
@@ -64,9 +70,9 @@ read-same : (l : List ℕ) → ReadSame l (firstOf l)
 unfolding firstOf
 read-same l = go (ltb (length l) 4) refl
   where
-    go : (u : Bool) → ltb (length l) 4 ≡ u → ReadSame l (cond u Cut (formed l (formOf (numberAt 2 l 2))))
+    go : (u : Bool) → ltb (length l) 4 ≡ u → ReadSame l (cond u Cut (formed l (formOf (numberAt 2 l 0) (numberAt 2 l 2))))
     go true e = tt
-    go false e = form-same l (ltb-false (length l) 4 e) (formOf (numberAt 2 l 2)) refl
+    go false e = form-same l (ltb-false (length l) 4 e) (formOf (numberAt 2 l 0) (numberAt 2 l 2)) refl
 
 -- a turn that goes on, or stops where more may come, is the same with more behind the bytes
 abbrev TurnSame : (last : Bool) → Site → List ℕ → Turn → Type 0

@@ -7,7 +7,7 @@ use Prim.Native.Nat.{ℕ, _*_}
 use lib.ListN.{replicate}
 use Rattle.numbers.specs.Little.{little, bytesOf, numberAt, written}
 use Rattle.numbers.specs.Fields.{encode}
-use Rattle.homes.specs.Homes.{draw, mover, swept, newPage, movedTo, nextGroups, steps, params, home}
+use Rattle.homes.specs.Homes.{draw, later, mover, swept, newPage, movedTo, nextGroups, steps, params, home}
 use Rattle.pages.specs.Page.{key, recordWith, pageBytes, recordsIn, wellFormed, readPage, inMemory}
 use Rattle.pages.specs.Places.{closed}
 use Rattle.pages.specs.steps.Slots.{opened}
@@ -33,19 +33,19 @@ grown = map (newPage 3 16 8) (7 ∷ 4 ∷ 1 ∷ 6 ∷ 3 ∷ 0 ∷ 5 ∷ 2 ∷ []
 
 -- "n0 2, N 2, s 1": the homes of a key at P 4, 5, 6, 7 and 8
 abbrev homes : ℕ → List ℕ
-homes K = map (λ P. home (params 2 2 1) P K) (4 ∷ 5 ∷ 6 ∷ 7 ∷ 8 ∷ [])
+homes K = map (λ P. home (params 2 2 1 1) P K) (4 ∷ 5 ∷ 6 ∷ 7 ∷ 8 ∷ [])
 
 -- "Same file: key 42590 is a mover at x = 1, key 42591 isn't": 1 for a mover, 0 for none
 abbrev movers : List ℕ
-movers = map (λ K. cond (mover 2 K 1) 1 0) (42590 ∷ 42591 ∷ [])
+movers = map (λ K. cond (mover (later 1) 2 K 1) 1 0) (42590 ∷ 42591 ∷ [])
 
 -- "P 4: 38 records not due, 39 due": 1 for due, 0 for not
 abbrev dues : List ℕ
-dues = map (λ r. cond (isDue (record { params = params 2 2 1; p = 4; cap = 4; r = r })) 1 0) (38 ∷ 39 ∷ [])
+dues = map (λ r. cond (isDue (record { params = params 2 2 1 1; p = 4; cap = 4; r = r })) 1 0) (38 ∷ 39 ∷ [])
 
 -- a file of n0, N and s all 1 in an area that held other bytes before
 abbrev file : (cap : ℕ) → Outcome
-file cap = formatted (record { params = params 0 0 0; p = 0; cap = 0; r = 0 }) (params 1 1 1) cap (replicate (256 * cap) 255)
+file cap = formatted (record { params = params 0 0 0 0; p = 0; cap = 0; r = 0 }) (params 1 1 1 1) cap (replicate (256 * cap) 255)
 
 -- keys put one after the other, each with itself as its value
 abbrev putAll : List ℕ → Outcome → Outcome

@@ -40,7 +40,12 @@ fn print_draws() {
 fn first_on(page: u64) -> u64
     requires { ⌜ (16 ≤ page) × (page < 24) ⌝ }
 {
-    let params = Params { n0: 2, n: 8, s: 3 };
+    let params = Params {
+        n0: 2,
+        n: 8,
+        s: 3,
+        edition: 1,
+    };
     let shape = Shape::new(params, page + 1);
     let mut key = 0;
     while key < 1000 && shape.home(key) != page {
@@ -70,7 +75,12 @@ fn print_order() {
 fn print_home(key: u64, p: u64)
     requires { ⌜ (4 ≤ p) × (p ≤ 8) ⌝ }
 {
-    let params = Params { n0: 2, n: 2, s: 1 };
+    let params = Params {
+        n0: 2,
+        n: 2,
+        s: 1,
+        edition: 1,
+    };
     let shape = Shape::new(params, p);
     say_number(b"n0 2, N 2, s 1, key ", key);
     say_number(b", P ", p);
@@ -86,21 +96,58 @@ fn print_homes(key: u64) {
     print_home(key, 8);
 }
 
-// At P 6 the first step alone has been taken, for both groups: a key that it moves has left page
-// key mod 4.
-fn print_mover(key: u64) {
-    let params = Params { n0: 2, n: 2, s: 1 };
+// Whether a key is a mover at x 1. At P 6 the first step alone has been taken, for both groups: a
+// key that it moves has left page key mod 4.
+fn is_mover(edition: u16, key: u64) -> bool {
+    let params = Params {
+        n0: 2,
+        n: 2,
+        s: 1,
+        edition,
+    };
     let shape = Shape::new(params, 6);
+    shape.home(key) != key % 4
+}
+
+fn print_mover(key: u64) {
     say_number(b"n0 2, N 2, s 1, key ", key);
-    if shape.home(key) != key % 4 {
+    if is_mover(1, key) {
         say(b", x 1: mover\n");
     } else {
         say(b", x 1: no mover\n");
     }
 }
 
+fn one_for(counts: bool) -> u64
+    ensures { λ r. ⌜ r ≤ 1 ⌝ }
+{
+    if counts { 1 } else { 0 }
+}
+
+// How many of the keys up to 42590, which all are movers in edition 1, are movers in an edition.
+fn count_movers(edition: u16) -> u64 {
+    let mut count = 0;
+    let mut key = 0;
+    while key <= 42590 {
+        count += one_for(is_mover(edition, key));
+        key += 1;
+    }
+    count
+}
+
+fn print_movers(edition: u16) {
+    say_number(b"n0 2, edition ", edition as u64);
+    say_number(b": of keys 0 to 42590, ", count_movers(edition));
+    say(b" are movers at x 1\n");
+}
+
 fn print_due(r: u32) {
-    let params = Params { n0: 2, n: 2, s: 1 };
+    let params = Params {
+        n0: 2,
+        n: 2,
+        s: 1,
+        edition: 1,
+    };
     let state = State {
         params,
         p: 4,
@@ -122,6 +169,8 @@ fn main() {
     print_homes(1);
     print_mover(42590);
     print_mover(42591);
+    print_movers(1);
+    print_movers(2);
     print_due(38);
     print_due(39);
     small_files::print_all();

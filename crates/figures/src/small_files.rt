@@ -29,9 +29,19 @@ fn put_below(mut state: State, area: &mut [u8], end: u64) -> State
 fn file_of(area: &mut [u8], cap: u16, end: u64) -> State
     requires { ⌜ end ≤ 13 ⌝ }
 {
-    let zeros = Params { n0: 0, n: 0, s: 0 };
+    let zeros = Params {
+        n0: 0,
+        n: 0,
+        s: 0,
+        edition: 0,
+    };
     let none = State::new(zeros, 0);
-    let ones = Params { n0: 1, n: 1, s: 1 };
+    let ones = Params {
+        n0: 1,
+        n: 1,
+        s: 1,
+        edition: 1,
+    };
     let done = register::format(none, ones, cap, area);
     put_below(done.state, area, end)
 }
@@ -84,6 +94,15 @@ fn print_pages(before: &[u8], after: &[u8], area: &[u8])
     print_keys(after, &area[256..512]);
 }
 
+fn print_put_12(state: State, area: &mut [u8]) {
+    let new = Record {
+        key: 12,
+        value: 120,
+    };
+    let put = register::put(state, area, new);
+    print_answer(b"  then put of key 12", put);
+}
+
 fn print_grown(area: &mut [u8], row: &mut [u32])
     requires { ⌜ length (now area) ≡ 512 ⌝ }
 {
@@ -91,12 +110,7 @@ fn print_grown(area: &mut [u8], row: &mut [u32])
     let grown = register::grow(state, area, row);
     print_answer(b"cap 2, keys 0 to 11, grow", grown);
     print_pages(b"  page ", b" then holds ", &area[..]);
-    let new = Record {
-        key: 12,
-        value: 120,
-    };
-    let put = register::put(grown.state, area, new);
-    print_answer(b"  then put of key 12", put);
+    print_put_12(grown.state, area);
 }
 
 fn print_spilt(area: &mut [u8], row: &mut [u32])

@@ -36,6 +36,7 @@ ItemFits Cut = Unit {0}
 -- the command of a whole record has numbers that fit
 kind-fits : (k : Kind) (l : List ℕ) → Bytes l → lengthOf k ≤ length l → Fit (commandOf k l)
 kind-fits kind.Format l b h row = tt
+kind-fits kind.FormatEdition l b h row = tt
 kind-fits kind.Put l b h row = (number-bound 8 l 4 (omega arith) b, number-bound 8 l 12 (omega arith) b)
 kind-fits kind.Find l b h row = number-bound 8 l 4 (omega arith) b
 kind-fits kind.Remove l b h row = number-bound 8 l 4 (omega arith) b
@@ -43,23 +44,23 @@ kind-fits kind.Grow l b h row = tt
 kind-fits kind.Check l b h row = tt
 
 -- so what a head asks for does
-form-fits : (l : List ℕ) → Bytes l → (f : Form) → formOf (numberAt 2 l 2) ≡ f → ItemFits (formed l f)
+form-fits : (l : List ℕ) → Bytes l → (f : Form) → formOf (numberAt 2 l 0) (numberAt 2 l 2) ≡ f → ItemFits (formed l f)
 form-fits l b form.Unknown e = tt
 form-fits l b (form.Known k n) e = go (eqb (numberAt 2 l 0) n) (ltb (length l) n) refl
   where
     go : (u v : Bool) → ltb (length l) n ≡ v → ItemFits (cond u (cond v Cut (Asks (commandOf k l) n)) Unknown)
     go false v q = tt
     go true true q = tt
-    go true false q = kind-fits k l b (omega (arith, ltb-false (length l) n q, of-number (numberAt 2 l 2) k n e .1))
+    go true false q = kind-fits k l b (omega (arith, ltb-false (length l) n q, of-number (numberAt 2 l 0) (numberAt 2 l 2) k n e .1))
 
 -- and the first record of an input
 first-fits : (l : List ℕ) → Bytes l → ItemFits (firstOf l)
 unfolding firstOf
 first-fits l b = go (ltb (length l) 4)
   where
-    go : (u : Bool) → ItemFits (cond u Cut (formed l (formOf (numberAt 2 l 2))))
+    go : (u : Bool) → ItemFits (cond u Cut (formed l (formOf (numberAt 2 l 0) (numberAt 2 l 2))))
     go true = tt
-    go false = form-fits l b (formOf (numberAt 2 l 2)) refl
+    go false = form-fits l b (formOf (numberAt 2 l 0) (numberAt 2 l 2)) refl
 
 -- and all commands at its start
 pub asked-fits : (room : ℕ) (l : List ℕ) → Bytes l → All Fit (asked room l)

@@ -20,7 +20,7 @@ use Rattle.gates.specs.Gates.{gateOf}
 use Rattle.register.specs.Files.{left}
 use Rattle.demands.specs.Histories.{Kept}
 use Rattle.records.specs.declared.Command.the-variants.{Format, Put, Find}
-use Rattle.records.specs.Records.{formOf, firstOf, layoutOf, bytesOfAll}
+use Rattle.records.specs.Records.{formOf, firstOf, layoutOf, shortOf, bytesOfAll}
 use Rattle.commands.specs.Execute.{Site, site, executed}
 use Rattle.commands.specs.Log.{turn, log, wholeLog}
 use Rattle.log_demands.specs.LogDemands.{asked, keptBy, noFile, After}
@@ -51,13 +51,13 @@ session = refl
 
 -- what it keeps: one record on one of two pages
 abbrev outcome : Kept
-outcome = record { params = params 1 1 1; cap = 2; p = 1; held = recordWith 5 9 ∷ [] }
+outcome = record { params = params 1 1 1 1; cap = 2; p = 1; held = recordWith 5 9 ∷ [] }
 
 -- the session's bytes are those of its three commands
 bytes : Bytes input
 unfolding bytesOf encode
 bytes =
-    bytes-append (encode (layoutOf (Format (params 1 1 1) 2))) (encode (layoutOf (Put (recordWith 5 9))) ++ encode (layoutOf (Find 5))) (bytes-encode (layoutOf (Format (params 1 1 1) 2)))
+    bytes-append (encode (shortOf (params 1 1 1 1) 2)) (encode (layoutOf (Put (recordWith 5 9))) ++ encode (layoutOf (Find 5))) (bytes-encode (shortOf (params 1 1 1 1) 2))
     (bytes-append (encode (layoutOf (Put (recordWith 5 9)))) (encode (layoutOf (Find 5))) (bytes-encode (layoutOf (Put (recordWith 5 9)))) (bytes-encode (layoutOf (Find 5))))
 
 pub session-after : After outcome (wholeLog start input .site)

@@ -59,7 +59,7 @@ AsCalled d = ButFormat (λ c. executed d c .numbers ≡ numbersOf (left (fileAt 
 
 -- 01: "Before a format the state is all zero"
 abbrev pub noFile : State
-noFile = record { params = params 0 0 0; p = 0; cap = 0; r = 0 }
+noFile = record { params = params 0 0 0 0; p = 0; cap = 0; r = 0 }
 
 -- 01: "so all calls but format answer 1"
 abbrev pub AnswersOne : (space row : List ℕ) → Command → Type 0

@@ -68,7 +68,12 @@ fn judge_changed(name: &[u8], at: usize, eight: bool, x: u64)
     let mut bytes = [0; 256];
     good_page(&mut bytes[..]);
     change(&mut bytes[..], at, eight, x);
-    let params = Params { n0: 1, n: 8, s: 1 };
+    let params = Params {
+        n0: 1,
+        n: 8,
+        s: 1,
+        edition: 1,
+    };
     let shape = Shape::new(params, 8);
     let judged = pages::judge(&bytes[..], 5, shape);
     io::write_all(STDOUT_FILENO, name);

@@ -16,13 +16,15 @@ ghost use Prim.Native.Nat.{_+_, _*_, _≤_};
 ghost use lib.ListN.{length};
 ghost use Rattle.raw_calls.specs.Records.{Lying};
 
-// A format whose four numbers stand in one, the first lowest.
-fn format(state: State, area: &mut [u8], a: u64) -> Done {
+// A format whose four numbers stand in one, the first lowest, and its edition in another. A number
+// that is too large for an edition is none, and so is 0.
+fn format(state: State, area: &mut [u8], a: u64, b: u64) -> Done {
     let n0 = (a % 65536) as u16;
     let n = (a / 65536 % 65536) as u16;
     let s = (a / 4294967296 % 65536) as u16;
     let cap = (a / 281474976710656) as u16;
-    let params = Params { n0, n, s };
+    let edition = if b < 65536 { b as u16 } else { 0 };
+    let params = Params { n0, n, s, edition };
     register::format(state, params, cap, area)
 }
 
@@ -42,7 +44,7 @@ fn call(asked: Asked, area: &mut [u8], second: &[u8], row: &mut [u32], room: &mu
     let kind = asked.kind;
     match kind {
         0..=256 => due(state),
-        257 => records::tell(format(state, area, asked.a)),
+        257 => records::tell(format(state, area, asked.a, asked.b)),
         258 => {
             let new = Record {
                 key: asked.a,

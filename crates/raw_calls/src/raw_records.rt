@@ -104,6 +104,6 @@ pub(crate) fn reply(head: &mut [u8], told: Told, end: usize)
     numbers::put_u32(head, 0, end as u32);
     numbers::put_u16(head, 4, 513);
     slips::put_reply(head, 6, numbers);
-    slips::put_state(head, 36, state, 1);
+    slips::put_state(head, 36, state);
     numbers::put_u16(head, 52, if state.due() { 1 } else { 0 });
 }

@@ -1,31 +1,40 @@
 -- What is stored in a slip is all of it, and brings the next call the state.
-use mathlib.Core.Path.{_≡_, refl, _∙_}
+use mathlib.Core.Path.{_≡_, refl, ap, _∙_}
 use mathlib.Core.List.{List, [], _++_}
-use Prim.Native.Nat.{ℕ}
+use Prim.Native.Nat.{ℕ, _+_, _%_, _<_}
 use native.Mathlib.Omega.{arith}
 use lib.ListN.{length}
 use Rattle.numbers.specs.Little.{written}
-use Rattle.numbers.specs.Fields.{encode}
+use Rattle.numbers.specs.Fields.{Field, encode}
 use Rattle.numbers.proofs.Laws.{written-all, written-written}
 use Rattle.numbers.proofs.Records.{Fit, length-encode, encode-append}
 use Rattle.state.specs.declared.State.{State}
 use Rattle.state.specs.declared.Numbers.{Numbers}
-use Rattle.slips.specs.Slips.{stateFields, answerFields}
+use Rattle.slips.specs.Slips.{stateAt, stateFields, answerFields}
 use Rattle.slips.proofs.Again.{state-again}
-use Rattle.reefcushion.specs.Slip.{stateIn, slipOf}
+use Rattle.reefcushion.specs.Slip.{renumbered, stateIn, slipOf}
+
+-- a state that is renumbered there and back is the same, where its edition is of two bytes
+renumbered-back : (s : State) → s .params .edition < 65536 → renumbered 1 (renumbered 65535 s) ≡ s
+renumbered-back s h = let e : ((s .params .edition + 65535) % 65536 + 1) % 65536 ≡ s .params .edition = omega arith in rw e
 
 module _ (s : State) (n : Numbers) where
+  -- the fields of the state in a slip
+  abbrev fields : List Field
+  fields = stateFields (renumbered 65535 s)
+
   -- a state and then an answer leave their bytes, and none of those before
-  pub slip-stored : (l : List ℕ) → length l ≡ 40 → {a b : List ℕ} → a ≡ written l 0 (encode (stateFields s 0)) → b ≡ written a 16 (encode (answerFields n)) → b ≡ slipOf s n
-  slip-stored l h {a} {b} q₁ q₂ =
-      let v : List ℕ = encode (stateFields s 0) in
+  pub slip-stored : (l : List ℕ) → length l ≡ 40 → {z : State} → z ≡ renumbered 65535 s → {a b : List ℕ} → a ≡ written l 0 (encode (stateFields z)) → b ≡ written a 16 (encode (answerFields n)) → b ≡ slipOf s n
+  slip-stored l h e q₁ q₂ =
+      let v : List ℕ = encode fields in
       let w : List ℕ = encode (answerFields n) in
-      let k : length v ≡ 16 = length-encode (stateFields s 0) in
-      let all : length (slipOf s n) ≡ 40 = length-encode (stateFields s 0 ++ answerFields n) in
+      let k : length v ≡ 16 = length-encode fields in
+      let all : length (slipOf s n) ≡ 40 = length-encode (fields ++ answerFields n) in
       let two : written (written l 0 v) 16 w ≡ written l 0 (v ++ w) = rw k at (written-written l 0 v w (omega arith)) in
-      rw (q₂, q₁, two, ← encode-append (stateFields s 0) (answerFields n)) (written-all l (slipOf s n) (omega arith))
+      rw (q₂, q₁, e, two, ← encode-append fields (answerFields n)) (written-all l (slipOf s n) (omega arith))
 
   -- it brings the next call the state, where its numbers fit their widths
-  pub slip-again : {l : List ℕ} → Fit (stateFields s 0) → l ≡ slipOf s n → stateIn l ≡ s
-  slip-again fit q =
-      rw (q ∙ encode-append (stateFields s 0) (answerFields n)) (state-again s 0 [] (encode (answerFields n)) 0 refl fit)
+  pub slip-again : {l : List ℕ} → Fit fields → s .params .edition < 65536 → l ≡ slipOf s n → stateIn l ≡ s
+  slip-again fit small q =
+      let there : stateAt (encode fields ++ encode (answerFields n)) 0 ≡ renumbered 65535 s = state-again (renumbered 65535 s) [] (encode (answerFields n)) 0 refl fit in
+      rw (q ∙ encode-append fields (answerFields n)) (ap (renumbered 1) there ∙ renumbered-back s small)

@@ -54,7 +54,12 @@ fn main() {
     let mut row = [0u32; 128];
     let mut input = io::large_buffer();
     let mut replies = io::large_buffer();
-    let zeros = Params { n0: 0, n: 0, s: 0 };
+    let zeros = Params {
+        n0: 0,
+        n: 0,
+        s: 0,
+        edition: 0,
+    };
     let mut state = State::new(zeros, 0);
     let mut have = 0;
     let mut last = false;

@@ -13,6 +13,11 @@ slip-answers =
         one = λ κs a y z v w p q. (p .0 ∙⁻¹ q .0, λ i. ((p .1 .0 ∙⁻¹ q .1 .0) i, ((p .1 .1 .0 ∙⁻¹ q .1 .1 .0) i, (tt, (tt, (tt, (tt, tt)))))));
         does = λ κs a y v p i. record { returned = p .0 i; slip = p .1 .0 i; file = record { state = p .1 .1 .1 i; area = p .1 .1 .0 i } };
       };
+      format-edition = record {
+        asks-nothing = λ κs a. tt;
+        one = λ κs a y z v w p q. (p .0 ∙⁻¹ q .0, λ i. ((p .1 .0 ∙⁻¹ q .1 .0) i, ((p .1 .1 .0 ∙⁻¹ q .1 .1 .0) i, (tt, (tt, (tt, (tt, (tt, tt))))))));
+        does = λ κs a y v p i. record { returned = p .0 i; slip = p .1 .0 i; file = record { state = p .1 .1 .1 i; area = p .1 .1 .0 i } };
+      };
       find = record {
         asks-nothing = λ κs a. tt;
         one = λ κs a y z v w p q. (p .0 ∙⁻¹ q .0, λ i. ((p .1 .0 ∙⁻¹ q .1 .0) i, (tt, (tt, tt))));

@@ -8,6 +8,7 @@ use Rattle.pages.specs.Page.{recordWith}
 use Rattle.register.specs.Files.{format, find, put, remove, grow, check}
 use Rattle.demands.specs.Answers.{Settled}
 use Rattle.reefcushion.proofs.reefcushion_format as Format
+use Rattle.reefcushion.proofs.reefcushion_format_edition as FormatEdition
 use Rattle.reefcushion.proofs.reefcushion_find as Find
 use Rattle.reefcushion.proofs.reefcushion_put as Put
 use Rattle.reefcushion.proofs.reefcushion_put_run as PutRun
@@ -25,8 +26,11 @@ came returned slip area = record { returned = returned; slip = slip; file = file
 -- The arguments stand in the order of the signature: a .0 is the slip, a .1 .0 the area, and so on;
 -- v has a place for each, and in it what is left of what was lent to be changed.
 pub record SlipAnswers : Type 0 where
+  pub format-edition : Settled FormatEdition.ended FormatEdition.Reads.Asked FormatEdition.Reads.Learnt
+      (λ κs a. served (now (a .0)) (now (a .1 .0)) (format (params (a .1 .1 .0) (a .1 .1 .1 .0) (a .1 .1 .1 .1 .0) (a .1 .1 .1 .1 .1 .1 .0)) (a .1 .1 .1 .1 .1 .0)))
+      (λ κs a y v. came y (v .0) (v .1 .0))
   pub format : Settled Format.ended Format.Reads.Asked Format.Reads.Learnt
-      (λ κs a. served (now (a .0)) (now (a .1 .0)) (format (params (a .1 .1 .0) (a .1 .1 .1 .0) (a .1 .1 .1 .1 .0)) (a .1 .1 .1 .1 .1 .0)))
+      (λ κs a. served (now (a .0)) (now (a .1 .0)) (format (params (a .1 .1 .0) (a .1 .1 .1 .0) (a .1 .1 .1 .1 .0) 1) (a .1 .1 .1 .1 .1 .0)))
       (λ κs a y v. came y (v .0) (v .1 .0))
   pub find : Settled Find.ended Find.Reads.Asked Find.Reads.Learnt
       (λ κs a. served (now (a .0)) (now (a .1 .0)) (find (a .1 .1 .0)))

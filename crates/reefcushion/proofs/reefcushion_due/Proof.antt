@@ -11,8 +11,8 @@ use Rattle.reefcushion.proofs.reefcushion_due.Tie as tie
 returns : tie.Need-returns
 returns c = none-due (now (c .before .before .args .slip)) (c .if1 .taken)
 
-get-state-requires : tie.Need-get-state-requires
-get-state-requires c κs = search needs
+state-in-requires : tie.Need-state-in-requires
+state-in-requires c κs = search needs
 
 due-requires : tie.Need-due-requires
 due-requires c κs = search needs
@@ -22,15 +22,15 @@ returns-2 c =
     let d = c .before in
     let i = d .before in
     let e = i .before in
-    is-due (now (e .before .before .args .slip)) (e .if1 .left) _ (i .get-state .ensures) true (sym (d .due .ensures) ∙ c .if2 .taken) _ refl
+    is-due (now (e .before .before .args .slip)) (e .if1 .left) _ (i .state-in .ensures) true (sym (d .due .ensures) ∙ c .if2 .taken) _ refl
 
 returns-3 : tie.Need-returns-3
 returns-3 c =
     let d = c .before in
     let i = d .before in
     let e = i .before in
-    is-due (now (e .before .before .args .slip)) (e .if1 .left) _ (i .get-state .ensures) false (sym (d .due .ensures) ∙ c .if2 .left) _ refl
+    is-due (now (e .before .before .args .slip)) (e .if1 .left) _ (i .state-in .ensures) false (sym (d .due .ensures) ∙ c .if2 .left) _ refl
 
 pub reefcushion-due-spec : {M : Type 1} → statement M
 reefcushion-due-spec =
-    tie.close (tie.spec returns get-state-requires due-requires returns-2 returns-3)
+    tie.close (tie.spec returns state-in-requires due-requires returns-2 returns-3)

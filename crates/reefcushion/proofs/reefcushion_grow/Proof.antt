@@ -14,8 +14,8 @@ returns c =
     let l = now (a .slip) in
     rw (not-served l (c .if1 .taken) (now (a .area)) (grow (now (a .row))), row-kept l (c .if1 .taken) (now (a .area)) (now (a .row))) (refl, (refl, (refl, (refl, refl))))
 
-get-state-requires : tie.Need-get-state-requires
-get-state-requires c κs = search needs
+state-in-requires : tie.Need-state-in-requires
+state-in-requires c κs = search needs
 
 grow-requires : tie.Need-grow-requires
 grow-requires c κs = search needs
@@ -42,7 +42,7 @@ returns-2 c =
     let a = e .before .before .before .before .args in
     let came = g .grow .ensures in
     let told = t .tell .ensures in
-    let w = grew-served (now (a .slip)) (e .if1 .left) _ (i .get-state .ensures) (now (a .area)) _ _ _ (now (a .row)) (λ j. leaves (came .0 j) (came .1 .0 j) (came .1 .1 j)) in
+    let w = grew-served (now (a .slip)) (e .if1 .left) _ (i .state-in .ensures) (now (a .area)) _ _ _ (now (a .row)) (λ j. leaves (came .0 j) (came .1 .0 j) (came .1 .1 j)) in
     rw (w .0, w .1) (told .0, (told .1 .0, (refl, (refl, told .1 .1))))
 
 pub reefcushion-grow-spec : {M : Type 1} → statement M
@@ -50,7 +50,7 @@ reefcushion-grow-spec =
     tie.close
     (tie.spec
     returns
-    get-state-requires
+    state-in-requires
     grow-requires
     tell-requires
     same-length

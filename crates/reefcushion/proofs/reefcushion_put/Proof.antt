@@ -15,8 +15,8 @@ returns c =
     let a = c .before .before .before .args in
     rw (not-served (now (a .slip)) (c .if1 .taken) (now (a .area)) (put (recordWith (a .key) (a .value)))) (refl, (refl, (refl, refl)))
 
-get-state-requires : tie.Need-get-state-requires
-get-state-requires c κs = search needs
+state-in-requires : tie.Need-state-in-requires
+state-in-requires c κs = search needs
 
 put-requires : tie.Need-put-requires
 put-requires c κs = search needs
@@ -40,14 +40,14 @@ returns-2 c =
     let a = e .before .before .before .args in
     let came = g .put .ensures in
     let told = t .tell .ensures in
-    rw (is-served (now (a .slip)) (e .if1 .left) _ (i .get-state .ensures) (now (a .area)) _ _ [] (put (recordWith (a .key) (a .value))) (λ j. leaves (came .0 j) (came .1 j) [])) (told .0, (told .1 .0, (refl, told .1 .1)))
+    rw (is-served (now (a .slip)) (e .if1 .left) _ (i .state-in .ensures) (now (a .area)) _ _ [] (put (recordWith (a .key) (a .value))) (λ j. leaves (came .0 j) (came .1 j) [])) (told .0, (told .1 .0, (refl, told .1 .1)))
 
 pub reefcushion-put-spec : {M : Type 1} → statement M
 reefcushion-put-spec =
     tie.close
     (tie.spec
     returns
-    get-state-requires
+    state-in-requires
     put-requires
     tell-requires
     same-length

@@ -14,8 +14,8 @@ returns c =
     rw (not-run l (c .if1 .taken) (now (a .area)) (now (a .input)) (now (a .replies)), room-kept l (c .if1 .taken) (now (a .area)) (now (a .input)) (now (a .replies)))
     (refl, (refl, (refl, (refl, refl))))
 
-get-state-requires : tie.Need-get-state-requires
-get-state-requires c κs = search needs
+state-in-requires : tie.Need-state-in-requires
+state-in-requires c κs = search needs
 
 put-run-requires : tie.Need-put-run-requires
 put-run-requires c κs = search needs
@@ -41,7 +41,7 @@ returns-2 c =
     let a = e .before .before .before .before .before .args in
     let came = g .put-run .ensures in
     let told = rw (came .0) at (t .hand-back .ensures) in
-    let w = ran-served (now (a .slip)) (e .if1 .left) _ (i .get-state .ensures) (now (a .area)) (now (a .input)) (now (a .replies)) in
+    let w = ran-served (now (a .slip)) (e .if1 .left) _ (i .state-in .ensures) (now (a .area)) (now (a .input)) (now (a .replies)) in
     rw (w .0, w .1) (told .0, (told .1 .0, (came .1 .0, (came .1 .1, told .1 .1))))
 
 pub reefcushion-put-run-spec : {M : Type 1} → statement M
@@ -49,7 +49,7 @@ reefcushion-put-run-spec =
     tie.close
     (tie.spec
     returns
-    get-state-requires
+    state-in-requires
     put-run-requires
     hand-back-requires
     same-length

@@ -14,8 +14,8 @@ returns c =
     let a = c .before .before .before .args in
     rw (not-served (now (a .slip)) (c .if1 .taken) (now (a .area)) (remove (a .key))) (refl, (refl, (refl, refl)))
 
-get-state-requires : tie.Need-get-state-requires
-get-state-requires c κs = search needs
+state-in-requires : tie.Need-state-in-requires
+state-in-requires c κs = search needs
 
 remove-requires : tie.Need-remove-requires
 remove-requires c κs = search needs
@@ -39,14 +39,14 @@ returns-2 c =
     let a = e .before .before .before .args in
     let came = g .remove .ensures in
     let told = t .tell .ensures in
-    rw (is-served (now (a .slip)) (e .if1 .left) _ (i .get-state .ensures) (now (a .area)) _ _ [] (remove (a .key)) (λ j. leaves (came .0 j) (came .1 j) [])) (told .0, (told .1 .0, (refl, told .1 .1)))
+    rw (is-served (now (a .slip)) (e .if1 .left) _ (i .state-in .ensures) (now (a .area)) _ _ [] (remove (a .key)) (λ j. leaves (came .0 j) (came .1 j) [])) (told .0, (told .1 .0, (refl, told .1 .1)))
 
 pub reefcushion-remove-spec : {M : Type 1} → statement M
 reefcushion-remove-spec =
     tie.close
     (tie.spec
     returns
-    get-state-requires
+    state-in-requires
     remove-requires
     tell-requires
     same-length

@@ -48,7 +48,9 @@ store-at-requires c κs =
     let g = c .before .before .before .before .before .before .before .before .before .before in
     let full = full-kept (homeIn (g .args .shape)) (c .before .before .before .parse-at2 .result) (c .before .before .close-up .result)
     _ (c .before .take-back .ensures) in
-    (omega arith, omega arith, full .0, full .1)
+    let w = c .before .before .before .before .before .before .before .before .loop .inv in
+    let less = c .before .before .before .before .before .before .before .loop-test .taken in
+    (omega (arith, less, g .pre), omega (arith, less, w .2, g .pre), full .0, full .1)
 
 add-a : tie.Need-add-a Inv-loop μ-loop
 add-a c = search needs

@@ -1,4 +1,4 @@
--- `reefcushion::reefcushion_format` meets its contract: `register::format` on the state that the
+-- `reefcushion::reefcushion_format_edition` meets its contract: `register::format` on the state that the
 -- slip brings, told in the slip.
 use mathlib.Core.Path.{refl}
 use mathlib.Core.List.{[]}
@@ -7,16 +7,16 @@ use borrow.Author.Needs.{needs}
 use Rattle.homes.specs.Homes.{params}
 use Rattle.register.specs.Files.{format, leaves, left}
 use Rattle.reefcushion.proofs.Calling.{not-served, is-served}
-use Rattle.reefcushion.proofs.reefcushion_format.Statement.{statement}
-use Rattle.reefcushion.proofs.reefcushion_format.Tie as tie
+use Rattle.reefcushion.proofs.reefcushion_format_edition.Statement.{statement}
+use Rattle.reefcushion.proofs.reefcushion_format_edition.Tie as tie
 
 returns : tie.Need-returns
 returns c =
     let a = c .before .before .before .args in
-    rw (not-served (now (a .slip)) (c .if1 .taken) (now (a .area)) (format (params (a .n0) (a .n) (a .s)) (a .cap))) (refl, (refl, (refl, refl)))
+    rw (not-served (now (a .slip)) (c .if1 .taken) (now (a .area)) (format (params (a .n0) (a .n) (a .s) (a .edition)) (a .cap))) (refl, (refl, (refl, refl)))
 
-get-state-requires : tie.Need-get-state-requires
-get-state-requires c κs = search needs
+state-in-requires : tie.Need-state-in-requires
+state-in-requires c κs = search needs
 
 format-requires : tie.Need-format-requires
 format-requires c κs = search needs
@@ -40,14 +40,14 @@ returns-2 c =
     let a = e .before .before .before .args in
     let came = g .format .ensures in
     let told = t .tell .ensures in
-    rw (is-served (now (a .slip)) (e .if1 .left) _ (i .get-state .ensures) (now (a .area)) _ _ [] (format (params (a .n0) (a .n) (a .s)) (a .cap)) (λ j. leaves (came .0 j) (came .1 j) [])) (told .0, (told .1 .0, (refl, told .1 .1)))
+    rw (is-served (now (a .slip)) (e .if1 .left) _ (i .state-in .ensures) (now (a .area)) _ _ [] (format (params (a .n0) (a .n) (a .s) (a .edition)) (a .cap)) (λ j. leaves (came .0 j) (came .1 j) [])) (told .0, (told .1 .0, (refl, told .1 .1)))
 
-pub reefcushion-format-spec : {M : Type 1} → statement M
-reefcushion-format-spec =
+pub reefcushion-format-edition-spec : {M : Type 1} → statement M
+reefcushion-format-edition-spec =
     tie.close
     (tie.spec
     returns
-    get-state-requires
+    state-in-requires
     format-requires
     tell-requires
     same-length

@@ -1,5 +1,5 @@
-// A register from C: a file is formatted, fed, asked, grown and checked, and a pay run is put in one call. What it prints
-// stands in example.out.
+// A register from C: a file is formatted, fed, asked, grown and checked, a pay run is put in one call, and a file of the
+// second edition is made. What it prints stands in example.out.
 #include <stdio.h>
 
 #include "reefcushion.h"
@@ -148,6 +148,13 @@ static void format(size_t slip_bytes, void *pages, size_t pages_bytes) {
     say(&slip, reefcushion_format(&slip, slip_bytes, pages, pages_bytes, 1, 1, 1, PAGES));
 }
 
+// The same of an edition that is asked for.
+static void format_edition(uint16_t edition) {
+    printf("format, edition %u", edition);
+    say(&slip, reefcushion_format_edition(&slip, sizeof slip, area, sizeof area, 1, 1, 1, PAGES, edition));
+    printf("  the state is of edition %u\n", slip.edition_less_1 + 1);
+}
+
 int main(void) {
     printf("Refused, and nothing done:\n");
     format(sizeof slip - 1, area, sizeof area);
@@ -190,6 +197,13 @@ int main(void) {
     grow(NULL, 0);
     grow(row, PAGES);
     area[REEFCUSHION_PAGE] ^= 1;
+    check(&slip);
+
+    printf("An edition that there isn't, and one in which half of these numbers move where all would in edition 1:\n");
+    format_edition(3);
+    format_edition(2);
+    for (uint64_t i = 1; i <= 10; i++)
+        put(i, 800 + i);
     check(&slip);
     return 0;
 }

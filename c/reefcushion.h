@@ -31,16 +31,21 @@ extern "C" {
 
    The state is a value. Before the first format it is all zero, and every call but a format is refused with 1. A copy of
    the slip is the state of that time: it goes with a copy of the area of that time, and with no other. find, put and
-   remove do not look whether the two go together; check does. */
+   remove do not look whether the two go together; check does.
+
+   The edition says where keys live, and stays as long as the file does. Request numbers that run upward from small values
+   all move to new pages at once in edition 1; edition 2 spreads them. The library before this one, which knew one edition,
+   wrote 0 where the edition less 1 stands: its slips are of edition 1, and a program that was compiled against its header
+   goes on with this library as it is. */
 struct reefcushion_slip {
     /* the state */
-    uint16_t n0;      /* pages a group at the start, 1 to 4 */
-    uint16_t groups;  /* N, groups at the start, 1 to 64 */
-    uint16_t sweeps;  /* s, 1 to 8 */
-    uint16_t pages;   /* P, pages grown to, from n0 x N to cap */
-    uint16_t cap;     /* pages lent, 1 to 4096 */
-    uint16_t zero;    /* not read; written as 0 */
-    uint32_t records; /* r, records held, at most 12 x cap */
+    uint16_t n0;             /* pages a group at the start, 1 to 4 */
+    uint16_t groups;         /* N, groups at the start, 1 to 64 */
+    uint16_t sweeps;         /* s, 1 to 8 */
+    uint16_t pages;          /* P, pages grown to, from n0 x N to cap */
+    uint16_t cap;            /* pages lent, 1 to 4096 */
+    uint16_t edition_less_1; /* the file's edition, 1 or 2, less 1 */
+    uint32_t records;        /* r, records held, at most 12 x cap */
     /* the answer */
     uint64_t value;   /* the commit that is held: of an accepted find, and of refusals 6 and 13; else 0 */
     uint32_t read;    /* how many pages were looked at */
@@ -52,12 +57,13 @@ struct reefcushion_slip {
 };
 
 REEFCUSHION_ASSERT(sizeof(struct reefcushion_slip) == 40, "a slip is 40 bytes");
+REEFCUSHION_ASSERT(offsetof(struct reefcushion_slip, edition_less_1) == 10, "the edition stands before r");
 REEFCUSHION_ASSERT(offsetof(struct reefcushion_slip, records) == 12, "r is the last of the state's 16 bytes");
 REEFCUSHION_ASSERT(offsetof(struct reefcushion_slip, value) == 16, "the answer follows the state");
 REEFCUSHION_ASSERT(offsetof(struct reefcushion_slip, refusal) == 32, "the refusal follows what was read and moved");
 
-/* The area: cap pages of 256 bytes, page a from byte 256 x a on. Two files of equal n0, N, s, P and cap that hold the same
-   records are the same bytes. A page:
+/* The area: cap pages of 256 bytes, page a from byte 256 x a on. Two files of equal n0, N, s, edition, P and cap that hold
+   the same records are the same bytes. A page:
      0  length 256 (2 bytes), kind 0x0011 (2), its own address (4), records used (2), six zero bytes
     16  twelve slots of 20 bytes: length 20 (2), kind (2), key (8), value (8)
    Kind 1 is a record. Kind 0 is an empty slot, with key and value 0. Records stand first, by (home, key). */
@@ -67,7 +73,7 @@ REEFCUSHION_ASSERT(offsetof(struct reefcushion_slip, refusal) == 32, "the refusa
    call. A refusal leaves the area and the state as they were. */
 enum reefcushion_refusal {
     REEFCUSHION_ACCEPTED = 0,
-    REEFCUSHION_OUT_OF_RANGE = 1, /* a number of the state is out of range */
+    REEFCUSHION_OUT_OF_RANGE = 1, /* a number of the state, its edition too, is out of range */
     REEFCUSHION_WRONG_AREA = 2,   /* the area isn't 256 x cap bytes */
     REEFCUSHION_WRONG_ROW = 3,    /* the row isn't cap counts */
     REEFCUSHION_BROKEN = 4,       /* a page that was looked at is broken; its address is in `page` */
@@ -82,8 +88,12 @@ enum reefcushion_refusal {
     REEFCUSHION_NO_SLIP = 100     /* slip_bytes isn't 40: nothing is done, and nothing written, the slip included */
 };
 
-/* An empty file of n0 x N pages, whatever was held before. It is judged on the four numbers that it is given; the state
-   in the slip is only what a refused format leaves there. 100, 1, 2. */
+/* An empty file of n0 x N pages, whatever was held before, of edition 1 or 2. It is judged on the five numbers that it is
+   given; the state in the slip is only what a refused format leaves there. 100, 1, 2. */
+uint32_t reefcushion_format_edition(void *slip, size_t slip_bytes, void *area, size_t area_bytes, uint16_t n0,
+                                    uint16_t groups, uint16_t sweeps, uint16_t cap, uint16_t edition);
+
+/* The same of edition 1. */
 uint32_t reefcushion_format(void *slip, size_t slip_bytes, void *area, size_t area_bytes, uint16_t n0, uint16_t groups,
                             uint16_t sweeps, uint16_t cap);
 
@@ -158,11 +168,14 @@ uint32_t reefcushion_due(const void *slip, size_t slip_bytes);
    #[repr(C)]
    #[derive(Clone, Copy, Default)]
    pub struct Slip {
-       pub n0: u16, pub groups: u16, pub sweeps: u16, pub pages: u16, pub cap: u16, pub zero: u16, pub records: u32,
+       pub n0: u16, pub groups: u16, pub sweeps: u16, pub pages: u16, pub cap: u16,
+       pub edition_less_1: u16, pub records: u32,
        pub value: u64, pub read: u32, pub moved: u32, pub refusal: u16, pub page: u16, pub zeros: u32,
    }
 
    unsafe extern "C" {
+       fn reefcushion_format_edition(slip: *mut Slip, slip_bytes: usize, area: *mut u8, area_bytes: usize,
+                                     n0: u16, groups: u16, sweeps: u16, cap: u16, edition: u16) -> u32;
        fn reefcushion_format(slip: *mut Slip, slip_bytes: usize, area: *mut u8, area_bytes: usize,
                              n0: u16, groups: u16, sweeps: u16, cap: u16) -> u32;
        fn reefcushion_find(slip: *mut Slip, slip_bytes: usize, area: *const u8, area_bytes: usize, key: u64) -> u32;

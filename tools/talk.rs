@@ -4,7 +4,7 @@ use std::io::{self, BufRead, IsTerminal, Read, Write};
 use std::process::{Child, ChildStdin, ChildStdout, Command, ExitCode, Stdio};
 
 const HELP: &str =
-    "say format N0 N S CAP, put KEY VALUE, find KEY, remove KEY, grow, check, or run FILE for a file with a KEY VALUE a line";
+    "say format N0 N S CAP [EDITION], put KEY VALUE, find KEY, remove KEY, grow, check, or run FILE for a file with a KEY VALUE a line";
 
 // So many puts of a run go out before their replies are fetched: few enough for the pipes to hold both.
 const AT_ONCE: usize = 1000;
@@ -47,21 +47,27 @@ fn said(text: &str) -> impl Iterator<Item = (usize, &str)> {
 
 // The command of words, or what is wrong with them.
 fn parse(words: &[&str]) -> Result<Asked, String> {
-    let (kind, width, count, most) = match words[0] {
-        "format" => (257, 2, 4, u64::from(u16::MAX)),
-        "put" => (258, 8, 2, u64::MAX),
-        "find" => (259, 8, 1, u64::MAX),
-        "remove" => (260, 8, 1, u64::MAX),
-        "grow" => (261, 0, 0, 0),
-        "check" => (262, 0, 0, 0),
+    let (kind, width, counts, most) = match words[0] {
+        "format" => (257, 2, 4..=5, u64::from(u16::MAX)),
+        "put" => (258, 8, 2..=2, u64::MAX),
+        "find" => (259, 8, 1..=1, u64::MAX),
+        "remove" => (260, 8, 1..=1, u64::MAX),
+        "grow" => (261, 0, 0..=0, 0),
+        "check" => (262, 0, 0..=0, 0),
         other => return Err(format!("\"{other}\" is no command; {HELP}")),
     };
-    if words.len() != 1 + count {
-        let given = words.len() - 1;
+    let given = words.len() - 1;
+    if !counts.contains(&given) {
+        let (least, most) = counts.into_inner();
+        let or = if least < most {
+            format!("{least} or ")
+        } else {
+            String::new()
+        };
         return Err(format!(
-            "\"{}\" takes {}, not {given}",
+            "\"{}\" takes {or}{}, not {given}",
             words[0],
-            counted(count as u64, "number")
+            counted(most as u64, "number")
         ));
     }
     let numbers = numbers(&words[1..], most)?;
@@ -108,10 +114,16 @@ fn refusal(reply: &[u8]) -> String {
     }
 }
 
-// What an accepted command did.
-fn accepted(kind: u64, reply: &[u8]) -> String {
-    match kind {
-        257 => format!("an empty file of {}", counted(number(reply, 24, 2), "page")),
+// What an accepted command did. A format's edition is told where it was named.
+fn accepted(asked: &[u8], reply: &[u8]) -> String {
+    match number(asked, 2, 2) {
+        257 => {
+            let pages = counted(number(reply, 24, 2), "page");
+            match asked.len() {
+                14 => format!("an empty file of {pages}, edition {}", number(asked, 12, 2)),
+                _ => format!("an empty file of {pages}"),
+            }
+        }
         258 => String::from("stored"),
         259 => format!("commit {}", number(reply, 8, 8)),
         260 => String::from("removed"),
@@ -122,7 +134,7 @@ fn accepted(kind: u64, reply: &[u8]) -> String {
 
 fn words(asked: &Asked, reply: &[u8]) -> String {
     let said = match number(reply, 4, 2) {
-        0 => accepted(number(&asked.bytes, 2, 2), reply),
+        0 => accepted(&asked.bytes, reply),
         number => format!("refused ({number}): {}", refusal(reply)),
     };
     let read = counted(number(reply, 16, 4), "page");

@@ -14,6 +14,8 @@ pub enum Call {
         groups: u16,
         sweeps: u16,
         cap: u16,
+        /// As wide as a raw call gives it, so that no byte goes unlooked at.
+        edition: u64,
     },
     Put {
         key: u64,
@@ -38,7 +40,8 @@ pub fn call(call: Call, state: State, area: &mut [u8], row: &mut [u32]) -> Answe
             groups,
             sweeps,
             cap,
-        } => format(state, State::asked(n0, groups, sweeps, cap), area),
+            edition,
+        } => format(state, State::asked(n0, groups, sweeps, cap, edition), area),
         other => match refused_early(state, area) {
             Some(answer) => answer,
             None => on_a_file(other, state, area, row),

@@ -2,11 +2,10 @@
 
 use crate::answer::Answer;
 use crate::calls::Call;
-use crate::home::{home, is_mover, new_address, next_draw, pages_per_group, seed_of};
-use crate::image::standing;
+use crate::home::{draw_before_steps, home, is_mover, new_address, next_draw, pages_per_group};
 use crate::log::Failure;
-use crate::state::State;
-use crate::witness::witnessed;
+use crate::state::{State, EDITIONS};
+use crate::trial::Trial;
 use std::io::Write;
 
 /// Prints all the figures.
@@ -15,6 +14,7 @@ pub fn run(output: &mut impl Write) -> Result<(), Failure> {
     lines.push(growth_order());
     lines.extend(homes());
     lines.extend(movers());
+    lines.extend(movers_by_edition());
     lines.extend(due());
     lines.extend(small_files().map_err(Failure::Mismatch)?);
     for line in lines {
@@ -52,6 +52,7 @@ const FILE: State = State {
     sweeps: 1,
     pages: 4,
     cap: 8,
+    edition: 1,
     records: 0,
 };
 
@@ -66,15 +67,34 @@ fn homes() -> Vec<String> {
     lines
 }
 
+/// Of the keys from 0 up all move at x 1 in edition 1, up to this one.
+const LAST_MOVER: u64 = 42590;
+
+/// Whether a key moves at x 1 where n0 is 2.
+fn moves_at_one(edition: u16, key: u64) -> bool {
+    let draw = next_draw(draw_before_steps(edition, key));
+    is_mover(draw, pages_per_group(2, 1))
+}
+
 fn movers() -> Vec<String> {
     let line = |key| {
-        let moves = is_mover(next_draw(seed_of(key)), pages_per_group(2, 1));
+        let moves = moves_at_one(FILE.edition, key);
         format!(
             "n0 2, N 2, s 1, key {key}, x 1: {}",
             if moves { "mover" } else { "no mover" }
         )
     };
-    [42590, 42591].map(line).to_vec()
+    [LAST_MOVER, LAST_MOVER + 1].map(line).to_vec()
+}
+
+/// How many of the small keys move at once in each edition.
+fn movers_by_edition() -> Vec<String> {
+    let line = |edition| {
+        let keys = 0..=LAST_MOVER;
+        let count = keys.filter(|&key| moves_at_one(edition, key)).count();
+        format!("n0 2, edition {edition}: of keys 0 to {LAST_MOVER}, {count} are movers at x 1")
+    };
+    EDITIONS.map(line).collect()
 }
 
 fn due() -> Vec<String> {
@@ -86,59 +106,6 @@ fn due() -> Vec<String> {
         )
     };
     [38, 39].map(line).to_vec()
-}
-
-/// A file with its area, to make one call after the other on.
-pub struct Trial {
-    pub state: State,
-    pub area: Vec<u8>,
-}
-
-impl Trial {
-    /// A fresh file with n0, N and s all 1.
-    pub fn of_ones(cap: u16) -> Result<Trial, String> {
-        let mut trial = Trial {
-            state: State::default(),
-            area: vec![0; 256 * usize::from(cap)],
-        };
-        trial.ask(Call::Format {
-            n0: 1,
-            groups: 1,
-            sweeps: 1,
-            cap,
-        })?;
-        Ok(trial)
-    }
-
-    pub fn ask(&mut self, call: Call) -> Result<Answer, String> {
-        let mut row = vec![0; usize::from(self.state.cap)];
-        let answer = witnessed(call, self.state, &mut self.area, &mut row)?;
-        self.state = answer.state;
-        Ok(answer)
-    }
-
-    /// Puts the keys from 0 up, each with its tenfold as value, and gives the
-    /// last answer's refusal.
-    pub fn put_up_to(&mut self, last: u64) -> Result<u16, String> {
-        let mut refusal = 0;
-        for key in 0..=last {
-            refusal = self
-                .ask(Call::Put {
-                    key,
-                    value: 10 * key,
-                })?
-                .refusal;
-        }
-        Ok(refusal)
-    }
-
-    /// The keys on a page, in the order in which they stand.
-    pub fn keys_on(&self, page: usize) -> Vec<u64> {
-        let here = standing(&self.area)
-            .into_iter()
-            .filter(|(address, _)| *address == page);
-        here.map(|(_, record)| record.key).collect()
-    }
 }
 
 fn told(answer: Answer) -> String {
@@ -221,6 +188,21 @@ mod tests {
         assert_eq!(refused.map(|answer| answer.refusal), Ok(NO_ROOM));
     }
 
+    /// In edition 2 draw 11 moves six of the twelve, so key 12 finds room
+    /// where it found none before.
+    #[test]
+    fn twelve_keys_then_grow_in_the_second_edition() {
+        let mut file = Trial::of_edition(2, 2).expect("agrees");
+        assert_eq!(file.put_up_to(11), Ok(0));
+        let grown = file.ask(Call::Grow);
+        assert_eq!(grown.map(|a| (a.refusal, a.moved)), Ok((0, 6)));
+        let refusal = file.ask(KEY_TWELVE).map(|answer| answer.refusal);
+        assert_eq!(refusal, Ok(0));
+        assert_eq!(file.keys_on(0), [1, 3, 4, 6, 9, 11, 12]);
+        assert_eq!(file.keys_on(1), [0, 2, 5, 7, 8, 10]);
+        assert_eq!(file.state.edition, 2);
+    }
+
     #[test]
     fn thirteen_keys_then_grow() {
         let mut file = Trial::of_ones(2).expect("agrees");
@@ -261,5 +243,11 @@ mod tests {
         ] {
             assert!(text.lines().any(|printed| printed == line), "{line}");
         }
+        let together = "n0 2, N 2, s 1, key 42591, x 1: no mover
+n0 2, edition 1: of keys 0 to 42590, 42591 are movers at x 1
+n0 2, edition 2: of keys 0 to 42590, 14192 are movers at x 1
+P 4, 38 records: not due
+";
+        assert!(text.contains(together), "{text}");
     }
 }

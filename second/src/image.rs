@@ -111,6 +111,7 @@ mod tests {
         sweeps: 1,
         pages: 2,
         cap: 2,
+        edition: 1,
         records: 12,
     };
 
@@ -135,6 +136,27 @@ mod tests {
         );
         assert_eq!(records_of(STATE, &area), Some(keys(0..12)));
         assert_eq!(lay_out(STATE, &keys(0..13)), None);
+    }
+
+    /// In edition 2 only six of them do, and neither edition takes the other's
+    /// image for its own.
+    #[test]
+    fn each_edition_has_its_own_image() {
+        let second = State {
+            edition: 2,
+            ..STATE
+        };
+        let images = [STATE, second].map(|state| lay_out(state, &keys(0..12)));
+        let [one, two] = images.map(|image| image.expect("twelve records fit"));
+        let on_page_one: Vec<u64> = standing(&two)
+            .iter()
+            .filter(|(address, _)| *address == 1)
+            .map(|(_, record)| record.key)
+            .collect();
+        assert_eq!(on_page_one, [0, 2, 5, 7, 8, 10]);
+        assert_eq!(changed_page(&one, &two), 6);
+        assert!(records_of(second, &two).is_some());
+        assert!(records_of(STATE, &two).is_none() && records_of(second, &one).is_none());
     }
 
     #[test]

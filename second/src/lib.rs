@@ -22,5 +22,6 @@ pub mod raw;
 pub mod remove;
 pub mod room;
 pub mod state;
+pub mod trial;
 pub mod walk;
 pub mod witness;

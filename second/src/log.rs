@@ -128,7 +128,11 @@ mod tests {
     }
 
     fn refusals(input: &str) -> Vec<u16> {
-        answer_to(&hex(input))
+        refusals_to(&hex(input))
+    }
+
+    fn refusals_to(input: &[u8]) -> Vec<u16> {
+        answer_to(input)
             .chunks(REPLY_BYTES)
             .map(|reply| two(reply, 4))
             .collect()
@@ -180,5 +184,77 @@ mod tests {
             [12, 1, 0]
         );
         assert_eq!(refusals(&(asked("0110") + "0400 0601")), [12, 1]);
+    }
+
+    /// Twelve keys from 0 up, each with the value 7, and a grow.
+    fn twelve_then_grow() -> String {
+        let put = |key| format!("1400 0201 {key:02X}00000000000000 0700000000000000");
+        (0..12).map(put).collect::<String>() + "0400 0501"
+    }
+
+    /// A format of length 14 for two pages, with this edition.
+    fn long_format(edition: &str) -> String {
+        format!("0E00 0101 0100 0100 0100 0200 {edition}")
+    }
+
+    /// In edition 1 all twelve move, in edition 2 half of them do.
+    #[test]
+    fn a_long_format_carries_its_edition() {
+        let last_reply = |format: &str| {
+            let output = answer_to(&hex(&(format.to_string() + &twelve_then_grow())));
+            assert_eq!(output.len(), 14 * REPLY_BYTES);
+            output[13 * REPLY_BYTES..].to_vec()
+        };
+        let grown = |moved: &str| {
+            hex(&format!(
+                "1C00 0102 0000 0000 0000000000000000 02000000 {moved}000000 0200 0000"
+            ))
+        };
+        assert_eq!(last_reply(FORMAT), grown("0C"));
+        assert_eq!(last_reply(&long_format("0100")), grown("0C"));
+        assert_eq!(last_reply(&long_format("0200")), grown("06"));
+    }
+
+    /// A wrong edition is refused like any other number; the file before it
+    /// and its edition stay.
+    #[test]
+    fn another_edition_is_refused() {
+        for wrong in ["0000", "0300", "0101", "0001", "0002", "FFFF"] {
+            let wrong = long_format(wrong);
+            assert_eq!(refusals(&(wrong.clone() + "0400 0601")), [1, 1]);
+            let kept = long_format("0200") + &wrong + &twelve_then_grow();
+            let output = answer_to(&hex(&kept));
+            assert_eq!(two(&output[REPLY_BYTES..], 4), 1);
+            assert_eq!(two(&output[REPLY_BYTES..], 24), 1);
+            assert_eq!(two(&output[14 * REPLY_BYTES..], 20), 6);
+        }
+        // Twelve comes before the edition.
+        let many = |edition: &str| format!("0E00 0101 0100 0100 0100 8100 {edition}");
+        assert_eq!(refusals(&(many("0300") + &many("0200"))), [12, 12]);
+    }
+
+    #[test]
+    fn a_format_of_any_other_length_is_refused() {
+        for length in (0..=255u16).filter(|length| ![12, 14].contains(length)) {
+            let head = format!("{length:02X}00 0101 0100 0100 0100 0200 0200 0200");
+            assert_eq!(refusals(&head), [10], "{length}");
+        }
+        assert_eq!(refusals("0C01 0101 0100 0100 0100 0200"), [10]);
+    }
+
+    /// A length is judged before the body is, and a body is whole or cut off.
+    #[test]
+    fn a_format_cut_off_at_every_byte() {
+        let whole = hex(&(FORMAT.to_string() + &long_format("0200")));
+        for cut in 0..whole.len() {
+            let expected: &[u16] = match cut {
+                0 => &[],
+                1..=11 => &[11],
+                12 => &[0],
+                _ => &[0, 11],
+            };
+            assert_eq!(refusals_to(&whole[..cut]), expected, "{cut}");
+        }
+        assert_eq!(refusals("0D00 0101"), [10]);
     }
 }

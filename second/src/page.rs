@@ -175,6 +175,7 @@ mod tests {
         sweeps: 1,
         pages: 1,
         cap: 2,
+        edition: 1,
         records: 0,
     };
 
@@ -203,6 +204,27 @@ mod tests {
         let page = judge(STATE, &area, 1).expect("a page that was just written");
         assert_eq!((page.count, &page.keys[..4]), (3, &[3, 5, 9, 0][..]));
         assert_eq!(judge(STATE, &area, 0), None);
+    }
+
+    /// At size 2 key 1 lives on page 1 in edition 1 and on page 0 in edition 2,
+    /// so a page 0 that holds it is broken in edition 1 alone. Key 0 lives on
+    /// page 1 in both.
+    #[test]
+    fn homes_are_judged_by_the_edition() {
+        let whole = |edition, key| {
+            let mut page = Page::EMPTY;
+            assert_eq!(page.insert(0, Record { key, value: 1 }), None);
+            let mut area = vec![0; 512];
+            write(&mut area, 0, &page);
+            let state = State {
+                pages: 2,
+                edition,
+                ..STATE
+            };
+            judge(state, &area, 0).is_some()
+        };
+        assert!(!whole(1, 1) && whole(2, 1));
+        assert!(!whole(1, 0) && !whole(2, 0));
     }
 
     #[test]

@@ -79,9 +79,9 @@ fn settle(state: State, area: &mut [u8], first: usize, walked: usize, shift: Shi
 mod tests {
     use super::*;
     use crate::answer::{BROKEN, CLASH, REPEAT};
-    use crate::figures::Trial;
     use crate::image::page_bytes;
     use crate::page::PAGE_BYTES;
+    use crate::trial::Trial;
 
     /// A file of one home, 0, that holds the keys from 0 up, each with its
     /// tenfold as value.

@@ -11,7 +11,7 @@
 use crate::answer::Answer;
 use crate::bytes::{eight, four, number, two};
 use crate::calls::Call;
-use crate::commands::{length_of, parse};
+use crate::commands::{lengths_of, parse};
 use crate::log::Failure;
 use crate::pay_run::pay_run;
 use crate::state::State;
@@ -32,8 +32,6 @@ pub const LONGEST_STRING: usize = 16_400;
 pub const LONGEST_ROW: usize = LONGEST_STRING / COUNT_BYTES;
 pub const DUE_KIND: u16 = 256;
 pub const RUN_KIND: u16 = 264;
-/// The edition that every reply tells, whatever the record says.
-pub const EDITION: u16 = 1;
 /// The bytes of a count in a row.
 const COUNT_BYTES: usize = 4;
 
@@ -42,8 +40,6 @@ const COUNT_BYTES: usize = 4;
 pub struct Case {
     pub kind: u16,
     pub state: State,
-    /// The edition in the state, which no call looks at.
-    pub edition: u16,
     pub a: u64,
     pub b: u64,
     pub c: u64,
@@ -63,7 +59,6 @@ impl Default for Case {
         Case {
             kind: DUE_KIND,
             state: State::default(),
-            edition: EDITION,
             a: 0,
             b: 0,
             c: 0,
@@ -82,8 +77,9 @@ impl Case {
         let body = [self.a.to_le_bytes(), self.b.to_le_bytes()].concat();
         match self.kind {
             DUE_KIND => Some(Call::Due),
-            // The log's commands have the same kinds and the same numbers.
-            kind => length_of(kind).map(|_| parse(kind, &body)),
+            // The log's commands have the same kinds and the same numbers, a
+            // format's edition with eight bytes.
+            kind => (!lengths_of(kind).is_empty()).then(|| parse(kind, &body)),
         }
     }
 
@@ -129,12 +125,12 @@ impl Case {
             sweeps: two(head, 10),
             pages: two(head, 12),
             cap: two(head, 14),
+            edition: two(head, 16),
             records: four(head, 18),
         };
         let case = Case {
             kind: two(head, 4),
             state,
-            edition: two(head, 16),
             a: eight(head, 22),
             b: eight(head, 30),
             c: eight(head, 38),
@@ -153,7 +149,6 @@ impl Case {
             return Ok(None);
         };
         self.state = answer.state;
-        self.edition = EDITION;
         Ok(Some((answer, self.reply(&answer))))
     }
 
@@ -190,9 +185,10 @@ impl Case {
             sweeps,
             pages,
             cap,
+            edition,
             records,
         } = self.state;
-        for number in [n0, groups, sweeps, pages, cap, self.edition] {
+        for number in [n0, groups, sweeps, pages, cap, edition] {
             bytes.extend(number.to_le_bytes());
         }
         bytes.extend(records.to_le_bytes());

@@ -2,7 +2,10 @@
 
 use crate::page::{PAGE_BYTES, SLOTS};
 
-/// n0, N, s, P, cap and r of the rules.
+/// The editions there are. They differ in where a key lives.
+pub const EDITIONS: std::ops::RangeInclusive<u16> = 1..=2;
+
+/// n0, N, s, P, cap, edition and r of the rules.
 #[derive(Clone, Copy, Debug, Default, PartialEq, Eq)]
 pub struct State {
     /// n0: pages per group at the start.
@@ -15,21 +18,26 @@ pub struct State {
     pub pages: u16,
     /// cap: pages lent.
     pub cap: u16,
+    /// Which draw each step uses; 0 before a format, which is no edition.
+    pub edition: u16,
     /// r: records held.
     pub records: u32,
 }
 
 impl State {
     /// The state that a format asks for: "P = n0 x N, r = 0". None where that
-    /// product doesn't fit two bytes, which is out of range in any case.
-    pub fn asked(n0: u16, groups: u16, sweeps: u16, cap: u16) -> Option<State> {
+    /// product or the edition doesn't fit two bytes, which is out of range in
+    /// any case.
+    pub fn asked(n0: u16, groups: u16, sweeps: u16, cap: u16, edition: u64) -> Option<State> {
         let pages = n0.checked_mul(groups)?;
+        let edition = u16::try_from(edition).ok()?;
         Some(State {
             n0,
             groups,
             sweeps,
             pages,
             cap,
+            edition,
             records: 0,
         })
     }
@@ -44,12 +52,13 @@ impl State {
         SLOTS as u64 * u64::from(self.cap)
     }
 
-    /// Whether all six numbers are in their ranges.
+    /// Whether all seven numbers are in their ranges.
     pub fn in_range(self) -> bool {
         let parameters = (1..=4).contains(&self.n0)
             && (1..=64).contains(&self.groups)
             && (1..=8).contains(&self.sweeps)
-            && (1..=4096).contains(&self.cap);
+            && (1..=4096).contains(&self.cap)
+            && EDITIONS.contains(&self.edition);
         let grown = self.start_pages() <= u64::from(self.pages) && self.pages <= self.cap;
         parameters && grown && u64::from(self.records) <= self.most_records()
     }
@@ -104,6 +113,7 @@ mod tests {
         sweeps: 1,
         pages: 4,
         cap: 8,
+        edition: 1,
         records: 38,
     };
 
@@ -121,47 +131,71 @@ mod tests {
     #[test]
     fn every_number_has_its_range() {
         assert!(GOOD.in_range());
-        let wrong = [
-            State { n0: 0, ..GOOD },
-            State {
-                n0: 5,
-                groups: 1,
-                cap: 8,
-                pages: 5,
-                ..GOOD
-            },
-            State { groups: 0, ..GOOD },
-            State {
-                groups: 65,
-                n0: 1,
-                pages: 65,
-                cap: 65,
-                ..GOOD
-            },
-            State { sweeps: 0, ..GOOD },
-            State { sweeps: 9, ..GOOD },
-            State { pages: 3, ..GOOD },
-            State { pages: 9, ..GOOD },
-            State { cap: 0, ..GOOD },
-            State { cap: 4097, ..GOOD },
-            State {
-                records: 97,
-                ..GOOD
-            },
+        let wrong: [fn(&mut State); 15] = [
+            |state| state.n0 = 0,
+            |state| (state.n0, state.groups, state.pages) = (5, 1, 5),
+            |state| state.groups = 0,
+            |state| (state.n0, state.groups, state.pages, state.cap) = (1, 65, 65, 65),
+            |state| state.sweeps = 0,
+            |state| state.sweeps = 9,
+            |state| state.pages = 3,
+            |state| state.pages = 9,
+            |state| state.cap = 0,
+            |state| state.cap = 4097,
+            |state| state.edition = 0,
+            |state| state.edition = 3,
+            |state| state.edition = 257,
+            |state| state.edition = 65535,
+            |state| state.records = 97,
         ];
-        for state in wrong {
+        for change in wrong {
+            let mut state = GOOD;
+            change(&mut state);
             assert!(!state.in_range(), "{state:?}");
         }
-        assert!(State {
-            records: 96,
-            ..GOOD
+        let right: [fn(&mut State); 2] = [|state| state.records = 96, |state| state.edition = 2];
+        for change in right {
+            let mut state = GOOD;
+            change(&mut state);
+            assert!(state.in_range(), "{state:?}");
         }
-        .in_range());
+    }
+
+    /// 39 records are due in either edition and in no other.
+    #[test]
+    fn due_needs_an_edition() {
+        let due = |edition| {
+            State {
+                edition,
+                ..GOOD.one_more()
+            }
+            .due()
+        };
+        assert_eq!(
+            (0..=u16::MAX).filter(|&e| due(e)).collect::<Vec<_>>(),
+            [1, 2]
+        );
     }
 
     #[test]
     fn an_asked_product_may_not_fit() {
-        assert_eq!(State::asked(65535, 65535, 1, 1), None);
-        assert_eq!(State::asked(1, 1, 1, 2).map(State::in_range), Some(true));
+        assert_eq!(State::asked(65535, 65535, 1, 1, 1), None);
+        assert_eq!(State::asked(1, 1, 1, 2, 1).map(State::in_range), Some(true));
+    }
+
+    /// The edition asked for counts as a whole number, not by its low bytes.
+    #[test]
+    fn an_asked_edition_is_one_or_two() {
+        let asked = |edition| State::asked(1, 1, 1, 2, edition).filter(|state| state.in_range());
+        for edition in [1, 2] {
+            assert_eq!(
+                asked(edition).map(|state| u64::from(state.edition)),
+                Some(edition)
+            );
+        }
+        for edition in [0, 3, 257, 65535, 65536, 65537, 1 << 32 | 2, 1 << 63 | 1] {
+            assert_eq!(asked(edition), None, "{edition}");
+        }
+        assert_eq!(asked(u64::MAX), None);
     }
 }

@@ -21,6 +21,7 @@ pub fn witnessed(
     let told = |what: String| format!("{what}: {asked:?} on {state:?} gave {answer:?}");
     refusal_changes_nothing(&answer, state, &before, area).map_err(told)?;
     held_told_rightly(asked, &answer, &before).map_err(told)?;
+    edition_told_rightly(asked, state, &answer).map_err(told)?;
     row_touched_rightly(asked, &answer, &row_before, row, area).map_err(told)?;
     if state.in_range() && before.len() == state.area_bytes() {
         against_the_image(asked, state, &before, area, row, &answer).map_err(told)?;
@@ -85,6 +86,26 @@ fn held_told_rightly(asked: Call, answer: &Answer, area: &[u8]) -> Result<(), St
     )
 }
 
+/// On any bytes: an accepted format gives the edition that it was asked for,
+/// and every other call leaves the edition as it was. One that there isn't is
+/// accepted by due alone, which answers no.
+fn edition_told_rightly(asked: Call, state: State, answer: &Answer) -> Result<(), String> {
+    if answer.refusal != 0 {
+        return Ok(());
+    }
+    let wanted = match asked {
+        Call::Format { edition, .. } => edition,
+        _ => u64::from(state.edition),
+    };
+    must(
+        u64::from(answer.state.edition) == wanted,
+        "another edition is told",
+    )?;
+    let known = [1, 2].contains(&wanted);
+    must(known || asked == Call::Due, "no edition, but accepted")?;
+    must(known || !answer.state.due(), "no edition, but due")
+}
+
 /// Only a grow that succeeds or finds no room may write the row, and then it
 /// has to hold the homes at size P + 1.
 fn row_touched_rightly(
@@ -140,66 +161,4 @@ fn answer_is(answer: &Answer, expected: &Expected) -> Result<(), String> {
 }
 
 #[cfg(test)]
-mod tests {
-    use super::*;
-    use crate::answer::NOT_THE_IMAGE;
-
-    const STATE: State = State {
-        n0: 1,
-        groups: 1,
-        sweeps: 1,
-        pages: 1,
-        cap: 2,
-        records: 1,
-    };
-
-    /// The image of key 3 with value 4.
-    fn one_record() -> Vec<u8> {
-        lay_out(STATE, &[Record { key: 3, value: 4 }]).unwrap_or_default()
-    }
-
-    #[test]
-    fn a_check_of_an_image_and_of_none() {
-        let mut area = one_record();
-        let yes = witnessed(Call::Check, STATE, &mut area, &mut []);
-        assert_eq!(yes.map(|answer| answer.refusal), Ok(0));
-        let two = State {
-            records: 2,
-            ..STATE
-        };
-        let no = witnessed(Call::Check, two, &mut area, &mut []);
-        assert_eq!(no.map(|answer| answer.refusal), Ok(NOT_THE_IMAGE));
-    }
-
-    #[test]
-    fn a_repeat_and_a_clash_are_expected() {
-        for (value, refusal) in [(4, REPEAT), (5, CLASH), (0, CLASH)] {
-            let put = Call::Put { key: 3, value };
-            let answer = witnessed(put, STATE, &mut one_record(), &mut []);
-            assert_eq!(
-                answer.map(|told| (told.refusal, told.value)),
-                Ok((refusal, 4))
-            );
-        }
-    }
-
-    /// Answers that tell another value, mix the two up or come from another
-    /// call are noticed on any bytes.
-    #[test]
-    fn wrongly_told_values_are_noticed() {
-        let put = |value| Call::Put { key: 3, value };
-        let accepts = |asked, refusal, value| {
-            let answer = Answer {
-                value,
-                ..Answer::refused(STATE, refusal, 1)
-            };
-            held_told_rightly(asked, &answer, &one_record()).is_ok()
-        };
-        assert!(accepts(put(4), REPEAT, 4) && accepts(put(5), CLASH, 4));
-        assert!(!accepts(put(4), CLASH, 4) && !accepts(put(5), REPEAT, 4));
-        assert!(!accepts(put(5), CLASH, 5) && !accepts(put(5), CLASH, 0));
-        assert!(!accepts(put(5), REPEAT, 5));
-        assert!(!accepts(Call::Find { key: 3 }, REPEAT, 4));
-        assert!(!accepts(Call::Put { key: 2, value: 5 }, CLASH, 4));
-    }
-}
+mod tests;

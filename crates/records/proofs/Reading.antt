@@ -9,15 +9,14 @@ use lib.ListN.{length}
 use borrow.Author.Tests.{eq-eqb, eqb-true, ne-eqb, lt-ltb, le-ltb}
 use Rattle.numbers.specs.Little.{numberAt}
 use Rattle.homes.specs.Homes.{params}
-use Rattle.pages.specs.Page.{Record}
 use Rattle.records.specs.declared.Kind.{Kind}
 use Rattle.records.specs.declared.Kind.the-variants as kind
 use Rattle.records.specs.declared.Form.{Form}
 use Rattle.records.specs.declared.Form.the-variants as form
 use Rattle.records.specs.declared.Command.{Command}
-use Rattle.records.specs.declared.Command.the-variants.{Format, Put}
+use Rattle.records.specs.declared.Command.the-variants.{Format}
 use Rattle.records.specs.declared.Item.the-variants.{Asks, Unknown, Cut}
-use Rattle.records.specs.Records.{lengthOf, known, formatFor, formOf, recordIn, formatIn, commandOf, firstOf}
+use Rattle.records.specs.Records.{lengthOf, known, formatFor, formOf, formatIn, commandOf, firstOf}
 use Rattle.records.specs.steps.Within.{Formed}
 
 -- the number that a record has for its kind
@@ -127,9 +126,9 @@ pub format-read : (l : List ℕ) (a b c d edition : ℕ) → a ≡ numberAt 2 l 
     → Format (params a b c edition) d ≡ formatIn l edition
 format-read l a b c d edition f g h i = rw (f, g, h, i)
 
--- the command of a put's record
-pub put-read : (k : Kind) (l : List ℕ) (x : Record) → k ≡ kind.Put → x ≡ recordIn l → Put x ≡ commandOf k l
-put-read k l x e q = rw (e, q)
+-- the command of a record of some kind is that of the kind that it turns out to be
+pub kind-read : (j k : Kind) (l : List ℕ) (c : Command) → j ≡ k → c ≡ commandOf k l → c ≡ commandOf j l
+kind-read j k l c e q = rw e q
 
 -- a known form has its kind's length
 pub formed-length : (f : Form) (k : Kind) (n : ℕ) → Formed f → f ≡ form.Known k n → n ≡ lengthOf k

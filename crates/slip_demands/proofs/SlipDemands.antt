@@ -49,4 +49,6 @@ slip-demands =
     record {
       histories = handed;
       fresh = λ {cs} {slip} {area} h forty fits m keeps. record { start = fileIn slip area; calls = cs; fits = fits; keeps = keeps; leaves = sym (handed h forty) };
+      read-as-before = λ slip e. rw e;
+      written-as-before = λ n0 N s P cap r n. refl;
     }

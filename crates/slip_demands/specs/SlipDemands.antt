@@ -1,16 +1,21 @@
 -- What the demands come to for a program that calls by slips: `SlipDemands`, at the end. What is
--- quoted is the demands'.
+-- quoted is the demands', or 02's where that is said.
 use mathlib.Core.Path.{_≡_}
 use mathlib.Core.Option.{none, some}
 use mathlib.Core.List.{List, [], _∷_, _++_}
 use Prim.Native.Nat.{ℕ}
 use lib.ListN.{length}
+use Rattle.numbers.specs.Little.{numberAt}
+use Rattle.numbers.specs.Fields.{encode}
+use Rattle.homes.specs.Homes.{params}
 use Rattle.placing.specs.Image.{All}
+use Rattle.state.specs.declared.Numbers.{Numbers}
+use Rattle.slips.specs.Slips.{answerFields}
 use Rattle.register.specs.Files.{Call, after}
 use Rattle.demands.specs.Histories.{Fits, Kept, kept}
 use Rattle.demands.specs.Demands.{Fresh}
 use Rattle.pay_runs.specs.PayRun.{madeBy}
-use Rattle.reefcushion.specs.Slip.{fileIn, served, servedRun}
+use Rattle.reefcushion.specs.Slip.{stateIn, slipOf, fileIn, served, servedRun}
 
 -- calls by slip, "each call given the pages and state that the last one left": from one slip and
 -- area to another. What a call leaves of them is what `slip-answers` says (due leaves both as they
@@ -31,3 +36,8 @@ pub record SlipDemands : Type 0 where
   -- it
   pub fresh : {cs : List Call} {slip area slip' area' : List ℕ} → Handed cs slip area slip' area' → length slip ≡ 40 → All Fits cs
       → (m : Kept) → kept none (fileIn slip area) cs ≡ some m → Fresh m (fileIn slip' area')
+  -- 02, request 4: "Edition 1 files stay readable and writable as they are": a slip with 0 before
+  -- r, as all were before there were editions, is of edition 1, and one of edition 1 is written so
+  pub read-as-before : (slip : List ℕ) → numberAt 2 slip 10 ≡ 0 → stateIn slip .params .edition ≡ 1
+  pub written-as-before : (n0 N s P cap r : ℕ) (n : Numbers) → slipOf (record { params = params n0 N s 1; p = P; cap = cap; r = r }) n
+      ≡ encode (((2, n0) ∷ (2, N) ∷ (2, s) ∷ (2, P) ∷ (2, cap) ∷ (2, 0) ∷ (4, r) ∷ []) ++ answerFields n)

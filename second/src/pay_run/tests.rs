@@ -2,8 +2,9 @@ use super::*;
 use crate::answer::{BROKEN, CLASH, NOT_THE_IMAGE, NO_ROOM, OUT_OF_RANGE, REPEAT, WRONG_AREA};
 use crate::bytes::{eight, four, two};
 use crate::commands::hex;
-use crate::figures::Trial;
-use crate::home::next_draw;
+use crate::trial::Trial;
+
+mod one_by_one;
 
 /// What the room holds before a run, so that bytes not written show.
 const UNTOUCHED: u8 = 0xa7;
@@ -107,6 +108,10 @@ fn a_bad_state_and_a_wrong_area_show_in_each_item() {
     };
     let refused = (OUT_OF_RANGE, 0, 0, 0, 0, 0, 0);
     assert_eq!(told(&replies(&mut none, &items)), [refused; 2]);
+    let mut of_none = Trial::of_ones(3).expect("agrees");
+    (of_none.state.edition, of_none.state.records) = (3, 30);
+    let refused = (OUT_OF_RANGE, 0, 0, 0, 0, 1, 0);
+    assert_eq!(told(&replies(&mut of_none, &items)), [refused; 2]);
     let mut short = Trial::of_ones(3).expect("agrees");
     short.state.pages = 2;
     short.area.pop();
@@ -225,55 +230,4 @@ fn an_empty_run_is_accepted_whatever_the_file() {
         assert_eq!(replies(&mut file, &[]), []);
         assert!(file.state == state && file.area == before);
     }
-}
-
-/// Items from a small choice of keys and values, so that some come again with
-/// the same value and some with another.
-fn drawn(count: usize, seed: u64) -> Vec<(u64, u64)> {
-    let draws = std::iter::successors(Some(seed), |&last| Some(next_draw(last)));
-    let drawn: Vec<u64> = draws.skip(1).take(2 * count).collect();
-    drawn
-        .chunks(2)
-        .map(|two| (two[0] % 90, two[1] % 3))
-        .collect()
-}
-
-/// A run leaves the same pages, state and replies as its puts by themselves,
-/// and as a log that holds its records behind a format.
-#[test]
-fn one_by_one_and_from_the_log_it_is_the_same() {
-    for (seed, numbers) in [[1, 1, 1, 3], [2, 2, 3, 7], [4, 1, 8, 5], [1, 2, 2, 9]]
-        .into_iter()
-        .enumerate()
-    {
-        let format: Vec<u8> = numbers.iter().flat_map(|n: &u16| n.to_le_bytes()).collect();
-        let items = drawn(300, 1 + seed as u64);
-        let (mut whole, mut single) = (formatted(&format), formatted(&format));
-        let room = replies(&mut whole, &items);
-        let mut alone = Vec::new();
-        for &(key, value) in &items {
-            let answer = single.ask(Call::Put { key, value }).expect("agrees");
-            alone.extend(reply(&answer));
-        }
-        assert!(room == alone && whole.area == single.area);
-        assert_eq!(whole.state, single.state);
-        let log = [hex("0C00 0101"), format, records(&items)].concat();
-        let mut output = Vec::new();
-        crate::log::run(&mut &log[..], &mut output).expect("slices don't fail");
-        assert!(output[28..] == room);
-        for refusal in [0, REPEAT, CLASH] {
-            assert!(told(&room).iter().any(|one| one.0 == refusal));
-        }
-    }
-}
-
-/// The file that a format with this body begins.
-fn formatted(body: &[u8]) -> Trial {
-    let mut file = Trial {
-        state: State::default(),
-        area: vec![UNTOUCHED; 256 * usize::from(two(body, 6))],
-    };
-    let answer = file.ask(parse(257, body)).expect("agrees");
-    assert_eq!(answer.refusal, 0);
-    file
 }

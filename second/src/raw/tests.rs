@@ -1,19 +1,26 @@
 use super::*;
 use crate::commands::hex;
 
-/// A format of two pages with something in every field.
+mod editions;
+
+/// What a state that isn't looked at has for its edition.
+const NO_EDITION: u16 = 0x7776;
+
+/// A format of two pages and edition 1 with something in every field.
 fn format_case() -> Case {
     Case {
         kind: 257,
-        edition: 0x7776,
+        state: State {
+            edition: NO_EDITION,
+            ..State::default()
+        },
         a: number(&[1, 0, 1, 0, 1, 0, 2, 0]),
-        b: 2,
+        b: 1,
         c: 3,
         area: vec![7; 512],
         second: vec![8; 9],
         row: vec![5],
         room: vec![6; 3],
-        ..Case::default()
     }
 }
 
@@ -31,12 +38,19 @@ fn a_record_reads_back() {
     assert_eq!(Case { kind: 263, ..case }.call(), None);
 }
 
-/// A check that finds its area too short, byte by byte.
+/// A check that finds its area too short, or its edition wrong, byte by byte.
 #[test]
 fn every_field_has_its_place() {
+    for (edition, refusal, due) in [(1, 2, 1), (2, 2, 1), (0, 1, 0), (3, 1, 0), (0xab02, 1, 0)] {
+        let [low, high] = u16::to_le_bytes(edition);
+        check_every_field([low, high], refusal, due);
+    }
+}
+
+fn check_every_field([low, high]: [u8; 2], refusal: u8, due: u8) {
     let record = [
         &[74, 0, 0, 0, 6, 1][..],
-        &[2, 0, 3, 0, 4, 0, 30, 0, 40, 0, 0xcd, 0xab, 0x23, 1, 0, 0],
+        &[2, 0, 3, 0, 4, 0, 30, 0, 40, 0, low, high, 0x23, 1, 0, 0],
         &[11, 0, 0, 0, 0, 0, 0, 0x80],
         &[12, 0, 0, 0, 0, 0, 0, 0x80],
         &[13, 0, 0, 0, 0, 0, 0, 0x80],
@@ -47,10 +61,11 @@ fn every_field_has_its_place() {
     ]
     .concat();
     let reply = [
-        &[76, 0, 0, 0, 1, 2, 2, 0, 0, 0][..],
+        &[76, 0, 0, 0, 1, 2, refusal, 0, 0, 0][..],
         &[0, 0, 0, 0, 0, 0, 0, 0],
         &[0, 0, 0, 0, 0, 0, 0, 0, 0, 0, 0, 0, 0, 0, 0, 0, 0, 0],
-        &[2, 0, 3, 0, 4, 0, 30, 0, 40, 0, 1, 0, 0x23, 1, 0, 0, 1, 0],
+        &[2, 0, 3, 0, 4, 0, 30, 0, 40, 0, low, high, 0x23, 1, 0, 0],
+        &[due, 0],
         &[1, 0, 0, 0, 21],
         &[4, 0, 0, 0, 24, 25, 26, 27],
         &[5, 0, 0, 0, 28, 29, 30, 31, 32],
@@ -59,7 +74,8 @@ fn every_field_has_its_place() {
     assert_eq!(written(&record), reply);
     let read = Case::parse(&record).expect("a record");
     assert_eq!((read.a, read.b, read.c), (TOP + 11, TOP + 12, TOP + 13));
-    assert_eq!((read.edition, read.row), (0xabcd, vec![0x1b1a_1918]));
+    assert_eq!(read.state.edition.to_le_bytes(), [low, high]);
+    assert_eq!(read.row, vec![0x1b1a_1918]);
 }
 
 const TOP: u64 = 1 << 63;
@@ -71,13 +87,22 @@ fn next(case: &mut Case, kind: u16, a: u64) -> Vec<u8> {
     answered.expect("a known kind").1
 }
 
+/// What a format of two pages and this edition leaves.
+fn formatted(edition: u64) -> Case {
+    let mut case = Case {
+        b: edition,
+        ..format_case()
+    };
+    let answered = case.answer().expect("agrees with itself");
+    assert_eq!(answered.map(|(answer, _)| answer.refusal), Some(0));
+    case
+}
+
 /// The rules' own figure: with thirteen keys there is no room to grow, with
 /// twelve all of them move.
 #[test]
 fn the_numbers_of_an_answer_have_their_places() {
-    let mut case = format_case();
-    let asked = case.a;
-    next(&mut case, 257, asked);
+    let mut case = formatted(1);
     for key in 0..13 {
         next(&mut case, 258, key);
     }
@@ -97,15 +122,11 @@ fn the_numbers_of_an_answer_have_their_places() {
 /// A run of one put on a fresh file of two pages, with something in every
 /// field that a run doesn't look at.
 fn run_case() -> Case {
-    let mut case = format_case();
-    let asked = case.a;
-    next(&mut case, 257, asked);
     Case {
         kind: 264,
-        edition: 0x7776,
         second: hex("1400 0201 0500000000000000 0900000000000000"),
         room: vec![6; 28],
-        ..case
+        ..formatted(2)
     }
 }
 
@@ -115,7 +136,7 @@ fn run_case() -> Case {
 fn a_run_writes_its_replies_to_the_room() {
     let reply = written(&run_case().record());
     let head = "62020000 0102 0000 0000 0000000000000000 00000000 00000000 00000000 0000 00000000
-        0100 0100 0100 0100 0200 0100 01000000 0000 00020000";
+        0100 0100 0100 0100 0200 0200 01000000 0000 00020000";
     assert_eq!(reply[..58], hex(head));
     let record = "1400 0100 0500000000000000 0900000000000000";
     assert_eq!(reply[58 + 16..58 + 36], hex(record));
@@ -136,10 +157,7 @@ fn a_refused_run_changes_nothing() {
                 room: vec![6; room],
                 ..good.clone()
             };
-            let before = Case {
-                edition: EDITION,
-                ..case.clone()
-            };
+            let before = case.clone();
             let answered = case.answer().expect("agrees with itself");
             let told = answered.map(|(answer, _)| answer);
             assert_eq!(told, Some(Answer::refused(state, refusal, 0)));
@@ -159,15 +177,12 @@ fn heads_stand_where_they_are_told() {
 #[test]
 fn fields_not_looked_at_change_nothing() {
     let idle = Case {
-        edition: 1,
-        b: 0,
         c: 0,
         second: Vec::new(),
         ..format_case()
     };
     assert_eq!(written(&idle.record()), written(&format_case().record()));
     let formatted = written(&idle.record());
-    assert_eq!(two(&formatted, 46), EDITION);
     assert_eq!(formatted[formatted.len() - 7..], [3, 0, 0, 0, 6, 6, 6]);
 }
 

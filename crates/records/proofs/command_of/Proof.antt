@@ -1,11 +1,13 @@
 -- `records::command_of` meets its contract: the record is as long as its kind's, so each
 -- number lies in it.
-use mathlib.Core.Path.{_≡_, sym, _∙_}
+use mathlib.Core.Path.{ap, _∙_}
 use denote.Ref.{now}
 use native.Mathlib.Omega.{arith}
 use borrow.Author.Needs.{needs}
 use Rattle.records.specs.declared.Kind.the-variants as kind
-use Rattle.records.proofs.Reading.{long, put-read}
+use Rattle.records.specs.declared.Command.the-variants.{Put}
+use Rattle.records.specs.Records.{formatIn}
+use Rattle.records.proofs.Reading.{long, kind-read}
 use Rattle.records.proofs.command_of.Statement.{statement}
 use Rattle.records.proofs.command_of.Tie as tie
 
@@ -49,15 +51,20 @@ enum-told-7 : tie.Need-enum-told-7
 enum-told-7 c = search needs
 
 returns : tie.Need-returns
-returns c = cc
+returns c =
+    let a = c .before .before .before .before .args in
+    kind-read (a .kind) kind.Format (now (a .input)) _ (c .before .enum-told .given .1) (c .format-in .ensures)
 
 returns-2 : tie.Need-returns-2
-returns-2 c = cc
+returns-2 c =
+    let a = c .before .before .before .before .before .args in
+    let l = now (a .input) in
+    kind-read (a .kind) kind.FormatEdition l _ (c .before .before .enum-told2 .given .1) (c .format-in2 .ensures ∙ ap (formatIn l) (c .before .get-u16 .ensures))
 
 returns-3 : tie.Need-returns-3
 returns-3 c =
     let a = c .before .before .before .before .args in
-    put-read (a .kind) (now (a .input)) _ (c .before .enum-told3 .given .1) (c .record-in .ensures)
+    kind-read (a .kind) kind.Put (now (a .input)) _ (c .before .enum-told3 .given .1) (ap Put (c .record-in .ensures))
 
 returns-4 : tie.Need-returns-4
 returns-4 c = cc

@@ -2,20 +2,23 @@
 
 use crate::breaks::break_page;
 use crate::chains::chain;
-use crate::files::{image, parameters, File};
+use crate::edition_scenes::{misread, wrong_editions};
+use crate::files::{image, of_other_edition, parameters, File};
 use crate::held::held_again;
 use crate::loose::{loosen, scatter, wrong_count};
 use crate::random::Random;
 use crate::runs::{pay_runs, some_run};
 use crate::sink::Sink;
 use crate::values::offered;
-use crate::wrong::{wrong_format, wrong_length, wrong_row, wrong_state};
+use crate::wrong::{wrong_asked, wrong_format, wrong_length, wrong_row, wrong_state};
+use second::commands::FORMAT_KIND;
 use second::page::PAGE_BYTES;
 use second::raw::{Case, RUN_KIND};
+use second::state::State;
 
 /// Generates one scene: a file and some calls on it.
 pub fn scene(random: &mut Random, sink: &mut Sink) -> Result<(), String> {
-    match random.index(48) {
+    match random.index(51) {
         0..=2 => chain(random, sink),
         3..=8 => {
             let mut file = image(random);
@@ -30,6 +33,8 @@ pub fn scene(random: &mut Random, sink: &mut Sink) -> Result<(), String> {
         36 => noise(random, sink),
         37..=39 => formats(random, sink),
         40..=42 => held_again(random, sink),
+        43..=44 => misread(random, sink),
+        45 => wrong_editions(random, sink),
         _ => pay_runs(random, sink),
     }
 }
@@ -71,7 +76,7 @@ pub fn call_of(random: &mut Random, file: &mut File, kind: u16) -> Case {
     }
 }
 
-fn several(random: &mut Random, file: &mut File, sink: &mut Sink) -> Result<(), String> {
+pub fn several(random: &mut Random, file: &mut File, sink: &mut Sink) -> Result<(), String> {
     for _ in 0..random.within(2, 8) {
         let case = some_call(random, file);
         sink.ask(case)?;
@@ -173,22 +178,30 @@ fn noise(random: &mut Random, sink: &mut Sink) -> Result<(), String> {
 fn formats(random: &mut Random, sink: &mut Sink) -> Result<(), String> {
     for _ in 0..4 {
         let asked = parameters(random);
-        let before = wrong_state(random, asked);
-        let numbers = if random.one_in(3) {
-            [asked.n0, asked.groups, asked.sweeps, asked.cap]
-        } else {
-            wrong_format(random, asked)
-        };
+        let (mut a, mut b) = asking_for(asked);
+        if !random.one_in(3) {
+            a = four_numbers(wrong_format(random, asked));
+        }
+        if random.one_in(4) {
+            let bytes = random.within(0, 8);
+            b = wrong_asked(random, bytes);
+        }
         let mut area = random.bytes(asked.area_bytes());
         if random.one_in(4) {
             wrong_length(random, &mut area);
         }
         let row = vec![random.next() as u32; random.index(3)];
-        let state = if random.one_in(2) { asked } else { before };
+        // The edition before may be the asked one, the other one or none.
+        let state = match random.index(4) {
+            0 => asked,
+            1 => of_other_edition(asked),
+            _ => wrong_state(random, asked),
+        };
         sink.ask(Case {
-            kind: 257,
+            kind: FORMAT_KIND,
             state,
-            a: four_numbers(numbers),
+            a,
+            b,
             area,
             row,
             ..Case::default()
@@ -197,8 +210,14 @@ fn formats(random: &mut Random, sink: &mut Sink) -> Result<(), String> {
     Ok(())
 }
 
+/// The a and the b of a format that asks for these numbers.
+pub fn asking_for(state: State) -> (u64, u64) {
+    let numbers = [state.n0, state.groups, state.sweeps, state.cap];
+    (four_numbers(numbers), u64::from(state.edition))
+}
+
 /// The four numbers of a format as one, two bytes each, lowest first.
-pub fn four_numbers(numbers: [u16; 4]) -> u64 {
+fn four_numbers(numbers: [u16; 4]) -> u64 {
     numbers
         .iter()
         .rev()

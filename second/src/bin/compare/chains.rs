@@ -1,14 +1,14 @@
 //! Chains of calls from a format on, each given what the last one left.
 
-use crate::cases::four_numbers;
-use crate::files::{parameters, parameters_for, File};
+use crate::cases::asking_for;
+use crate::files::{of_other_edition, parameters, parameters_for, File};
 use crate::keys::{key_with_home, Keys};
 use crate::random::Random;
 use crate::runs::some_run;
 use crate::sink::Sink;
 use crate::values::offered;
 use second::bytes::eight;
-use second::commands::{HEAD_BYTES, PUT_BYTES};
+use second::commands::{FORMAT_KIND, HEAD_BYTES, PUT_BYTES};
 use second::image::standing;
 use second::raw::Case;
 use second::state::State;
@@ -36,9 +36,11 @@ pub fn chain(random: &mut Random, sink: &mut Sink) -> Result<(), String> {
         held: Vec::new(),
         keys: Keys::new(random, asked),
     };
-    let numbers = [asked.n0, asked.groups, asked.sweeps, asked.cap];
-    file.call(257, four_numbers(numbers), 0, sink)?;
+    file.format(asked, sink)?;
     for _ in 0..random.within(1, 4) {
+        if random.one_in(8) {
+            file.format(of_other_edition(file.state), sink)?;
+        }
         let moods = [
             Mood::Fill,
             Mood::GrowWhenDue,
@@ -84,6 +86,12 @@ impl File {
             ..Case::default()
         };
         self.keep(case, sink)
+    }
+
+    /// Begins the file anew, with these numbers.
+    fn format(&mut self, asked: State, sink: &mut Sink) -> Result<(), String> {
+        let (a, b) = asking_for(asked);
+        self.call(FORMAT_KIND, a, b, sink)
     }
 
     /// Makes a run, then calls that have to meet what it left: its first and

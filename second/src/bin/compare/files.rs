@@ -28,7 +28,7 @@ fn cap(random: &mut Random) -> u16 {
     cap as u16
 }
 
-/// A state in range with no records.
+/// A state in range with no records, of either edition.
 pub fn parameters(random: &mut Random) -> State {
     let cap = cap(random);
     parameters_for(random, cap)
@@ -49,14 +49,25 @@ pub fn parameters_for(random: &mut Random, cap: u16) -> State {
         2 => (n0 * groups).max(cap - 1),
         _ => cap,
     };
-    let [n0, groups, sweeps, pages, cap] = [n0, groups, sweeps, pages, cap].map(|n| n as u16);
+    let edition = random.within(1, 2);
+    let numbers = [n0, groups, sweeps, pages, cap, edition];
+    let [n0, groups, sweeps, pages, cap, edition] = numbers.map(|n| n as u16);
     State {
         n0,
         groups,
         sweeps,
         pages,
         cap,
+        edition,
         records: 0,
+    }
+}
+
+/// The same numbers with the other edition.
+pub fn of_other_edition(state: State) -> State {
+    State {
+        edition: 3 - state.edition,
+        ..state
     }
 }
 

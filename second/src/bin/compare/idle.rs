@@ -10,14 +10,11 @@ const STRINGS: u64 = 6;
 
 /// Fills idle fields of a case; the reply must be the same but for the room.
 pub fn fill(random: &mut Random, case: &mut Case) {
-    if random.one_in(NUMBERS) {
-        case.edition = random.pick(&[0, 1, 2, 65535]);
-    }
-    // Due, grow, check and a run take no number at all, and only put takes two.
+    // Due, grow, check and a run take no number at all; format and put take two.
     if [256, 261, 262, RUN_KIND].contains(&case.kind) && random.one_in(NUMBERS) {
         case.a = number(random);
     }
-    if case.kind != 258 && random.one_in(NUMBERS) {
+    if ![257, 258].contains(&case.kind) && random.one_in(NUMBERS) {
         case.b = number(random);
     }
     if random.one_in(NUMBERS) {
@@ -67,14 +64,13 @@ mod tests {
             let mut idle = plain.clone();
             fill(&mut random, &mut idle);
             let differ = [
-                idle.edition != plain.edition,
                 idle.a != plain.a,
                 idle.b != plain.b,
                 idle.c != plain.c,
                 idle.second != plain.second,
                 idle.room != plain.room,
             ];
-            filled.extend((0..6).filter(|&at| differ[at]).map(|at| (kind, at)));
+            filled.extend((0..5).filter(|&at| differ[at]).map(|at| (kind, at)));
             assert!(second::raw::Case::parse(&idle.record()) == Some(idle.clone()));
             let (same, room) = (idle.room == plain.room, idle.room.clone());
             let mut expected = reply(plain);
@@ -83,9 +79,9 @@ mod tests {
             }
             assert_eq!(reply(idle), expected, "round {round}");
         }
-        // All six for due, grow and check; a is asked of the others and b of
-        // put, and a run is asked both strings.
-        assert_eq!(filled.len(), 8 * 6 - 4 - 1 - 2);
+        // All five for due, grow and check; a is asked of the others and b of
+        // format and put, and a run is asked both strings.
+        assert_eq!(filled.len(), 8 * 5 - 4 - 2 - 2);
     }
 
     fn reply(mut case: Case) -> Vec<u8> {

@@ -1,6 +1,7 @@
 //! Logs, each its own run of the other side's program, two at a time.
 
 use crate::launch::Launcher;
+use crate::log_ways::Follower;
 use crate::logs::log;
 use crate::show::{log_difference, nth_kind, Stop};
 use crate::table::{Table, PROGRAM};
@@ -93,21 +94,47 @@ fn one(shared: &Shared, number: u64, table: &mut Table) -> Result<(), Stop> {
     Ok(())
 }
 
-/// Counts the replies of a log, each for the kind of its command.
+/// Counts the replies of a log, each for the kind of its command and for what
+/// its edition has to do with it.
 fn tally(input: &[u8], replies: &[u8], table: &mut Table) {
-    let mut at = 0;
+    let mut rest = input;
+    let mut follower = Follower::default();
     for reply in replies.chunks_exact(REPLY_BYTES) {
         let refusal = two(reply, 4);
         let kind = if [10, 11].contains(&refusal) {
             PROGRAM
         } else {
-            nth_kind(&input[at..], 0)
+            nth_kind(rest, 0)
         };
         table.count(kind, refusal);
+        for (row, number) in follower.pairs(rest, refusal) {
+            table.count(row, number);
+        }
         table.note(four(reply, 16), four(reply, 20));
-        at += input
-            .get(at..at + 2)
-            .map_or(0, |length| usize::from(two(length, 0)));
-        at = at.min(input.len());
+        let length = rest.get(..2).map_or(0, |length| two(length, 0));
+        rest = &rest[usize::from(length).min(rest.len())..];
+    }
+}
+
+#[cfg(test)]
+mod tests {
+    use super::*;
+    use crate::table::log_pairs;
+    use crate::ENOUGH_LOGS;
+
+    /// So many logs are enough for every pair.
+    #[test]
+    fn every_possible_pair_comes() {
+        for seed in [1, 2] {
+            let mut table = Table::default();
+            for number in 0..ENOUGH_LOGS {
+                let input = log(seed, number);
+                let mut output = Vec::new();
+                assert!(run(&mut &input[..], &mut output).is_ok());
+                tally(&input, &output, &mut table);
+            }
+            assert_eq!(table.missing(&log_pairs()), []);
+            assert_eq!(table.beyond(&log_pairs()), []);
+        }
     }
 }

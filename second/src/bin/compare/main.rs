@@ -5,11 +5,13 @@
 //! answered by the programs `raw_calls` and `register_log` in DIR, started
 //! with the prefix, and compares every byte. `shortest` writes raw calls to
 //! standard output instead, one for each call and refusal and for each way that
-//! a run can take.
+//! a run can take or an edition can count.
 
 mod breaks;
 mod cases;
 mod chains;
+mod edition_scenes;
+mod editions;
 mod endings;
 mod files;
 mod held;
@@ -17,6 +19,7 @@ mod idle;
 mod keys;
 mod launch;
 mod log_run;
+mod log_ways;
 mod logs;
 mod loose;
 mod random;
@@ -35,7 +38,7 @@ use launch::Launcher;
 use show::Stop;
 use std::path::PathBuf;
 use std::process::ExitCode;
-use table::{name, raw_pairs, Table, LOG_PAIRS};
+use table::{log_pairs, name, raw_pairs, Table};
 
 /// From so many raw calls or logs on, every possible pair has to come.
 const ENOUGH_CALLS: u64 = 20_000;
@@ -128,7 +131,7 @@ fn compare(options: &Options) -> Result<bool, Stop> {
     if logs > 0 {
         let table = log_run::compare(launcher, seed, logs)?;
         println!("logs, refusal: how often\n{table}");
-        complete &= judged(&table, &LOG_PAIRS, logs >= ENOUGH_LOGS);
+        complete &= judged(&table, &log_pairs(), logs >= ENOUGH_LOGS);
     }
     println!("{calls} raw calls and {logs} logs agreed (seed {seed})");
     Ok(complete)

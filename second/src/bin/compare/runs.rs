@@ -153,7 +153,14 @@ fn heads(random: &mut Random, sink: &mut Sink) -> Result<(), String> {
             ask_wrong(random, case, sink)?;
         }
         let mut case = run_of(random, &mut file, items);
-        let right_for_others = [(12, 257), (12, 259), (12, 260), (4, 261), (4, 262)];
+        let right_for_others = [
+            (12, 257),
+            (14, 257),
+            (12, 259),
+            (12, 260),
+            (4, 261),
+            (4, 262),
+        ];
         let (length, kind) = random.pick(&[&WRONG_HEADS[..], &right_for_others].concat());
         let head = [length.to_le_bytes(), kind.to_le_bytes()].concat();
         case.second[start..start + HEAD_BYTES].copy_from_slice(&head);

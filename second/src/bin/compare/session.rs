@@ -4,28 +4,44 @@ use crate::files::parameters_for;
 use crate::keys::Keys;
 use crate::random::Random;
 use crate::values::{again, other};
+use second::commands::{FORMAT_KIND, HEAD_BYTES};
 use second::state::State;
 
+/// A command with these bytes behind its head.
+fn with_head(kind: u16, body: Vec<u8>) -> Vec<u8> {
+    let length = (HEAD_BYTES + body.len()) as u16;
+    let head = [length.to_le_bytes(), kind.to_le_bytes()].concat();
+    [head, body].concat()
+}
+
 pub fn command(kind: u16, body: &[u64]) -> Vec<u8> {
-    let mut bytes = Vec::new();
-    bytes.extend((4 + 8 * body.len() as u16).to_le_bytes());
-    bytes.extend(kind.to_le_bytes());
-    bytes.extend(body.iter().flat_map(|number| number.to_le_bytes()));
-    bytes
+    let bytes = body.iter().flat_map(|number| number.to_le_bytes());
+    with_head(kind, bytes.collect())
 }
 
-pub fn format(numbers: [u16; 4]) -> Vec<u8> {
-    let mut bytes = vec![12, 0, 1, 1];
-    bytes.extend(numbers.iter().flat_map(|number| number.to_le_bytes()));
-    bytes
+/// A format with these numbers: n0, N, s and cap, with an edition or without.
+pub fn format(numbers: &[u16]) -> Vec<u8> {
+    let bytes = numbers.iter().flat_map(|number| number.to_le_bytes());
+    with_head(FORMAT_KIND, bytes.collect())
 }
 
-/// A fresh file of so many lent pages, and the command that asks for it.
+/// A fresh file of so many lent pages, and the command that asks for it. An
+/// edition of 1 is told or left out.
 fn fresh(random: &mut Random, cap: u64) -> (State, Vec<u8>) {
     let mut state = parameters_for(random, cap as u16);
     state.pages = state.n0 * state.groups;
-    let asked = format([state.n0, state.groups, state.sweeps, state.cap]);
-    (state, asked)
+    let left_out = state.edition == 1 && random.one_in(2);
+    let State {
+        n0,
+        groups,
+        sweeps,
+        cap,
+        edition,
+        ..
+    } = state;
+    let numbers = [n0, groups, sweeps, cap, edition];
+    let told = if left_out { 4 } else { 5 };
+    (state, format(&numbers[..told]))
 }
 
 /// A format and commands after it: phases of filling, growing, emptying and
@@ -48,10 +64,11 @@ pub fn session(random: &mut Random, cap: u64, commands: u64) -> Vec<u8> {
 }
 
 /// A file filled with keys of the lowest home, half the time to its last
-/// slot, whose keys are then put again: with their values, with others, and
-/// with others once they were removed.
+/// slot, and asked to grow, which then often finds no room. Its keys are put
+/// again: with their values, with others, and with others once they were
+/// removed.
 pub fn put_again(random: &mut Random) -> Vec<u8> {
-    let cap = random.within(1, 4);
+    let cap = random.within(1, 5);
     let (state, mut bytes) = fresh(random, cap);
     let missing = if random.one_in(2) {
         0
@@ -64,6 +81,7 @@ pub fn put_again(random: &mut Random) -> Vec<u8> {
     for &(key, value) in &held {
         bytes.extend(command(258, &[key, value]));
     }
+    bytes.extend(command(261, &[]));
     for _ in 0..random.within(4, 40) {
         let at = random.index(held.len());
         let (key, value) = held[at];

@@ -1,5 +1,7 @@
 //! How often each call gave each refusal.
 
+use crate::editions::{self, EDITION_PAIRS};
+use crate::log_ways::{self, LOG_WAYS};
 use crate::ways::{self, Pair, RUN_PAIRS};
 use second::raw::RUN_KIND;
 use std::collections::BTreeMap;
@@ -9,7 +11,7 @@ use std::fmt;
 pub const PROGRAM: u16 = 0;
 
 /// The pairs of call and refusal that the rules make possible for raw calls;
-/// what a run can be like is told beside them.
+/// what a run can be like and what the editions do is told beside them.
 pub const CALL_PAIRS: [(u16, &[u16]); 8] = [
     (256, &[0]),
     (257, &[0, 1, 2]),
@@ -21,9 +23,10 @@ pub const CALL_PAIRS: [(u16, &[u16]); 8] = [
     (RUN_KIND, &[0, 10, 15]),
 ];
 
-/// Those for logs. The program lends an area and a row of the right length
-/// and writes images only, so 2, 3, 4 and 9 can't come.
-pub const LOG_PAIRS: [(u16, &[u16]); 7] = [
+/// Those for logs; what their formats can be like is told beside them. The
+/// program lends an area and a row of the right length and writes images only,
+/// so 2, 3, 4 and 9 can't come.
+const COMMAND_PAIRS: [(u16, &[u16]); 7] = [
     (PROGRAM, &[10, 11]),
     (257, &[0, 1, 12]),
     (258, &[0, 1, 6, 7, 13]),
@@ -35,7 +38,12 @@ pub const LOG_PAIRS: [(u16, &[u16]); 7] = [
 
 /// All pairs that have to come among raw calls, in their order.
 pub fn raw_pairs() -> Vec<(u16, &'static [u16])> {
-    [&CALL_PAIRS[..], &RUN_PAIRS].concat()
+    [&CALL_PAIRS[..], &RUN_PAIRS, &EDITION_PAIRS].concat()
+}
+
+/// All pairs that have to come among logs.
+pub fn log_pairs() -> Vec<(u16, &'static [u16])> {
+    [&COMMAND_PAIRS[..], &LOG_WAYS].concat()
 }
 
 #[derive(Default)]
@@ -70,6 +78,18 @@ pub fn name(kind: u16) -> &'static str {
         ways::MIDDLE_HEAD => "middle head",
         ways::LAST_HEAD => "last head",
         ways::BOTH => "and the room",
+        editions::FIRST => "edition 1",
+        editions::SECOND => "edition 2",
+        editions::ALONE => "edition only",
+        editions::WRONG => "no edition",
+        editions::ASKED => "asked bytes",
+        editions::LOW => "low bytes",
+        log_ways::SHORT_FORMAT => "format of 12",
+        log_ways::LONG_FIRST => "of 14 with 1",
+        log_ways::LONG_SECOND => "of 14 with 2",
+        log_ways::LONG_OTHER => "with another",
+        log_ways::WRONG_LENGTH => "wrong length",
+        log_ways::CUT_FORMAT => "of 14 cut at",
         _ => "unknown",
     }
 }

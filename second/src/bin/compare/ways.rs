@@ -1,6 +1,7 @@
 //! What a pay run was like, judged by its bytes: rows of the table beside
 //! those of the calls.
 
+use crate::editions;
 use second::answer::BAD_RECORD;
 use second::bytes::two;
 use second::commands::{HEAD_BYTES, PUT_BYTES, REPLY_BYTES};
@@ -63,7 +64,7 @@ pub const RUN_PAIRS: [(u16, &[u16]); 12] = [
     (BOTH, &[BAD_RECORD]),
 ];
 
-/// The pairs that an answered case counts for.
+/// The pairs that an answered case counts for, those for its edition last.
 pub fn pairs(case: &Case, refusal: u16) -> Vec<Pair> {
     let mut pairs = vec![(case.kind, refusal)];
     if case.kind == RUN_KIND {
@@ -73,6 +74,7 @@ pub fn pairs(case: &Case, refusal: u16) -> Vec<Pair> {
             _ => pairs.extend(wrong_room(case)),
         }
     }
+    pairs.extend(editions::pairs(case, refusal));
     pairs
 }
 

@@ -11,7 +11,7 @@ pub fn wrong_state(random: &mut Random, good: State) -> State {
     let start = good.n0 * good.groups;
     let most = 12 * u32::from(good.cap);
     let mut state = good;
-    match random.index(14) {
+    match random.index(16) {
         0 => state.n0 = 0,
         1 => state.n0 = random.pick(&[5, 6, 256, 65535]),
         2 => state.groups = 0,
@@ -23,10 +23,35 @@ pub fn wrong_state(random: &mut Random, good: State) -> State {
         8 => state.cap = random.pick(&[0, good.pages - 1]),
         9 => state.cap = random.pick(&[4097, 4096, 4098, 65535]),
         10 => state.records = random.pick(&[most + 1, u32::MAX, most + 13]),
-        11 => state = any_state(random),
+        11 | 12 => state.edition = wrong_edition(random),
+        13 => state = any_state(random),
         _ => state = wide_state(random),
     }
     state
+}
+
+/// An edition that there isn't, for a state or a log.
+pub fn wrong_edition(random: &mut Random) -> u16 {
+    if random.one_in(4) {
+        return u16::MAX;
+    }
+    let bytes = random.within(0, 2);
+    wrong_asked(random, bytes) as u16
+}
+
+/// An edition of so many bytes that there isn't. Many would do if their high
+/// bytes were dropped.
+pub fn wrong_asked(random: &mut Random, bytes: u64) -> u64 {
+    match bytes {
+        0 => 0,
+        1 if random.one_in(2) => 3,
+        1 => random.within(3, 255),
+        _ => {
+            let unit = 1 << (8 * (bytes - 1));
+            let (top, low) = (random.within(1, 255), random.next());
+            random.pick(&[1, 1, top]) * unit + random.pick(&[0, 1, 2, low]) % unit
+        }
+    }
 }
 
 /// The widest numbers there may be, of which at most one is out of range, by
@@ -34,49 +59,41 @@ pub fn wrong_state(random: &mut Random, good: State) -> State {
 fn wide_state(random: &mut Random) -> State {
     let (n0, groups) = (random.pick(&[1, 4]), random.pick(&[63, 64]));
     let (pages, records) = (random.pick(&[400, 4096]), random.pick(&[0, 49_152]));
-    let wide = State {
+    let mut wide = State {
         n0,
         groups,
         sweeps: random.pick(&[1, 8]),
         pages,
         cap: 4096,
+        edition: random.pick(&[1, 2]),
         records,
     };
-    match random.index(9) {
-        0 => State { n0: 5, ..wide },
-        1 => State { groups: 65, ..wide },
-        2 => State { sweeps: 9, ..wide },
-        3 => State { cap: 4097, ..wide },
-        4 => State {
-            pages: n0 * groups - 1,
-            ..wide
-        },
-        5 => State {
-            pages: n0 * groups,
-            ..wide
-        },
-        6 => State {
-            pages: 4097,
-            ..wide
-        },
-        7 => State {
-            records: 49_153,
-            ..wide
-        },
-        _ => wide,
+    match random.index(10) {
+        0 => wide.n0 = 5,
+        1 => wide.groups = 65,
+        2 => wide.sweeps = 9,
+        3 => wide.cap = 4097,
+        4 => wide.pages = n0 * groups - 1,
+        5 => wide.pages = n0 * groups,
+        6 => wide.pages = 4097,
+        7 => wide.records = 49_153,
+        8 => wide.edition = random.pick(&[0, 3]),
+        _ => {}
     }
+    wide
 }
 
 fn any_state(random: &mut Random) -> State {
     let mut number = |most| random.within(0, most) as u16;
     let (n0, groups, sweeps) = (number(6), number(66), number(9));
-    let (pages, cap) = (number(70), number(70));
+    let (pages, cap, edition) = (number(70), number(70), number(3));
     State {
         n0,
         groups,
         sweeps,
         pages,
         cap,
+        edition,
         records: random.within(0, 900) as u32,
     }
 }

@@ -157,9 +157,8 @@ after-fresh P k m g w =
 same-stands : (a b : Kept) (ps qs : List (List Record)) → Agree a b → Stands a ps → Stands b qs → fileOf a ps ≡ fileOf b qs
 same-stands a b ps qs e s t =
     let p = same-records (s .set) (t .set) (e .held) in
-    let q : a .params ≡ b .params = e .params in
-    let i : Image key (homes (stateOf a)) 12 (a .cap) (b .held) qs = rw (q, e .cap, e .p) (t .image) in
-    rw (one-image key (homes (stateOf a)) 12 (s .set) p (s .image) i, perm-length p, q, e .cap, e .p)
+    let i : Image key (homes (stateOf a)) 12 (a .cap) (b .held) qs = rw (e .params, e .cap, e .p) (t .image) in
+    rw (one-image key (homes (stateOf a)) 12 (s .set) p (s .image) i, perm-length p, e .params, e .cap, e .p)
 
 same : (a b : Kept) (g h : File) → Fresh a g → Fresh b h → Agree a b → g ≡ h
 same a b g h v w e =

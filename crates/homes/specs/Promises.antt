@@ -1,15 +1,20 @@
--- What is promised of the homes (01, 'Where a key lives'), for all numbers in range and every key.
--- What is quoted is 01's.
+-- What is promised of the homes (01, 'Where a key lives'), for all numbers in range, every edition
+-- and every key. What is quoted is 01's, or 02's where that is said.
 use Prim.Native.Nat.{ℕ, _+_, _-_, _*_, _%_, _≤_, _<_}
+use lib.Dec.{leb}
 use mathlib.Core.Path.{_≡_}
 use mathlib.Core.Logic.{_⊎_}
 use Rattle.homes.specs.declared.Params.{Params}
-use Rattle.homes.specs.Homes.{seedOf, draw, newPage, firstPages, homeWithin, home, InRange}
+use Rattle.homes.specs.Homes.{seedOf, draw, later, np, mover, newPage, firstPages, homeWithin, home, InRange}
 
 pub record HomesPromises : Type 0 where
   -- "draw 1 = 16807 x seed mod 2147483647, each next draw 16807 times the last, same modulus": so
   -- draw x of a key is its seed times draw x of the seed 1, a number that no key has a part in
   pub one-step : (K x : ℕ) → draw 1 x * seedOf K % 2147483647 ≡ draw (seedOf K) x
+  -- "The key is a mover if draw x times (np + 1) is at most 2147483647." So it is in edition 1,
+  pub edition-1 : (n0 K x : ℕ) → mover (later 1) n0 K x ≡ leb (draw (seedOf K) x * (np n0 x + 1)) 2147483647
+  -- and 02, request 4: "From the new edition on, step x uses draw x + 10."
+  pub edition-2 : (n0 K x : ℕ) → mover (later 2) n0 K x ≡ leb (draw (seedOf K) (x + 10) * (np n0 x + 1)) 2147483647
   -- "while F < P": the bound on the steps never cuts them short; any other that is no lower leads
   -- to the same page
   pub whole-loop : (left : ℕ) (q : Params) (P K : ℕ) → InRange q P → P - firstPages q ≤ left → home q P K ≡ homeWithin left q P K

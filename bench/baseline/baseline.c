@@ -1,13 +1,15 @@
 // The plain register: gates and answers, format and due.
 #include "baseline_parts.h"
 
-static bool in_range(uint32_t n0, uint32_t groups, uint32_t sweeps, uint32_t cap) {
-    return n0 - 1 < 4 && groups - 1 < 64 && sweeps - 1 < 8 && cap - 1 < MOST_PAGES && n0 * groups <= cap;
+static bool in_range(uint32_t n0, uint32_t groups, uint32_t sweeps, uint32_t cap, uint32_t edition) {
+    return n0 - 1 < 4 && groups - 1 < 64 && sweeps - 1 < 8 && cap - 1 < MOST_PAGES && n0 * groups <= cap &&
+           edition - 1 < 2;
 }
 
 static bool state_holds(const struct reefcushion_slip *slip) {
-    return in_range(slip->n0, slip->groups, slip->sweeps, slip->cap) && slip->n0 * slip->groups <= slip->pages &&
-           slip->pages <= slip->cap && slip->records <= SLOTS * (uint32_t)slip->cap;
+    return in_range(slip->n0, slip->groups, slip->sweeps, slip->cap, slip->edition_less_1 + 1u) &&
+           slip->n0 * slip->groups <= slip->pages && slip->pages <= slip->cap &&
+           slip->records <= SLOTS * (uint32_t)slip->cap;
 }
 
 uint32_t baseline_gate(const struct reefcushion_slip *slip, size_t bytes) {
@@ -17,7 +19,6 @@ uint32_t baseline_gate(const struct reefcushion_slip *slip, size_t bytes) {
 }
 
 uint32_t baseline_answer(struct reefcushion_slip *slip, uint32_t refusal, uint32_t read) {
-    slip->zero = 0;
     slip->value = 0;
     slip->read = read;
     slip->moved = 0;
@@ -38,8 +39,8 @@ uint32_t baseline_due(const struct reefcushion_slip *slip) {
 }
 
 uint32_t baseline_format(struct reefcushion_slip *slip, uint8_t *area, size_t bytes, uint16_t n0, uint16_t groups,
-                         uint16_t sweeps, uint16_t cap) {
-    if (!in_range(n0, groups, sweeps, cap))
+                         uint16_t sweeps, uint16_t cap, uint16_t edition) {
+    if (!in_range(n0, groups, sweeps, cap, edition))
         return baseline_answer(slip, REEFCUSHION_OUT_OF_RANGE, 0);
     if (bytes != page_start(cap))
         return baseline_answer(slip, REEFCUSHION_WRONG_AREA, 0);
@@ -50,7 +51,11 @@ uint32_t baseline_format(struct reefcushion_slip *slip, uint8_t *area, size_t by
         memcpy(page + 4, &address, 4);
         memcpy(area + page_start(address), page, PAGE_BYTES);
     }
-    *slip = (struct reefcushion_slip){
-        .n0 = n0, .groups = groups, .sweeps = sweeps, .pages = (uint16_t)(n0 * groups), .cap = cap};
+    *slip = (struct reefcushion_slip){.n0 = n0,
+                                      .groups = groups,
+                                      .sweeps = sweeps,
+                                      .pages = (uint16_t)(n0 * groups),
+                                      .cap = cap,
+                                      .edition_less_1 = (uint16_t)(edition - 1)};
     return REEFCUSHION_ACCEPTED;
 }

@@ -1,5 +1,6 @@
-// The register in plain C: the eight calls of c/reefcushion.h, to measure the proved ones against. Slip, area, row,
-// records, replies and refusals are the same; only a slip of another length can't be told, since that isn't asked.
+// The register in plain C: the calls of c/reefcushion.h, to measure the proved ones against. Slip, area, row, records,
+// replies and refusals are the same; only a slip of another length can't be told, since that isn't asked, and there is
+// one format for both editions.
 #pragma once
 #include <stdbool.h>
 #include <stddef.h>
@@ -14,7 +15,7 @@ extern bool baseline_in_step;
 
 // Each gives the refusal, 0 for an accepted call, and leaves the answer in the slip.
 uint32_t baseline_format(struct reefcushion_slip *slip, uint8_t *area, size_t bytes, uint16_t n0, uint16_t groups,
-                         uint16_t sweeps, uint16_t cap);
+                         uint16_t sweeps, uint16_t cap, uint16_t edition);
 uint32_t baseline_find(struct reefcushion_slip *slip, const uint8_t *area, size_t bytes, uint64_t key);
 uint32_t baseline_put(struct reefcushion_slip *slip, uint8_t *area, size_t bytes, uint64_t key, uint64_t value);
 uint32_t baseline_put_run(struct reefcushion_slip *slip, uint8_t *area, size_t bytes, const uint8_t *records,

@@ -12,8 +12,8 @@ struct mover {
 
 struct growth {
     uint8_t *area;
-    uint32_t pages, cap;                 // before the growth
-    uint32_t group, groups, turn, steps; // the group that grows into the new page; the step under way, and its number
+    uint32_t pages, cap;             // before the growth
+    uint32_t group, groups, turn, x; // the group that grows into the new page; the step under way, and its draw
     uint32_t taken, moved;
     struct mover mover[ROOM];
     uint16_t count[MOST_PAGES]; // of each home, as the records lie now
@@ -30,7 +30,7 @@ static uint32_t first_place(uint32_t home, uint32_t end) {
 // The group whose new page is the next one: the rule for new pages turned round.
 static void find_group(struct growth *growth, const struct way *way) {
     struct step step = way->first;
-    for (growth->steps = 1; step.size + step.groups <= way->pages; growth->steps++)
+    for (growth->x = 1 + way->later; step.size + step.groups <= way->pages; growth->x++)
         next_step(way, &step);
     uint32_t row = way->pages - step.size, sweep = 0;
     for (; row >= step.each + (uint32_t)(sweep < step.more); sweep++)
@@ -46,7 +46,7 @@ static uint32_t note_home(struct growth *growth, uint32_t place, uint32_t count)
     for (uint32_t end = place + count; place < end; place++) {
         const uint8_t *slot = slot_at(growth, place);
         uint64_t key = load64(slot + 4);
-        if (!baseline_mover(key, growth->turn, growth->steps))
+        if (!baseline_mover(key, growth->turn, growth->x))
             continue;
         if (growth->taken < ROOM)
             growth->mover[growth->taken++] = (struct mover){key, load64(slot + 12), load32(slot), place};

@@ -13,6 +13,7 @@ struct way baseline_way(const struct reefcushion_slip *slip) {
         .pages = slip->pages,
         .group_share = (uint16_t)(32768 / slip->groups + 1),
         .sweep_share = (uint16_t)(32768 / slip->sweeps + 1),
+        .later = slip->edition_less_1 ? LATER : 0,
     };
 }
 
@@ -24,9 +25,10 @@ static uint32_t aim(const struct way *way, const struct step *step, uint32_t gro
     return sweep * step->each + (sweep < step->more ? sweep : step->more) + row;
 }
 
-uint32_t baseline_home(const struct way *way, uint64_t key) {
+// The home of a key where steps take their draws so many later.
+static inline uint32_t home_by(const struct way *way, uint64_t key, uint32_t later) {
     struct step step = way->first;
-    uint32_t draw = seed_of(key), address = start_of(way, key);
+    uint32_t draw = draw_at_start(key, later), address = start_of(way, key);
     while (step.size < way->pages) {
         draw = next_draw(draw);
         if (moves(draw, limit_of(step.turn))) {
@@ -39,9 +41,21 @@ uint32_t baseline_home(const struct way *way, uint64_t key) {
     return address;
 }
 
-// Whether a key is a mover at the last of so many steps, at which a group has `turn` pages.
-bool baseline_mover(uint64_t key, uint32_t turn, uint32_t steps) {
-    return moves(draw_of(seed_of(key), steps), limit_of(turn));
+// Each edition has a loop of its own: in one for both, what edition 2 begins with would slow edition 1 down.
+uint32_t baseline_home(const struct way *way, uint64_t key) {
+    return way->later ? home_by(way, key, LATER) : home_by(way, key, 0);
+}
+
+// Whether draw x makes a key a mover at a step at which a group has `turn` pages.
+bool baseline_mover(uint64_t key, uint32_t turn, uint32_t x) {
+    return moves(draw_of(seed_of(key), x), limit_of(turn));
+}
+
+// The way in step gets these through memory: where the compiler sees how they come about in either edition, it takes
+// the lanes apart.
+void baseline_draws_at_start(const struct way *way, const uint64_t key[SLOTS], uint32_t draw[SLOTS]) {
+    for (uint32_t i = 0; i < SLOTS; i++)
+        draw[i] = draw_at_start(key[i], way->later);
 }
 
 void baseline_homes(const struct way *way, struct sight *sight) {

@@ -24,11 +24,12 @@ struct lanes {
 
 static void lanes_start(const struct way *way, const uint64_t key[SLOTS], struct lanes *lanes) {
     const uint16_t groups = way->first.groups, share = way->group_share;
+    uint32_t draw[SLOTS];
+    baseline_draws_at_start(way, key, draw);
     memset(lanes, 0, sizeof *lanes);
-    for (int i = 0; i < SLOTS; i++) {
-        lanes->draw[i] = seed_of(key[i]);
+    memcpy(lanes->draw, draw, sizeof draw);
+    for (int i = 0; i < SLOTS; i++)
         lanes->to[i] = (uint16_t)start_of(way, key[i]);
-    }
     EIGHT_AT_ONCE
     for (int i = 0; i < LANES; i++) {
         uint16_t twice = (uint16_t)(lanes->to[i] * 2);

@@ -21,6 +21,7 @@ struct way {
     // 2^15 divided by N and by s, and one more: 2 x k x share / 2^16 is then k divided by it, since k times it stays
     // below 2^15.
     uint16_t group_share, sweep_share;
+    uint16_t later; // step x takes draw x + later
 };
 
 // A page that keeps the page rules: its records, as far as they decide its order. Loops over it take all slots and then
@@ -34,8 +35,9 @@ struct sight {
 struct way baseline_way(const struct reefcushion_slip *slip);
 uint32_t baseline_home(const struct way *way, uint64_t key);
 void baseline_homes(const struct way *way, struct sight *sight);
+void baseline_draws_at_start(const struct way *way, const uint64_t key[SLOTS], uint32_t draw[SLOTS]);
 void baseline_homes_in_step(const struct way *way, const uint64_t key[SLOTS], uint16_t home[SLOTS]);
-bool baseline_mover(uint64_t key, uint32_t turn, uint32_t steps);
+bool baseline_mover(uint64_t key, uint32_t turn, uint32_t x);
 
 // Whether a page keeps the page rules; only then is the sight whole.
 bool baseline_judge(const struct way *way, const uint8_t *area, uint32_t address, struct sight *sight);

@@ -3,6 +3,7 @@
 #include "baseline_parts.h"
 
 enum { MODULUS = 2147483647, FACTOR = 16807 };
+enum { LATER = 10 }; // in edition 2 a step takes its draw so many draws later
 
 // The largest draw that makes a mover where a group has `turn` pages.
 static inline int32_t limit_of(uint32_t turn) {
@@ -23,7 +24,8 @@ static inline bool moves(uint32_t draw, int32_t limit) {
 }
 
 // Draw x of a seed in one step: the seed times power x of the factor. The product has 62 bits and is folded twice. One
-// draw is quicker so; for all draws of a key, each from the one before, the shorter product is.
+// draw is quicker so; for all draws of a key, each from the one before, the shorter product is. A file has 40 steps
+// at most, so draw 50 is the last.
 static inline uint32_t draw_of(uint32_t seed, uint32_t x) {
     static const uint32_t power[51] = {
         1, 16807, 282475249, 1622650073, 984943658, 1144108930, 470211272, 101027544,
@@ -41,6 +43,12 @@ static inline uint32_t draw_of(uint32_t seed, uint32_t x) {
 
 static inline uint32_t seed_of(uint64_t key) {
     return (uint32_t)(key % (MODULUS - 1)) + 1;
+}
+
+// What the draw of a key's first step comes from, where steps take their draws so many later: the seed, or else the
+// last draw that no step takes.
+static inline uint32_t draw_at_start(uint64_t key, uint32_t later) {
+    return later ? draw_of(seed_of(key), later) : seed_of(key);
 }
 
 // key mod (n0 x N): the quotient by the inverse is right or one too small. Standard C has no number of 128 bits to take

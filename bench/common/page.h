@@ -40,6 +40,15 @@ static inline uint32_t used_on(const uint8_t *page) {
     return load16(page + 8);
 }
 
+static inline uint32_t longest_full_run(const uint8_t *area, uint32_t cap) {
+    uint32_t longest = 0, run = 0;
+    for (uint32_t address = 0; address < cap; address++) {
+        run = used_on(area + page_start(address)) == SLOTS ? run + 1 : 0;
+        longest = run > longest ? run : longest;
+    }
+    return longest;
+}
+
 static inline void set_used(uint8_t *page, uint32_t used) {
     uint16_t number = (uint16_t)used;
     memcpy(page + 8, &number, sizeof number);

@@ -39,7 +39,7 @@ static const char *version(void) {
 static void open_store(const struct store *which) {
     store = which;
     area = malloc(AREA_BYTES);
-    if (!area || empty_file(&slip, area, PAGES, CAP) != 0)
+    if (!area || empty_file(&slip, area, 1, PAGES, CAP) != 0)
         fail(store->name, "no empty file");
 }
 

@@ -14,7 +14,7 @@ static void count_homes(int homes[COUNTED], const struct reefcushion_slip *state
     for (int page = 0; page < COUNTED; page++)
         homes[page] = 0;
     for (int place = 0; place < records; place++)
-        homes[home_of(state, number_at(loading, RECORD_KEYS, (uint64_t)place))]++;
+        homes[home_of(state, key_at(loading, (uint64_t)place))]++;
 }
 
 // Turns numbers of records a home into numbers of records a page, and gives the sum of the distances.
@@ -37,7 +37,7 @@ void must_be_counted(const struct file *file) {
     static int counts[COUNTED];
     count_homes(counts, &file->slip, file->loading, (int)file->slip.records);
     spread(counts, SLOTS);
-    for (int page = 0; page < CAP; page++) {
+    for (int page = 0; page < file->slip.cap; page++) {
         if (records_on(file, page) != counts[page])
             stop("a page holds another number of records than counting says", page);
     }

@@ -40,7 +40,7 @@ static void print_grown(struct effort effort) {
         printf("%s page by page from %d pages on as well, whenever that was due: at each size looked at, the bytes "
                "were the same.\n",
                effort.grown == GROWN_ALL
-                   ? "Each of our files in the tables was grown"
+                   ? "Each of our files with random keys in the tables was grown"
                    : "Of our files, those of the first loading at n0 2, s 5, load 0.8, and no others, were grown",
                START);
 }
@@ -105,6 +105,7 @@ int main(int words, char **word) {
     if (words == 5)
         print_plot(word[4], effort);
     print_loads(effort);
+    print_editions();
     print_grown(effort);
     print_in_short(effort);
     return 0;

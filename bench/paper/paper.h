@@ -12,7 +12,7 @@
 enum {
     START = 126,  // pages of a fresh file: 63 groups of two, or 42 of three
     FIRST = 1008, // the full expansion that is measured begins here, and ends at twice that; his went from 1000 to 2000
-    CAP = 2304,   // pages lent: room for overflow beyond the last page grown to
+    CAP = 2304,   // pages lent to a loading: room for overflow beyond the last page grown to
     SEARCHES = 2000, // searches of each sort at each size looked at
     CURVE = 56,      // stretches of a plotted curve
     MOST_N0 = 3,     // pages a group and sweeps of the tables go up to here
@@ -46,13 +46,17 @@ struct averages {
     struct figure hit, miss, his;
 };
 
-// A file with the loading whose keys fill it.
+// A file with the loading whose keys fill it. The slip says how much of the area is lent.
 struct file {
     struct reefcushion_slip slip;
     struct kind kind;
     uint64_t loading;
-    uint8_t area[CAP * PAGE_BYTES];
+    uint8_t area[MOST_PAGES * PAGE_BYTES];
 };
+
+static inline size_t lent_bytes(const struct file *file) {
+    return page_start(file->slip.cap);
+}
 
 // Random numbers of a loading, a stream for each use.
 enum { RECORD_KEYS, HIT_CHOICES, MISS_KEYS };
@@ -60,15 +64,23 @@ static inline uint64_t number_at(uint64_t loading, int stream, uint64_t place) {
     return random_at(mixed(1985 + 4 * loading + (uint64_t)stream), place);
 }
 
+// The keys of a loading, by their place in it. One loading isn't random: its keys run upward from 0.
+static const uint64_t UPWARD = ~(uint64_t)0;
+static inline uint64_t key_at(uint64_t loading, uint64_t place) {
+    return loading == UPWARD ? place : number_at(loading, RECORD_KEYS, place);
+}
+
 // files.c
 _Noreturn void stop(const char *why, long number);
 void format_file(struct file *file, struct kind kind, uint64_t loading);
 void lay_file(struct file *file, struct kind kind, uint64_t loading, int pages);
+void lay_upward(struct file *file, uint16_t edition, int pages);
 void grow_file(struct file *file, int pages);
 void must_be_same(const struct file *left, const struct file *right);
 int records_on(const struct file *file, int page);
 
 // searches.c
+int search_held(struct file *file, uint32_t place);
 struct cost searched(struct file *file);
 
 // counting.c
@@ -91,9 +103,10 @@ struct larson {
 bool same_kind(struct kind a, struct kind b);
 const struct larson *larson(int table, struct kind kind, int slots);
 
-// sweeps.c, loads.c: tables in Markdown, and what they come to in words
+// sweeps.c, loads.c, editions.c: tables in Markdown, and what they come to in words
 void print_sweeps(struct effort effort);
 void print_loads(struct effort effort);
+void print_editions(void);
 
 // plot.c
 void plot(const char *name, struct effort effort);

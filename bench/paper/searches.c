@@ -13,10 +13,10 @@ static bool stands_on(const struct file *file, int page, uint64_t key) {
 
 // Searches for a record held. It has to be found with its value, on the page that the pages read lead to from the
 // harness's own home.
-static int hit(struct file *file, uint32_t place) {
+int search_held(struct file *file, uint32_t place) {
     struct reefcushion_slip *slip = &file->slip;
-    uint64_t key = number_at(file->loading, RECORD_KEYS, place);
-    if (reefcushion_find(slip, sizeof *slip, file->area, sizeof file->area, key) != 0 || slip->value != place)
+    uint64_t key = key_at(file->loading, place);
+    if (reefcushion_find(slip, sizeof *slip, file->area, lent_bytes(file), key) != 0 || slip->value != place)
         stop("a held record isn't found", place);
     int page = (int)home_of(slip, key) + (int)slip->read - 1;
     if (!stands_on(file, page, key))
@@ -28,7 +28,7 @@ static int hit(struct file *file, uint32_t place) {
 // records in his placement as here.
 static int to_a_page_not_full(const struct file *file, int home) {
     int page = home;
-    while (page < CAP - 1 && records_on(file, page) == SLOTS)
+    while (page < file->slip.cap - 1 && records_on(file, page) == SLOTS)
         page++;
     return page - home + 1;
 }
@@ -37,17 +37,24 @@ static double hits(struct file *file) {
     long read = 0;
     for (uint64_t i = 0; i < SEARCHES; i++) {
         uint64_t choice = number_at(file->loading, HIT_CHOICES, SEARCHES * (uint64_t)file->slip.pages + i);
-        read += hit(file, (uint32_t)(choice % file->slip.records));
+        read += search_held(file, (uint32_t)(choice % file->slip.records));
     }
     return (double)read / SEARCHES;
+}
+
+// A key never put: any, or where keys run upward one of those that come next.
+static uint64_t absent_key(const struct file *file, uint64_t i) {
+    if (file->loading == UPWARD)
+        return key_at(UPWARD, file->slip.records + i);
+    return number_at(file->loading, MISS_KEYS, SEARCHES * (uint64_t)file->slip.pages + i);
 }
 
 struct cost searched(struct file *file) {
     struct reefcushion_slip *slip = &file->slip;
     long read = 0, his = 0;
     for (uint64_t i = 0; i < SEARCHES; i++) {
-        uint64_t key = number_at(file->loading, MISS_KEYS, SEARCHES * (uint64_t)slip->pages + i);
-        if (reefcushion_find(slip, sizeof *slip, file->area, sizeof file->area, key) != REEFCUSHION_ABSENT)
+        uint64_t key = absent_key(file, i);
+        if (reefcushion_find(slip, sizeof *slip, file->area, lent_bytes(file), key) != REEFCUSHION_ABSENT)
             stop("a key that was never put isn't absent", (long)i);
         int further = to_a_page_not_full(file, (int)home_of(slip, key));
         if ((int)slip->read > further)

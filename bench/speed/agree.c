@@ -12,6 +12,7 @@
 enum { POOL = MOST * 14 };
 static uint64_t seed, place, pool[POOL];
 static uint32_t pool_size;
+static unsigned long files_of[2]; // by edition
 static struct side saved;
 
 uint64_t any(void) {
@@ -26,12 +27,12 @@ bool one_in(uint32_t n) {
     return below(n) == 0;
 }
 
-// A key that is a mover at some step by the last draw that makes one, or just isn't: the draws are followed back to the
-// seed.
+// A key that is a mover at some step of the file by the last draw that makes one, or just isn't: the draws are followed
+// back to the seed. Edition 2 takes its draws ten later.
 static uint64_t key_at_the_edge(void) {
     const uint64_t modulus = 2147483647, inverse = 1407677000; // of 16807
     uint64_t draw = modulus / (2 + below(7)) + below(2);
-    for (uint32_t steps = 1 + below(16); steps; steps--)
+    for (uint32_t left = 1 + below(16) + 10u * plain.slip.edition_less_1; left; left--)
         draw = draw * inverse % modulus;
     return draw - 1 + (modulus - 1) * below(1000);
 }
@@ -67,15 +68,24 @@ static struct asked right_for_the_file(enum call call) {
                           .groups = slip->groups,
                           .sweeps = slip->sweeps,
                           .cap = slip->cap,
+                          .edition = (uint16_t)(slip->edition_less_1 + 1),
                           .in_step = one_in(2)};
     if (call == PUT_RUN)
         add_run(&asked);
     return asked;
 }
 
+// Either call that formats; the one doesn't look at the edition that is asked for.
+static enum call any_format(void) {
+    return one_in(2) ? FORMAT : FORMAT_EDITION;
+}
+
 static void begin_file(uint32_t most) {
-    struct asked asked = {
-        .n0 = 1 + below(4), .groups = 1 + below(most < 64 ? most : 64), .sweeps = 1 + below(8), .in_step = one_in(2)};
+    struct asked asked = {.n0 = 1 + below(4),
+                          .groups = 1 + below(most < 64 ? most : 64),
+                          .sweeps = 1 + below(8),
+                          .edition = 1 + below(2),
+                          .in_step = one_in(2)};
     if (one_in(3))
         asked.n0 = asked.groups = 1;
     while (asked.n0 * asked.groups > (int)most)
@@ -86,7 +96,8 @@ static void begin_file(uint32_t most) {
     for (size_t i = 0; i < sizeof plain.area; i++)
         plain.area[i] = (uint8_t)any();
     memcpy(ours.area, plain.area, sizeof plain.area);
-    ask(FORMAT, &asked);
+    ask(asked.edition == 1 ? any_format() : FORMAT_EDITION, &asked);
+    files_of[plain.slip.edition_less_1]++;
     pool_size = 12 * asked.cap * (2 + below(6)) / 6 + 1;
     for (uint32_t i = 0; i < pool_size; i++)
         pool[i] = key_in_style(style, i, start);
@@ -144,7 +155,7 @@ static void ask_damaged(void) {
             make_page(page);
     ours = plain;
     for (uint32_t left = 1 + below(12); left; left--) {
-        enum call call = one_in(16) ? PUT_RUN : any_call();
+        enum call call = one_in(16) ? PUT_RUN : one_in(30) ? any_format() : any_call();
         struct asked asked = right_for_the_file(call);
         if (plain.slip.cap > MOST)
             asked.bytes = page_start(cap);
@@ -165,8 +176,8 @@ static void ask_with_wrong_numbers(void) {
     if (numbers.cap <= MOST && numbers.n0 * numbers.groups <= MOST) {
         struct asked format = asked;
         format.n0 = numbers.n0, format.groups = numbers.groups, format.sweeps = numbers.sweeps,
-        format.cap = numbers.cap;
-        ask(FORMAT, &format);
+        format.cap = numbers.cap, format.edition = (uint16_t)(numbers.edition_less_1 + 1);
+        ask(any_format(), &format);
         ours = plain = saved;
     }
     ask(one_in(2) ? GROW : any_call(), &asked);
@@ -217,9 +228,9 @@ int main(int words, char **word) {
          "calls leave them and on damaged ones, with right numbers and with wrong ones. After each call the answers, "
          "the areas, the rows and the rooms for replies have to be the same, byte for byte. Before each call it is "
          "drawn in which of its two ways C works homes out (key by key or in step, see below).\n");
-    printf("Files of up to %u, %u and %u pages: %lu, %lu and %lu. How often each call gave each answer (0 is accepted, "
-           "the others are the refusals; for due 1 is yes):\n\n",
-           most[0], most[1], most[2], files[0], files[1], files[2]);
+    printf("Files of up to %u, %u and %u pages: %lu, %lu and %lu. Files of edition 1 and of edition 2: %lu and %lu. "
+           "How often each call gave each answer (0 is accepted, the others are the refusals; for due 1 is yes):\n\n",
+           most[0], most[1], most[2], files[0], files[1], files[2], files_of[0], files_of[1]);
     if (!tell_what_was_seen())
         return 1;
     printf("\nIn short: the proved calls and the register in C did the same, to the byte, in %s random calls, among "

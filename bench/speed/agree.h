@@ -7,7 +7,7 @@
 #include "../common/run.h"
 
 enum { MOST = 512, MOST_ITEMS = 400 }; // pages of the largest file here, puts of the longest run
-enum call { FORMAT, FIND, PUT, REMOVE, GROW, CHECK, DUE, PUT_RUN, CALLS };
+enum call { FORMAT, FORMAT_EDITION, FIND, PUT, REMOVE, GROW, CHECK, DUE, PUT_RUN, CALLS };
 
 // One side's file and its room for replies, with a page, a count and some replies more than the largest, so that
 // writing past the end is seen.
@@ -24,7 +24,7 @@ extern unsigned long calls_made, runs_made, puts_in_runs;
 struct asked {
     size_t bytes, counts;
     uint64_t key, value;
-    uint16_t n0, groups, sweeps, cap;
+    uint16_t n0, groups, sweeps, cap, edition;
     bool in_step;
     // of a run: its bytes, and which part of the room is lent
     const uint8_t *records;

@@ -23,11 +23,21 @@ void damage_page(uint8_t *page) {
     }
 }
 
+// The other edition, the two that come next, which there aren't, and any.
+static uint16_t other_edition_less_1(uint16_t edition_less_1) {
+    switch (below(4)) {
+    case 0: return 2;
+    case 1: return 65535;
+    case 2: return (uint16_t)any();
+    default: return edition_less_1 ^ 1;
+    }
+}
+
 // Numbers at and past the ends of their ranges, among others.
 void damage_slip(struct reefcushion_slip *slip) {
     static const uint16_t odd[] = {0, 1, 2, 4, 5, 8, 9, 64, 65, 512, 4096, 4097, 16384, 32768, 65535};
     uint16_t number = one_in(2) ? odd[below(15)] : (uint16_t)below(80);
-    switch (below(9)) {
+    switch (below(10)) {
     case 0: slip->n0 = number; break;
     case 1: slip->groups = number; break;
     case 2: slip->sweeps = number; break;
@@ -36,6 +46,7 @@ void damage_slip(struct reefcushion_slip *slip) {
     case 5: slip->records = 12 * slip->cap + below(2); break;
     case 6: slip->records = below(2); break;
     case 7: slip->records += one_in(2) ? 1 : -1; break;
+    case 8: slip->edition_less_1 = other_edition_less_1(slip->edition_less_1); break;
     default:
         memset((uint8_t *)slip + offsetof(struct reefcushion_slip, value), below(256),
                sizeof *slip - offsetof(struct reefcushion_slip, value));

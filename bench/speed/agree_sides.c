@@ -14,14 +14,16 @@ unsigned long calls_made, runs_made, puts_in_runs;
 
 // The rows of the table: the calls, and the puts that stand in runs.
 enum { PUT_IN_RUN = CALLS, ROWS };
-static const char *const names[ROWS] = {"format", "find", "put",     "remove",      "grow",
-                                        "check",  "due",  "pay run", "put in a run"};
+static const char *const names[ROWS] = {
+    "format", "format of an edition", "find", "put", "remove", "grow", "check", "due", "pay run", "put in a run"};
 static unsigned long seen[2][ROWS][LARGEST + 1]; // by the way that the plain side worked
 
 // The refusals that each call gives by the documents, as bits; for due its two answers.
+enum { OF_FORMAT = 1 << 0 | 1 << 1 | 1 << 2 };
 enum { OF_PUT = 1 << 0 | 1 << 1 | 1 << 2 | 1 << 4 | 1 << 6 | 1 << 7 | 1 << 9 | 1 << 13 };
 static const unsigned expected[ROWS] = {
-    1 << 0 | 1 << 1 | 1 << 2,
+    OF_FORMAT,
+    OF_FORMAT,
     1 << 0 | 1 << 1 | 1 << 2 | 1 << 4 | 1 << 5,
     OF_PUT,
     1 << 0 | 1 << 1 | 1 << 2 | 1 << 4 | 1 << 5 | 1 << 9,
@@ -34,8 +36,9 @@ static const unsigned expected[ROWS] = {
 
 static void differ(int call, const char *what, unsigned long left, unsigned long right) {
     const struct reefcushion_slip *at = &plain.slip;
-    fprintf(stderr, "%s: %s: ours %lu, plain %lu; the plain slip says n0 %u N %u s %u P %u cap %u r %u\n", names[call],
-            what, left, right, at->n0, at->groups, at->sweeps, at->pages, at->cap, at->records);
+    fprintf(stderr, "%s: %s: ours %lu, plain %lu; the plain slip says n0 %u N %u s %u P %u cap %u edition %u r %u\n",
+            names[call], what, left, right, at->n0, at->groups, at->sweeps, at->pages, at->cap, at->edition_less_1 + 1u,
+            at->records);
     exit(1);
 }
 
@@ -59,6 +62,9 @@ static uint32_t ask_ours(enum call call, const struct asked *ask, struct reefcus
     switch (call) {
     case FORMAT:
         return reefcushion_format(slip, length, ours.area, ask->bytes, ask->n0, ask->groups, ask->sweeps, ask->cap);
+    case FORMAT_EDITION:
+        return reefcushion_format_edition(slip, length, ours.area, ask->bytes, ask->n0, ask->groups, ask->sweeps,
+                                          ask->cap, ask->edition);
     case FIND: return reefcushion_find(slip, length, ours.area, ask->bytes, ask->key);
     case PUT: return reefcushion_put(slip, length, ours.area, ask->bytes, ask->key, ask->value);
     case REMOVE: return reefcushion_remove(slip, length, ours.area, ask->bytes, ask->key);
@@ -71,11 +77,15 @@ static uint32_t ask_ours(enum call call, const struct asked *ask, struct reefcus
     }
 }
 
+// A format that names no edition is one of edition 1.
 static uint32_t ask_plain(enum call call, const struct asked *ask) {
     struct reefcushion_slip *slip = &plain.slip;
+    const uint16_t edition = call == FORMAT ? 1 : ask->edition;
     baseline_in_step = ask->in_step;
     switch (call) {
-    case FORMAT: return baseline_format(slip, plain.area, ask->bytes, ask->n0, ask->groups, ask->sweeps, ask->cap);
+    case FORMAT:
+    case FORMAT_EDITION:
+        return baseline_format(slip, plain.area, ask->bytes, ask->n0, ask->groups, ask->sweeps, ask->cap, edition);
     case FIND: return baseline_find(slip, plain.area, ask->bytes, ask->key);
     case PUT: return baseline_put(slip, plain.area, ask->bytes, ask->key, ask->value);
     case REMOVE: return baseline_remove(slip, plain.area, ask->bytes, ask->key);

@@ -7,7 +7,7 @@
 #include "speed_figures.h"
 
 enum { ROUNDS = 60, FEWEST_ROUNDS = 12, LENT = 4096 };
-const char *const style_names[STYLES] = {"random", "consecutive"};
+const char *const style_names[STYLES] = {"random", "consecutive", "consecutive, edition 2"};
 const char *const call_names[CALLS] = {"find (held)", "find (absent)", "put", "remove", "grow", "check"};
 static const struct size sizes[SIZES] = {{16, false, true},  {64, true, true},    {256, false, true},
                                          {512, true, false}, {1024, false, true}, {4096, true, true}};
@@ -32,7 +32,7 @@ static void measure(struct figures *at, unsigned scale) {
     at->read_by_put = pages_read(&files, true);
     at->cap = cap;
     at->records = files.first.slip.records;
-    at->longest_run = longest_full_run(&files);
+    at->longest_run = longest_full_run(files.first.area, cap);
     struct files growing = pages < cap ? files : one_page_before(&files);
     at->cost[GROW] = time_grow(&growing, whole_rounds(pages, scale), &at->grow_to_check);
     if (pages == cap)
@@ -48,8 +48,9 @@ static void print_head(unsigned scale) {
          "twelve slots of a page at once, in loops that tell the compiler to use vectors. All are compiled for any "
          "x86-64 processor.\n");
     puts("Each file holds four fifths of the records that its P pages have room for (n0 2, N 8, s 5). Random keys are "
-         "any numbers of 64 bits. Consecutive keys run upward from 0: numbers up to 42,590 all move to new pages at "
-         "the first step of growth, so pages fill unevenly and walks are longer.\n");
+         "any numbers of 64 bits. Consecutive keys run upward from 0: in edition 1 numbers up to 42,590 all move to "
+         "new pages at the first step of growth, so pages fill unevenly and walks are longer; edition 2 takes each "
+         "step's draw ten later, which spreads them. Files are of edition 1 where edition 2 isn't named.\n");
     printf("A round times one batch of calls by each of the three, on equal files, with the same keys and in changing "
            "order, and they have to do the same. A figure is the median of the rounds (%s, for pay runs and for check "
            "and grow of large files %s), and a ratio is the median of the rounds' ratios.\n\n",
@@ -164,13 +165,15 @@ static void print_in_short(void) {
 }
 
 int main(int words, char **word) {
-    const unsigned long scale = words > 1 ? strtoul(word[1], NULL, 10) : 1;
+    const unsigned long asked = words > 1 ? strtoul(word[1], NULL, 10) : 1;
+    const unsigned scale = asked ? (unsigned)asked : 1;
     for (int i = 0; i < FILES; i++) {
         figures[i].size = sizes[i % SIZES];
         figures[i].style = (enum style)(i / SIZES);
-        measure(&figures[i], scale ? (unsigned)scale : 1);
+        measure(&figures[i], scale);
     }
-    print_head(scale ? (unsigned)scale : 1);
+    measure_editions(scale);
+    print_head(scale);
     print_calls();
     print_verdict(&calls_to_c);
     print_verdict(&calls_to_c_in_step);
@@ -180,7 +183,9 @@ int main(int words, char **word) {
     print_verdict(&runs_to_single_calls);
     print_reasons();
     print_sizes();
+    print_editions();
     print_in_short();
     print_run_in_short();
+    print_editions_in_short();
     return 0;
 }

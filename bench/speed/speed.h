@@ -7,7 +7,8 @@
 
 // The proved calls; the plain ones key by key; the plain ones in step.
 enum side { OURS, C, IN_STEP, SIDES };
-enum style { RANDOM, CONSECUTIVE, STYLES };
+// The keys of a file: any; in a row from 0; in a row from 0 in a file of edition 2, where all others are of edition 1.
+enum style { RANDOM, CONSECUTIVE, CONSECUTIVE_2, STYLES };
 
 struct file {
     struct reefcushion_slip slip;
@@ -48,7 +49,6 @@ void restore(struct files *files);
 bool same_file(const struct file *left, const struct file *right);
 void require_same_slips(const struct files *files);
 void require_same_files(const struct files *files);
-uint32_t longest_full_run(const struct files *files);
 
 // Keys: any that are held; such as were never put; such as were never put and find room, one after the other.
 void any_held(struct files *files, uint64_t *key, uint32_t count);

@@ -49,3 +49,8 @@ struct range {
     double least, most;
 };
 struct range range_of(figure *of, int i);
+
+// Edition 2 beside edition 1 where keys run upward, in files of the compared sizes.
+void measure_editions(unsigned scale);
+void print_editions(void);
+void print_editions_in_short(void);

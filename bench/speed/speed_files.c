@@ -108,9 +108,9 @@ static void fill(struct files *files, uint32_t records) {
     }
 }
 
-static struct file begin(uint32_t pages, uint32_t cap) {
+static struct file begin(enum style style, uint32_t pages, uint32_t cap) {
     struct file file = new_file(cap);
-    if (empty_file(&file.slip, file.area, pages, cap))
+    if (empty_file(&file.slip, file.area, style == CONSECUTIVE_2 ? 2 : 1, pages, cap))
         stop("no empty file");
     return file;
 }
@@ -118,7 +118,7 @@ static struct file begin(uint32_t pages, uint32_t cap) {
 // The same keys put into a file that grows whenever that is due have to give the same bytes.
 static void require_grown_alike(const struct files *files, uint32_t pages, uint32_t cap) {
     static uint32_t row[MOST_PAGES];
-    struct file file = begin(16, cap);
+    struct file file = begin(files->style, 16, cap);
     for (uint32_t i = 0; i < files->held_count; i++) {
         if (put(&file, files->held[i]))
             stop("no room in a file that grows");
@@ -134,7 +134,7 @@ static void require_grown_alike(const struct files *files, uint32_t pages, uint3
 }
 
 static struct files new_files(enum style style, uint32_t pages, uint32_t cap) {
-    struct files files = {.style = style, .first = begin(pages, cap)};
+    struct files files = {.style = style, .first = begin(style, pages, cap)};
     for (int side = 0; side < SIDES; side++)
         files.of[side] = new_file(cap);
     files.held = calloc((size_t)SLOTS * cap, sizeof files.held[0]);
@@ -168,13 +168,4 @@ void drop_files(struct files *files) {
         free(files->of[side].area);
     free(files->first.area);
     free(files->held);
-}
-
-uint32_t longest_full_run(const struct files *files) {
-    uint32_t longest = 0, run = 0;
-    for (uint32_t page = 0; page < files->first.slip.cap; page++) {
-        run = used_on(files->first.area + page_start(page)) == SLOTS ? run + 1 : 0;
-        longest = run > longest ? run : longest;
-    }
-    return longest;
 }

@@ -40,7 +40,7 @@ static int met_by(const struct target *target, const struct figures *at) {
 
 static void print_missed(const struct target *target, const struct figures *at) {
     const char *between = " ";
-    printf("- %s keys, P %s:", style_names[at->style], grouped(at->size.pages));
+    printf("- %s, P %s:", style_names[at->style], grouped(at->size.pages));
     for (int i = 0; i < target->count; i++) {
         if (target->of(at, i) <= target->most)
             continue;

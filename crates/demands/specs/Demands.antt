@@ -101,7 +101,8 @@ module _ (m : Kept) (f : File) where
     pub due : left f due .said ≡ says (ltb (48 * m .p) (5 * length (m .held)))
 
 -- Two files agree in "parameters, lent size, pages grown to and records held": which commit each
--- request became, in whatever order that came about
+-- request became, in whatever order that came about. The edition is a parameter; 02, request 4:
+-- "Equal bytes at two sites now need equal editions too."
 pub record Agree (a b : Kept) : Type 0 where
   pub params : a .params ≡ b .params
   pub cap : a .cap ≡ b .cap

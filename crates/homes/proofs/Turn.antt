@@ -128,8 +128,8 @@ leads-home d n0 N s P K x t a h rest =
     sym (stopped (λ y F. mover d n0 K y) (newPage s) n0 P (P - t .f) x (t .f) (t .g) a h) ∙ rest
 
 -- A power from the table and a key's doubled seed give a draw,
-pub draws : (K x p d : ℕ) → p ≡ power x → d ≡ 2 * seedOf K → Drawable d p
-draws K x p d e f = rw (e, f) (drawable K x)
+pub draws : (K x p z : ℕ) → p ≡ power x → z ≡ 2 * seedOf K → Drawable z p
+draws K x p z e f = rw (e, f) (drawable K x)
 
 -- and the code's test for a mover, by it and the limit for np, is 01's.
 pub mover-by : (d n0 K x p z r l m : ℕ) → p ≡ power (x + d) → z ≡ 2 * seedOf K → r ≡ p * (z / 2) % 2147483647 → l ≡ limit m → m ≡ np n0 x → leb r l ≡ mover d n0 K x

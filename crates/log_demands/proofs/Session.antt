@@ -19,7 +19,7 @@ use Rattle.walks.specs.Walks.{walk, putWalk, removeWalk}
 use Rattle.gates.specs.Gates.{gateOf}
 use Rattle.register.specs.Files.{left}
 use Rattle.demands.specs.Histories.{Kept}
-use Rattle.records.specs.declared.Command.the-variants.{Format, Put, Find}
+use Rattle.records.specs.declared.Command.the-variants.{Put, Find}
 use Rattle.records.specs.Records.{formOf, firstOf, layoutOf, shortOf, bytesOfAll}
 use Rattle.commands.specs.Execute.{Site, site, executed}
 use Rattle.commands.specs.Log.{turn, log, wholeLog}

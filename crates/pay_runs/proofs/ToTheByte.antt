@@ -1,7 +1,6 @@
 -- A run is read from the bytes of its put records, and from no others.
 use mathlib.Core.Path.{_≡_, refl, sym, ap, _∙_}
 use mathlib.Core.Bool.{Bool, true}
-use mathlib.Core.Logic.{inl, inr}
 use mathlib.Core.List.{List, [], _∷_, _++_}
 use Prim.Native.Nat.{ℕ, zero, suc, _+_, _*_}
 use native.Mathlib.Omega.{arith}
@@ -9,14 +8,14 @@ use lib.ListN.{length, take, drop, length-append, take-append-drop}
 use lib.Seq.{drop-at}
 use borrow.Author.Tests.{eqb-true}
 use Rattle.numbers.specs.Little.{Bytes}
-use Rattle.numbers.specs.Fields.{Field, encode}
+use Rattle.numbers.specs.Fields.{encode}
 use Rattle.numbers.proofs.Laws.{bytes-drop, number-bound}
 use Rattle.numbers.proofs.Records.{length-encode, and-left, and-right}
 use Rattle.pages.specs.Page.{Record}
 use Rattle.register.specs.Files.{put}
 use Rattle.records.specs.declared.Command.the-variants.{Put}
 use Rattle.records.specs.declared.Item.the-variants.{Asks}
-use Rattle.records.specs.Records.{firstOf, isPut, recordIn, layoutOf, IsRecord}
+use Rattle.records.specs.Records.{firstOf, isPut, recordIn, layoutOf}
 use Rattle.records.specs.Promises.{Sized}
 use Rattle.records.proofs.ToTheByte.{put-first}
 use Rattle.records.proofs.Promises.{record-promises}
@@ -37,15 +36,10 @@ records-length (x ∷ xs) = rw (length-append, length-encode (layoutOf (Put x)))
 pub records-items : (xs : List Record) → items (recordsOf xs) ≡ length xs
 records-items xs = omega (arith, records-length xs)
 
--- a put has one record
-one-layout : (x : Record) (w : List Field) → IsRecord (Put x) w → w ≡ layoutOf (Put x)
-one-layout x w (inl e) = e
-one-layout x w (inr none) = absurd none
-
 module _ (x : Record) (s : Sized (Put x)) (rest : List ℕ) where
   -- a put's bytes begin with its put
   begins : firstOf (putBytes x ++ rest) ≡ Asks (Put x) 20
-  begins = record-promises .reads (Put x) (layoutOf (Put x)) rest s (inl refl)
+  begins = record-promises .reads (Put x) (layoutOf (Put x)) rest s refl
 
   is-put : isPut (firstOf (putBytes x ++ rest)) ≡ true
   is-put = rw begins
@@ -82,5 +76,5 @@ only-records (suc n) l b e =
     let (xs, s, q) = only-records n (drop 20 l) (bytes-drop 20 l b) (and-right u (endToEnd n (drop 20 l)) e) in
     let x = recordIn l in
     let (w, is, n, t) = record-promises .read-only l (Put x) 20 b (p .0) in
-    let t : take 20 l ≡ putBytes x = t ∙ ap encode (one-layout x w is) in
+    let t : take 20 l ≡ putBytes x = t ∙ ap encode is in
     (x ∷ xs, ((number-bound 8 l 4 (omega (arith, p .1)) b, number-bound 8 l 12 (omega (arith, p .1)) b), s), rw (← t, q) (take-append-drop 20 l))

@@ -64,28 +64,23 @@ tells l (Format q cap) w (inr is) u =
     let c : numberAt 2 l 8 ≡ q .s = t .1 .1 .1 .1 .0 in
     let d : numberAt 2 l 10 ≡ cap = t .1 .1 .1 .1 .1 .0 in
     (record { what = kind.Format; first = t .0; second = t .1 .0; body = rw (a, b, c, d, ← is .0) }, rw (is .1))
-tells l (Put x) w (inl is) u =
+tells l (Put x) w is u =
     let t : Says l 0 (layoutOf (Put x)) = rw is at u in
     let k : numberAt 8 l 4 ≡ key x = t .1 .1 .0 in
     let v : numberAt 8 l 12 ≡ value x = t .1 .1 .1 .0 in
     (record { what = kind.Put; first = t .0; second = t .1 .0; body = rw (k, v) }, rw is)
-tells l (Find k) w (inl is) u =
+tells l (Find k) w is u =
     let t : Says l 0 (layoutOf (Find k)) = rw is at u in
     (record { what = kind.Find; first = t .0; second = t .1 .0; body = cc }, rw is)
-tells l (Remove k) w (inl is) u =
+tells l (Remove k) w is u =
     let t : Says l 0 (layoutOf (Remove k)) = rw is at u in
     (record { what = kind.Remove; first = t .0; second = t .1 .0; body = cc }, rw is)
-tells l Grow w (inl is) u =
+tells l Grow w is u =
     let t : Says l 0 (layoutOf Grow) = rw is at u in
     (record { what = kind.Grow; first = t .0; second = t .1 .0; body = refl }, rw is)
-tells l Check w (inl is) u =
+tells l Check w is u =
     let t : Says l 0 (layoutOf Check) = rw is at u in
     (record { what = kind.Check; first = t .0; second = t .1 .0; body = refl }, rw is)
-tells l (Put x) w (inr none) u = absurd none
-tells l (Find k) w (inr none) u = absurd none
-tells l (Remove k) w (inr none) u = absurd none
-tells l Grow w (inr none) u = absurd none
-tells l Check w (inr none) u = absurd none
 
 -- the record of a kind that bytes have
 abbrev recordAs : Kind → List ℕ → List Field
@@ -101,12 +96,12 @@ recordAs kind.Check l = layoutOf (commandOf kind.Check l)
 -- is one of the command that is read with the kind,
 kind-record : (k : Kind) (l : List ℕ) (c : Command) → c ≡ commandOf k l → IsRecord c (recordAs k l)
 kind-record kind.Format l c e = rw e (inr (refl, refl))
-kind-record kind.FormatEdition l c e = inl (ap layoutOf (sym e))
-kind-record kind.Put l c e = inl (ap layoutOf (sym e))
-kind-record kind.Find l c e = inl (ap layoutOf (sym e))
-kind-record kind.Remove l c e = inl (ap layoutOf (sym e))
-kind-record kind.Grow l c e = inl (ap layoutOf (sym e))
-kind-record kind.Check l c e = inl (ap layoutOf (sym e))
+kind-record kind.FormatEdition l c e = rw e (inl refl)
+kind-record kind.Put l c e = rw e refl
+kind-record kind.Find l c e = rw e refl
+kind-record kind.Remove l c e = rw e refl
+kind-record kind.Grow l c e = rw e refl
+kind-record kind.Check l c e = rw e refl
 
 -- they say its fields, where they have the kind's length and number,
 kind-says : (k : Kind) (l : List ℕ) → numberAt 2 l 0 ≡ lengthOf k → numberAt 2 l 2 ≡ numberOf k → Says l 0 (recordAs k l)

@@ -117,18 +117,15 @@ layoutOf Check = (2, 4) ∷ (2, 262) ∷ []
 abbrev pub shortOf : Params → (cap : ℕ) → List Field
 shortOf q cap = formatWith 12 q cap []
 
-abbrev pub IsShort : Command → List Field → Type 0
-IsShort (Format q cap) w = (q .edition ≡ 1) × (w ≡ shortOf q cap)
-IsShort (Put x) w = ⊥
-IsShort (Find k) w = ⊥
-IsShort (Remove k) w = ⊥
-IsShort Grow w = ⊥
-IsShort Check w = ⊥
-
 -- the records of a command. `RecordPromises` (Promises.antt) says that it is read from their bytes
 -- and from no others.
 abbrev pub IsRecord : Command → List Field → Type 0
-IsRecord c w = (w ≡ layoutOf c) ⊎ IsShort c w
+IsRecord (Format q cap) w = (w ≡ layoutOf (Format q cap)) ⊎ ((q .edition ≡ 1) × (w ≡ shortOf q cap))
+IsRecord (Put x) w = w ≡ layoutOf (Put x)
+IsRecord (Find k) w = w ≡ layoutOf (Find k)
+IsRecord (Remove k) w = w ≡ layoutOf (Remove k)
+IsRecord Grow w = w ≡ layoutOf Grow
+IsRecord Check w = w ≡ layoutOf Check
 
 abbrev pub bit : Bool → ℕ
 bit u = cond u 1 0

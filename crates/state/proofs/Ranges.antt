@@ -8,7 +8,7 @@ use native.Mathlib.Nat.{mul-le-mul}
 use native.Mathlib.Omega.{arith}
 use lib.ListN.{getD}
 use borrow.Author.Tests.{leb-true, le-leb}
-use Rattle.homes.specs.Homes.{firstPages, InRange}
+use Rattle.homes.specs.Homes.{InRange}
 use Rattle.state.specs.declared.State.{State}
 use Rattle.state.specs.State.{all, ranges, inRange, oneMore, oneLess, grown}
 use Rattle.state.specs.Promises.{Ranged}
@@ -47,7 +47,7 @@ ranged s h =
       n-high = leb-true _ _ (holds 3);
       s-low = leb-true _ _ (holds 4);
       s-high = leb-true _ _ (holds 5);
-      edition-low = leb-true _ _ (holds 6);
+      edition-low = leb-true 1 (s .params .edition) (holds 6);
       edition-high = leb-true _ _ (holds 7);
       cap-low = leb-true _ _ (holds 8);
       cap-high = leb-true _ _ (holds 9);

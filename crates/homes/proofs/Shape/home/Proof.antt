@@ -7,11 +7,11 @@ use native.Mathlib.Omega.{arith}
 use borrow.Author.Needs.{needs}
 use lib.Dec.{leb}
 use lib.ListN.{getD}
-use Rattle.homes.specs.Homes.{mover, homeIn}
+use Rattle.homes.specs.Homes.{mover}
 use Rattle.homes.specs.steps.Lanes.{InGroup, addressOf}
 use Rattle.homes.specs.steps.Sweeps.{sweepsOf}
 use Rattle.homes.proofs.Addresses.{regroup-address, regroup-fits}
-use Rattle.homes.proofs.Turn.{Stepping, Leads, stepping-first, few, size-next, groups-same, groups-twice, stepping-on, homeBy, home-by, leads-home, draws, mover-by}
+use Rattle.homes.proofs.Turn.{Stepping, Leads, stepping-first, few, size-next, groups-same, groups-twice, stepping-on, home-by, leads-home, draws, mover-by}
 use Rattle.homes.proofs.Beginning.{First, first-is, start-is, start-by, lane-is, leads-begin, sweeps-are, sweeps-fit, sweeps-twice, page-fits}
 use Rattle.homes.proofs.Together.{lane-on, step-fits}
 use Rattle.homes.proofs.Shape.home.Statement.{statement}

@@ -1,5 +1,4 @@
 -- `homes::powers::later` meets its contract.
-use Prim.Native.Nat.{_≤_}
 use native.Mathlib.Omega.{arith}
 use borrow.Author.Tests.{eq-eqb, ne-eqb}
 use Rattle.homes.proofs.powers.later.Statement.{statement}

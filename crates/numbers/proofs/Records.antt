@@ -23,6 +23,15 @@ abbrev pub puts : List ℕ → ℕ → List Field → List ℕ
 puts l at [] = l
 puts l at (f ∷ fs) = puts (written l at (bytesOf (f .0) (f .1))) (at + f .0) fs
 
+pub fit-append : (fs gs : List Field) → Fit fs → Fit gs → Fit (fs ++ gs)
+fit-append [] gs k g = g
+fit-append (f ∷ fs) gs k g = (k .0, fit-append fs gs (k .1) g)
+
+-- two lists of fields take the bytes of both
+pub width-append : (fs gs : List Field) → width (fs ++ gs) ≡ width fs + width gs
+width-append [] gs = omega arith
+width-append (f ∷ fs) gs = omega (arith, width-append fs gs)
+
 -- the bytes of the fields are as many as their width says
 pub length-encode : (fs : List Field) → length (encode fs) ≡ width fs
 unfolding encode

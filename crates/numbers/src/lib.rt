@@ -22,7 +22,7 @@ fn get(s: &[u8], at: usize, width: usize) -> u64
 }
 
 // The lowest `width` bytes of a number to an offset, the lowest byte first.
-fn put(s: &mut [u8], at: usize, width: usize, x: u64)
+pub fn put(s: &mut [u8], at: usize, width: usize, x: u64)
     requires { ⌜ at + width ≤ length (now s) ⌝ }
     ensures { λ _. ⌜ now (s .exit) ≡ written (now (s .entry)) at (bytesOf width x) ⌝ }
 {

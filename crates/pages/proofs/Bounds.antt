@@ -1,4 +1,4 @@
--- What bytes hold are 64-bit numbers.
+-- What bytes hold are numbers of their fields' widths.
 use mathlib.Core.Path.{_≡_}
 use mathlib.Core.List.{List}
 use Prim.Native.Nat.{ℕ, zero, suc, _+_, _*_, _^_, _≤_, _<_}
@@ -6,27 +6,34 @@ use native.Mathlib.Omega.{arith}
 use lib.ListN.{length, drop}
 use Rattle.numbers.specs.Little.{Bytes}
 use Rattle.numbers.proofs.Laws.{bytes-take, bytes-drop, length-part, number-bound}
+use Rattle.layouts.specs.declared.Layout.{Layout}
+use Rattle.layouts.specs.declared.Layout.the-variants.{Twelve, Ten}
+use Rattle.layouts.specs.Layout.{slotsOf, slotAt, widthOf}
+use Rattle.layouts.proofs.Slots.{slot-fits, width-low}
 use Rattle.placing.specs.Image.{All}
 use Rattle.placing.proofs.Lists.{all-map}
-use Rattle.pages.specs.Page.{Record, key, value, recordsFrom, countIn, recordsIn}
+use Rattle.pages.specs.Page.{Record, key, runAt, recordsFrom, countIn, recordsIn}
+use Rattle.pages.specs.Small.{RunFits, Small}
 use Rattle.pages.specs.Area.{partAt}
 
--- key and value are 64-bit numbers
-abbrev pub Small : Record → Type 0
-Small x = (key x < 2 ^ 64) × (value x < 2 ^ 64)
+run-fits : (f : Layout) (l : List ℕ) (at : ℕ) → at + widthOf f ≤ length l → Bytes l → RunFits f (runAt f l (at + 20))
+run-fits Twelve l at h b = omega arith
+run-fits Ten l at h b = number-bound 4 l (at + 20) (omega arith) b
 
-small-from : (l : List ℕ) → length l ≡ 256 → Bytes l → (n i : ℕ) → n + i ≤ 12 → All Small (recordsFrom n i l)
-small-from l e b zero i h = tt
-small-from l e b (suc n) i h = (
-  (number-bound 8 l (20 + 20 * i) (omega arith) b, number-bound 8 l (28 + 20 * i) (omega arith) b),
-  small-from l e b n (suc i) (omega arith),
-)
+module _ (f : Layout) where
+  small-from : (l : List ℕ) → length l ≡ 256 → Bytes l → (n i : ℕ) → n + i ≤ slotsOf f → All (Small f) (recordsFrom f n i l)
+  small-from l e b zero i h = tt
+  small-from l e b (suc n) i h =
+      let fits : slotAt f i + widthOf f ≤ 256 = slot-fits f i (omega arith) in (
+        (number-bound 8 l (slotAt f i + 4) (omega (arith, width-low f)) b, number-bound 8 l (slotAt f i + 12) (omega (arith, width-low f)) b, run-fits f l (slotAt f i) (omega arith) b),
+        small-from l e b n (suc i) (omega arith),
+      )
 
--- those of a page in an area
-pub part-small : (area : List ℕ) (a : ℕ) → 256 * (a + 1) ≤ length area → Bytes area → All Small (recordsIn (partAt area a))
-unfolding recordsIn partAt
-part-small area a h b =
-    small-from (partAt area a) (length-part 256 area (256 * a) (omega arith)) (bytes-take 256 (drop (256 * a) area) (bytes-drop (256 * a) area b)) (countIn (partAt area a)) 0 (omega arith)
+  -- those of a page in an area
+  pub part-small : (area : List ℕ) (a : ℕ) → 256 * (a + 1) ≤ length area → Bytes area → All (Small f) (recordsIn f (partAt area a))
+  unfolding recordsIn partAt
+  part-small area a h b =
+      small-from (partAt area a) (length-part 256 area (256 * a) (omega arith)) (bytes-take 256 (drop (256 * a) area) (bytes-drop (256 * a) area b)) (countIn f (partAt area a)) 0 (omega arith)
 
-pub keys-small : (area : List ℕ) (a : ℕ) → 256 * (a + 1) ≤ length area → Bytes area → All (λ x. key x < 2 ^ 64) (recordsIn (partAt area a))
-keys-small area a h b = all-map Small (λ x. key x < 2 ^ 64) (λ x k. k .0) (recordsIn (partAt area a)) (part-small area a h b)
+  pub keys-small : (area : List ℕ) (a : ℕ) → 256 * (a + 1) ≤ length area → Bytes area → All (λ x. key x < 2 ^ 64) (recordsIn f (partAt area a))
+  keys-small area a h b = all-map (Small f) (λ x. key x < 2 ^ 64) (λ x k. k .0) (recordsIn f (partAt area a)) (part-small area a h b)

@@ -10,6 +10,7 @@ use borrow.Author.Tests.{ne-eqb}
 use lib.Dec.{eqb, ltb, leb}
 use lib.ListN.{length, drop, getD, set, replicate, length-append, length-replicate, length-map, drop-of-length-le}
 use lib.Seq.{sets, drop-cons}
+use Rattle.layouts.specs.declared.Layout.{Layout}
 use Rattle.pages.specs.declared.Page.{Page}
 use Rattle.pages.specs.declared.Judged.{Judged}
 use Rattle.pages.specs.Page.{Record, key, vacant, rank, homesTo, rises, wellFormed, recordsIn, readPage, padded, inMemory, judged}
@@ -53,7 +54,7 @@ module _ (h : ℕ → ℕ) (address : ℕ) where
 -- a page in memory has twelve places for keys
 pub keys-long : (p : Page) → p .count ≤ 12 → p ≡ inMemory (recordsOf p) → length (p .keys) ≡ 12
 keys-long p few e =
-    let h : Held (p .count) (p .keys) (p .values) (recordsOf p) = held p e in
+    let h : Held (p .count) (p .keys) (p .values) (p .runs) (recordsOf p) = held p e in
     rw (h .1) (simp (length-append, length-replicate, length-map) (omega (arith, h .0)))
 
 -- in the first n places stand the homes of the keys
@@ -77,12 +78,12 @@ module _ (h : ℕ → ℕ) (address : ℕ) (p : Page) where
   -- there are as many as the page says
   records-length : length rs ≡ p .count
   unfolding recordsOf
-  records-length = paired-length (p .count) (p .keys) (p .values)
+  records-length = paired-length (p .count) (p .keys) (p .values) (p .runs)
 
   -- record i has key i of the row
   next-key : (i : ℕ) → i < p .count → key (getD rs i vacant) ≡ getD (p .keys) i 0
   unfolding recordsOf
-  next-key i l = paired-key (p .count) (p .keys) (p .values) i l
+  next-key i l = paired-key (p .count) (p .keys) (p .values) (p .runs) i l
 
   -- and is the first of those from i on
   next-record : (i : ℕ) → i < p .count → drop i rs ≡ getD rs i vacant ∷ drop (suc i) rs
@@ -125,17 +126,17 @@ module _ (h : ℕ → ℕ) (address : ℕ) (p : Page) where
       let stored : homes ≡ padded (map (λ x. h (key x)) rs) = rw z at (left .2) in
       rw (← good, ← stored, ← m)
 
-module _ (h : ℕ → ℕ) (address : ℕ) (l : List ℕ) (out : Judged) where
+module _ (f : Layout) (h : ℕ → ℕ) (address : ℕ) (l : List ℕ) (out : Judged) where
   -- a page whose bytes are not well formed is broken
-  pub judged-unformed : wellFormed address l ≡ false → out ≡ judged (λ k. k) none → out ≡ judged h (readPage h address l)
+  pub judged-unformed : wellFormed f address l ≡ false → out ≡ judged (λ k. k) none → out ≡ judged h (readPage f h address l)
   unfolding readPage
   judged-unformed w o = o ∙ judged-none (λ k. k) h ∙ rw w
 
   -- one whose bytes are is judged by its records
-  pub judged-formed : (p : Page) → wellFormed address l ≡ true → p ≡ inMemory (recordsIn l)
+  pub judged-formed : (p : Page) → wellFormed f address l ≡ true → p ≡ inMemory (recordsIn f l)
       → out ≡ judged h (cond (homesTo h address (recordsOf p) && rises h (recordsOf p)) (some (recordsOf p)) none)
-      → out ≡ judged h (readPage h address l)
+      → out ≡ judged h (readPage f h address l)
   unfolding readPage
   judged-formed p w e o =
-      let m : recordsOf p ≡ recordsIn l = ap recordsOf e ∙ memory (recordsIn l) in
+      let m : recordsOf p ≡ recordsIn f l = ap recordsOf e ∙ memory (recordsIn f l) in
       rw w (rw m at o)

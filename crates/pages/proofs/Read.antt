@@ -2,7 +2,7 @@
 -- records.
 use mathlib.Core.Path.{_≡_, refl, sym, ap, _∙_}
 use mathlib.Core.Bool.{Bool, true, false, cond, _&&_, and-true}
-use mathlib.Core.List.{List, [], map}
+use mathlib.Core.List.{List, [], _++_, map}
 use Prim.Native.Nat.{ℕ, zero, suc, _+_, _*_, _-_, _≤_, _<_}
 use native.Mathlib.Nat.{add-assoc, sub-zero}
 use native.Mathlib.Numerals.{add-one}
@@ -12,10 +12,14 @@ use lib.Dec.{eqb, ltb}
 use lib.ListN.{length, drop, set, replicate, length-map}
 use lib.Seq.{sets, sets-eq}
 use Rattle.numbers.specs.Little.{numberAt}
-use Rattle.numbers.specs.Fields.{matches}
+use Rattle.numbers.specs.Fields.{Field, width, matches}
 use Rattle.numbers.proofs.Records.{matches-append}
+use Rattle.layouts.specs.declared.Layout.{Layout}
+use Rattle.layouts.specs.declared.Layout.the-variants.{Twelve, Ten}
+use Rattle.layouts.specs.Layout.{kindOf, slotsOf, widthOf, slotAt}
+use Rattle.layouts.proofs.Slots.{slots-few, slot-first, slot-next}
 use Rattle.pages.specs.declared.Page.{Page}
-use Rattle.pages.specs.Page.{Record, key, value, recordWith, head, recordSlot, emptySlot, slots, recordAt, recordsFrom, countIn, recordsIn, wellFormed, padded, inMemory}
+use Rattle.pages.specs.Page.{Record, key, value, run, runAt, vacant, head, slot, recordSlot, emptySlot, slots, recordIn, recordsFrom, countIn, recordsIn, wellFormed, padded, inMemory}
 use Rattle.pages.specs.steps.Slots.{recordsOf}
 use Rattle.pages.proofs.Memory.{memory}
 
@@ -35,134 +39,156 @@ row-starts xs h =
     let e : 0 + length xs ≡ length xs = omega arith in
     sets-eq xs (replicate 12 0) 0 (omega arith) ∙ rw (e, drop-replicate 12 (length xs) 0)
 
--- n slots have n records
-pub length-records : (n i : ℕ) (l : List ℕ) → length (recordsFrom n i l) ≡ n
-length-records zero i l = refl
-length-records (suc n) i l = ap suc (length-records n (suc i) l)
-
--- a page's bytes hold as many records as they say, twelve at most
-pub length-held : (l : List ℕ) → length (recordsIn l) ≡ countIn l
-unfolding recordsIn
-length-held l = length-records (countIn l) 0 l
-
-pub held-few : (l : List ℕ) → length (recordsIn l) ≤ 12
-held-few l = omega (arith, length-held l)
-
 -- a page in memory with twelve records at most meets what the functions of a page require
 pub ready : (p : Page) (rs : List Record) → p ≡ inMemory rs → length rs ≤ 12 → (p .count ≤ 12) × (p ≡ inMemory (recordsOf p))
 unfolding inMemory
 ready p rs e h = rw e (h, ap inMemory (sym (memory rs)))
 
-module _ (g : Record → ℕ) (l row : List ℕ) (count : ℕ) where
-  -- before the first turn the row of the page's records is left to store
-  pub parse-starts : row ≡ replicate 12 0 → count ≡ countIn l → sets row 0 (map g (recordsFrom (count - 0) 0 l)) ≡ padded (map g (recordsIn l))
-  unfolding recordsIn
-  parse-starts z e = rw (z, e, sub-zero) (row-starts (map g (recordsIn l)) (rw length-map (held-few l)))
+-- a slot has the width of its layout
+pub slot-width : (f : Layout) (kind : ℕ) (x : Record) → width (slot f kind x) ≡ widthOf f
+slot-width Twelve kind x = omega arith
+slot-width Ten kind x = omega arith
 
-  -- a turn stores the number of one slot
-  pub parse-turn : (i x : ℕ) → i < count → x ≡ g (recordAt l i)
-      → sets (set row i x) (i + 1) (map g (recordsFrom (count - (i + 1)) (i + 1) l)) ≡ sets row i (map g (recordsFrom (count - i) i l))
-  parse-turn i x h q =
-      let e : count - i ≡ suc (count - (i + 1)) = omega arith in
-      rw (e, q, add-one)
+-- the tests of a record's slot are those of its fields; the record is any numbers
+pub full-tests : (f : Layout) (l : List ℕ) (at : ℕ)
+    → (eqb (numberAt 2 l at) (widthOf f) && eqb (numberAt 2 l (at + 2)) 1) ≡ matches l at (recordSlot f (recordIn f l at))
+full-tests f l at = go f
+  where
+    same : (n : ℕ) → eqb n n ≡ true
+    same n = eq-eqb n n refl
 
-  -- after the last turn nothing is left to store
-  pub parse-done : (i : ℕ) → count ≤ i → sets row i (map g (recordsFrom (count - i) i l)) ≡ row
-  parse-done i h =
-      let e : count - i ≡ 0 = omega arith in
-      rw e
-
--- the value stands eight bytes after the key
-pub value-read : (l : List ℕ) (i x : ℕ) → x ≡ numberAt 8 l (20 + 20 * i + 8) → x ≡ value (recordAt l i)
-value-read l i x e =
-    let at : 20 + 20 * i + 8 ≡ 28 + 20 * i = omega arith in
-    e ∙ rw at
-
--- the rows that were stored are those of the page in memory
-pub parsed : (l ks vs : List ℕ) (count : ℕ) → count ≡ countIn l → ks ≡ padded (map key (recordsIn l)) → vs ≡ padded (map value (recordsIn l))
-    → _≡_ {A = Page} (record { count = count; keys = ks; values = vs }) (inMemory (recordsIn l))
-unfolding inMemory
-parsed l ks vs count e k v = rw (e, k, v, length-held)
-
--- the tests of a head are those of its fields
-pub head-tests : (l : List ℕ) (address used : ℕ)
-    → (eqb (numberAt 2 l 0) 256 && (eqb (numberAt 2 l 2) 17 && (eqb (numberAt 4 l 4) address && (eqb (numberAt 2 l 8) used && (eqb (numberAt 2 l 10) 0 && eqb (numberAt 4 l 12) 0)))))
-    ≡ matches l 0 (head address used)
-head-tests l address used = rw and-true
-
--- the tests of a record's slot are those of its fields; its key and value are any numbers
-pub full-tests : (l : List ℕ) (at : ℕ)
-    → (eqb (numberAt 2 l at) 20 && eqb (numberAt 2 l (at + 2)) 1) ≡ matches l at (recordSlot (recordWith (numberAt 8 l (at + 4)) (numberAt 8 l (at + 12))))
-full-tests l at =
-    let k = numberAt 8 l (at + 4) in
-    let v = numberAt 8 l (at + 12) in
-    simp (add-assoc, eq-eqb k k refl, eq-eqb v v refl, and-true)
+    go : (g : Layout) → (eqb (numberAt 2 l at) (widthOf g) && eqb (numberAt 2 l (at + 2)) 1) ≡ matches l at (recordSlot g (recordIn g l at))
+    go Twelve = simp (add-assoc, same, and-true)
+    go Ten = simp (add-assoc, same, and-true)
 
 -- the tests of an empty slot are those of its fields
-pub empty-tests : (l : List ℕ) (at : ℕ)
-    → (eqb (numberAt 2 l at) 20 && (eqb (numberAt 2 l (at + 2)) 0 && (eqb (numberAt 8 l (at + 4)) 0 && eqb (numberAt 8 l (at + 12)) 0))) ≡ matches l at emptySlot
-empty-tests l at = simp (add-assoc, and-true)
+pub empty-tests : (f : Layout) (l : List ℕ) (at : ℕ)
+    → (eqb (numberAt 2 l at) (widthOf f) && (eqb (numberAt 2 l (at + 2)) 0 && (eqb (numberAt 8 l (at + 4)) 0 && (eqb (numberAt 8 l (at + 12)) 0 && eqb (runAt f l (at + 20)) 0))))
+    ≡ matches l at (emptySlot f)
+empty-tests Twelve l at = simp (add-assoc, and-true)
+empty-tests Ten l at = simp (add-assoc, and-true)
 
-module _ (l : List ℕ) (count i : ℕ) where
-  -- whether slot i is well formed
-  abbrev pub slotMatches : Bool
-  slotMatches = matches l (16 + 20 * i) (cond (ltb i count) (recordSlot (recordWith (numberAt 8 l (16 + 20 * i + 4)) (numberAt 8 l (16 + 20 * i + 12)))) emptySlot)
+module _ (f : Layout) where
+  -- n slots have n records
+  pub length-records : (n i : ℕ) (l : List ℕ) → length (recordsFrom f n i l) ≡ n
+  length-records zero i l = refl
+  length-records (suc n) i l = ap suc (length-records n (suc i) l)
 
-  -- whether the slots from slot i on are
-  abbrev pub slotsLeft : Bool
-  slotsLeft = matches l (16 + 20 * i) (slots (12 - i) (recordsFrom (count - i) i l))
+  -- a page's bytes hold as many records as they say, at most as many as there are slots
+  pub length-held : (l : List ℕ) → length (recordsIn f l) ≡ countIn f l
+  unfolding recordsIn
+  length-held l = length-records (countIn f l) 0 l
 
--- at the start all slots are left
-pub slots-start : (l : List ℕ) (count : ℕ) → slotsLeft l count 0 ≡ matches l 16 (slots 12 (recordsFrom count 0 l))
-slots-start l count = rw (sub-zero count)
+  pub held-few : (l : List ℕ) → length (recordsIn f l) ≤ slotsOf f
+  held-few l = omega (arith, length-held l)
 
--- the slots from slot i on are well formed where slot i is, and those after it are
-slots-step : (l : List ℕ) (count i : ℕ) → i < 12 → slotsLeft l count i ≡ (slotMatches l count i && slotsLeft l count (i + 1))
-slots-step l count i h = go (ltb i count) refl
-  where
-    n : 12 - i ≡ suc (12 - (i + 1))
-    n = omega arith
+  pub held-twelve : (l : List ℕ) → length (recordsIn f l) ≤ 12
+  held-twelve l = omega (arith, held-few l, slots-few f .1)
 
-    on : 16 + 20 * i + 20 ≡ 16 + 20 * (i + 1)
-    on = omega arith
+  module _ (l : List ℕ) (count : ℕ) (c : count ≡ countIn f l) where
+    -- what is left to store of a row, from slot i on
+    abbrev RowLeft : (Record → ℕ) → List ℕ → ℕ → Type 0
+    RowLeft g row i = sets row i (map g (recordsFrom f (count - i) i l)) ≡ padded (map g (recordsIn f l))
 
-    go : (u : Bool) → ltb i count ≡ u → slotsLeft l count i ≡ (slotMatches l count i && slotsLeft l count (i + 1))
-    go true t =
-        let e : count - i ≡ suc (count - (i + 1)) = omega (arith, ltb-true i count t) in
-        let k : 20 + 20 * i ≡ 16 + 20 * i + 4 = omega arith in
-        let v : 28 + 20 * i ≡ 16 + 20 * i + 12 = omega arith in
-        rw (t, n, e, k, v) (matches-append (recordSlot (recordWith (numberAt 8 l (16 + 20 * i + 4)) (numberAt 8 l (16 + 20 * i + 12)))) (slots (12 - (i + 1)) (recordsFrom (count - (i + 1)) (suc i) l)) l (16 + 20 * i) ∙ rw (on, add-one))
-    go false t =
-        let e : count - i ≡ 0 = omega (arith, ltb-false i count t) in
-        let z : count - (i + 1) ≡ 0 = omega arith in
-        rw (t, n, e, z) (matches-append emptySlot (slots (12 - (i + 1)) []) l (16 + 20 * i) ∙ rw on)
+    row-left : (g : Record → ℕ) → RowLeft g (replicate 12 0) 0
+    unfolding recordsIn
+    row-left g = rw (c, sub-zero) (row-starts (map g (recordsIn f l)) (rw length-map (held-twelve l)))
 
--- a slot that is not well formed makes the answer no
-pub slots-stop : (l : List ℕ) (count i : ℕ) (b : Bool) → i < 12 → b ≡ slotMatches l count i → b ≡ false → false ≡ slotsLeft l count i
-slots-stop l count i b h e t = sym (slots-step l count i h ∙ rw (← e, t))
+    row-turn : (g : Record → ℕ) (row : List ℕ) (i : ℕ) (x : Record) → i < count → x ≡ recordIn f l (slotAt f i) → RowLeft g row i → RowLeft g (set row i (g x)) (i + 1)
+    row-turn g row i x h q left =
+        let e : count - i ≡ suc (count - (i + 1)) = omega arith in
+        rw (q, add-one) (rw (e, add-one) at left)
 
--- after a slot that is well formed the others are left
-pub slots-turn : (l : List ℕ) (count i : ℕ) (b : Bool) → i < 12 → b ≡ slotMatches l count i → b ≡ true → slotsLeft l count (i + 1) ≡ slotsLeft l count i
-slots-turn l count i b h e t = sym (slots-step l count i h ∙ rw (← e, t))
+    row-done : (g : Record → ℕ) (row : List ℕ) (i : ℕ) → count ≤ i → RowLeft g row i → row ≡ padded (map g (recordsIn f l))
+    row-done g row i h left =
+        let e : count - i ≡ 0 = omega arith in
+        rw e at left
 
--- after the last slot the answer is yes
-pub slots-end : (l : List ℕ) (count i : ℕ) → 12 ≤ i → true ≡ slotsLeft l count i
-slots-end l count i h =
-    let e : 12 - i ≡ 0 = omega arith in
-    rw e
+    -- so for the rows of a page: before the first turn all is left
+    abbrev pub ToStore : (ks vs us : List ℕ) → ℕ → Type 0
+    ToStore ks vs us i = RowLeft key ks i × RowLeft value vs i × RowLeft run us i
 
--- bytes are well formed where the head is exact and the slots are well formed
-formed-parts : (address : ℕ) (l : List ℕ)
-    → wellFormed address l ≡ (matches l 0 (head address (countIn l)) && matches l 16 (slots 12 (recordsFrom (countIn l) 0 l)))
-unfolding wellFormed recordsIn
-formed-parts address l =
-    rw (length-records (countIn l) 0 l) (matches-append (head address (countIn l)) (slots 12 (recordsFrom (countIn l) 0 l)) l 0)
+    pub parse-starts : ToStore (replicate 12 0) (replicate 12 0) (replicate 12 0) 0
+    parse-starts = (row-left key, row-left value, row-left run)
 
-module _ (address : ℕ) (l : List ℕ) (count : ℕ) (exact : Bool) (e : count ≡ countIn l) (m : exact ≡ matches l 0 (head address count)) where
-  -- a head that is not exact makes the answer no
-  pub no-head : exact ≡ false → false ≡ wellFormed address l
-  no-head t = sym (formed-parts address l ∙ rw (← e, ← m, t))
+    module _ (ks vs us : List ℕ) (i : ℕ) (left : ToStore ks vs us i) where
+      -- a turn stores the numbers of one slot
+      pub parse-turn : (x : Record) → i < count → x ≡ recordIn f l (slotAt f i) → ToStore (set ks i (key x)) (set vs i (value x)) (set us i (run x)) (i + 1)
+      parse-turn x h q = (row-turn key ks i x h q (left .0), row-turn value vs i x h q (left .1), row-turn run us i x h q (left .2))
 
-  -- with an exact head the slots are left
-  pub slots-decide : (out : Bool) → exact ≡ true → out ≡ matches l 16 (slots 12 (recordsFrom count 0 l)) → out ≡ wellFormed address l
-  slots-decide out t o = o ∙ sym (formed-parts address l ∙ rw (← e, ← m, t))
+      -- after the last turn the rows are those of the page in memory
+      pub parse-ends : count ≤ i → _≡_ {A = Page} (record { count = count; keys = ks; values = vs; runs = us }) (inMemory (recordsIn f l))
+      unfolding inMemory
+      parse-ends h = rw (row-done key ks i h (left .0), row-done value vs i h (left .1), row-done run us i h (left .2), length-held, ← c)
+
+  -- the tests of a head are those of its fields
+  pub head-tests : (l : List ℕ) (address used : ℕ)
+      → (eqb (numberAt 2 l 0) 256 && (eqb (numberAt 2 l 2) (kindOf f) && (eqb (numberAt 4 l 4) address && (eqb (numberAt 2 l 8) used && (eqb (numberAt 2 l 10) 0 && eqb (numberAt 4 l 12) 0)))))
+      ≡ matches l 0 (head f address used)
+  head-tests l address used = rw and-true
+
+  module _ (l : List ℕ) (count i : ℕ) where
+    -- whether slot i is well formed
+    abbrev pub slotMatches : Bool
+    slotMatches = matches l (slotAt f i) (cond (ltb i count) (recordSlot f (recordIn f l (slotAt f i))) (emptySlot f))
+
+    -- whether the slots from slot i on are
+    abbrev pub slotsLeft : Bool
+    slotsLeft = matches l (slotAt f i) (slots f (slotsOf f - i) (recordsFrom f (count - i) i l))
+
+  -- at the start all slots are left
+  pub slots-start : (l : List ℕ) (count : ℕ) → slotsLeft l count 0 ≡ matches l 16 (slots f (slotsOf f) (recordsFrom f count 0 l))
+  slots-start l count = rw (sub-zero count, sub-zero (slotsOf f), slot-first f)
+
+  -- a slot and what stands behind it
+  slot-rest : (l : List ℕ) (i kind : ℕ) (x : Record) (fs : List Field)
+      → matches l (slotAt f i) (slot f kind x ++ fs) ≡ (matches l (slotAt f i) (slot f kind x) && matches l (slotAt f (i + 1)) fs)
+  slot-rest l i kind x fs =
+      let on : slotAt f i + width (slot f kind x) ≡ slotAt f (i + 1) = rw (slot-width f kind x, add-one) (slot-next f i) in
+      rw (← on) (matches-append (slot f kind x) fs l (slotAt f i))
+
+  -- the slots from slot i on are well formed where slot i is, and those after it are
+  slots-step : (l : List ℕ) (count i : ℕ) → i < slotsOf f → slotsLeft l count i ≡ (slotMatches l count i && slotsLeft l count (i + 1))
+  slots-step l count i h = go (ltb i count) refl
+    where
+      n : slotsOf f - i ≡ suc (slotsOf f - (i + 1))
+      n = omega arith
+
+      go : (u : Bool) → ltb i count ≡ u → slotsLeft l count i ≡ (slotMatches l count i && slotsLeft l count (i + 1))
+      go true t =
+          let e : count - i ≡ suc (count - (i + 1)) = omega (arith, ltb-true i count t) in
+          rw (t, n, e) (slot-rest l i 1 (recordIn f l (slotAt f i)) (slots f (slotsOf f - (i + 1)) (recordsFrom f (count - (i + 1)) (suc i) l)) ∙ rw add-one)
+      go false t =
+          let e : count - i ≡ 0 = omega (arith, ltb-false i count t) in
+          let z : count - (i + 1) ≡ 0 = omega arith in
+          rw (t, n, e, z) (slot-rest l i 0 vacant (slots f (slotsOf f - (i + 1)) []))
+
+  -- a slot that is not well formed makes the answer no
+  pub slots-stop : (l : List ℕ) (count i : ℕ) (b : Bool) → i < slotsOf f → b ≡ slotMatches l count i → b ≡ false → false ≡ slotsLeft l count i
+  slots-stop l count i b h e t = sym (slots-step l count i h ∙ rw (← e, t))
+
+  -- after a slot that is well formed the others are left
+  pub slots-turn : (l : List ℕ) (count i : ℕ) (b : Bool) → i < slotsOf f → b ≡ slotMatches l count i → b ≡ true → slotsLeft l count (i + 1) ≡ slotsLeft l count i
+  slots-turn l count i b h e t = sym (slots-step l count i h ∙ rw (← e, t))
+
+  -- after the last slot the answer is yes
+  pub slots-end : (l : List ℕ) (count i : ℕ) → slotsOf f ≤ i → true ≡ slotsLeft l count i
+  slots-end l count i h =
+      let e : slotsOf f - i ≡ 0 = omega arith in
+      rw e
+
+  -- bytes are well formed where the head is exact and the slots are well formed
+  formed-parts : (address : ℕ) (l : List ℕ)
+      → wellFormed f address l ≡ (matches l 0 (head f address (countIn f l)) && matches l 16 (slots f (slotsOf f) (recordsFrom f (countIn f l) 0 l)))
+  unfolding wellFormed recordsIn
+  formed-parts address l =
+      rw (length-records (countIn f l) 0 l) (matches-append (head f address (countIn f l)) (slots f (slotsOf f) (recordsFrom f (countIn f l) 0 l)) l 0)
+
+  module _ (address : ℕ) (l : List ℕ) (count : ℕ) (exact : Bool) (e : count ≡ countIn f l) (m : exact ≡ matches l 0 (head f address count)) where
+    -- a head that is not exact makes the answer no
+    pub no-head : exact ≡ false → false ≡ wellFormed f address l
+    no-head t = sym (formed-parts address l ∙ rw (← e, ← m, t))
+
+    -- with an exact head the slots are left
+    pub slots-decide : (out : Bool) → exact ≡ true → out ≡ matches l 16 (slots f (slotsOf f) (recordsFrom f count 0 l)) → out ≡ wellFormed f address l
+    slots-decide out t o = o ∙ sym (formed-parts address l ∙ rw (← e, ← m, t))

@@ -75,10 +75,10 @@ module _ {R : Type 0} (rk : R → ℕ) (f : ℕ → ℕ) (r : ℕ) (d : R) where
       go true t ih = rw (here, t, lt-leb r (rk y) (ltb-true (rk y) r t)) (omega arith)
       go false t ih = rw (here, t, le-leb r (rk y) (ltb-false (rk y) r t)) (omega arith)
 
--- the first n of two rows are n records
-pub paired-length : (n : ℕ) (ks vs : List ℕ) → length (paired n ks vs) ≡ n
-paired-length zero ks vs = refl
-paired-length (suc n) ks vs = ap suc (paired-length n (drop 1 ks) (drop 1 vs))
+-- the first n of the rows are n records
+pub paired-length : (n : ℕ) (ks vs us : List ℕ) → length (paired n ks vs us) ≡ n
+paired-length zero ks vs us = refl
+paired-length (suc n) ks vs us = ap suc (paired-length n (drop 1 ks) (drop 1 vs) (drop 1 us))
 
 -- a place of the tail is the next of the whole
 getD-tail : (l : List ℕ) (j : ℕ) → getD (drop 1 l) j 0 ≡ getD l (suc j) 0
@@ -86,16 +86,16 @@ getD-tail [] j = refl
 getD-tail (x ∷ l) j = refl
 
 -- and each has its key from the row
-pub paired-key : (n : ℕ) (ks vs : List ℕ) (j : ℕ) → j < n → key (getD (paired n ks vs) j vacant) ≡ getD ks j 0
-paired-key zero ks vs j h = absurd (omega arith)
-paired-key (suc n) ks vs zero h = refl
-paired-key (suc n) ks vs (suc j) h = paired-key n (drop 1 ks) (drop 1 vs) j (omega arith) ∙ getD-tail ks j
+pub paired-key : (n : ℕ) (ks vs us : List ℕ) (j : ℕ) → j < n → key (getD (paired n ks vs us) j vacant) ≡ getD ks j 0
+paired-key zero ks vs us j h = absurd (omega arith)
+paired-key (suc n) ks vs us zero h = refl
+paired-key (suc n) ks vs us (suc j) h = paired-key n (drop 1 ks) (drop 1 vs) (drop 1 us) j (omega arith) ∙ getD-tail ks j
 
 -- in a row of homes stands the home of the key at that place
-pub homes-key : (h : ℕ → ℕ) (n : ℕ) (ks vs hs : List ℕ) → hs ≡ padded (map (homeFor h) (paired n ks vs)) → (j : ℕ) → j < n
+pub homes-key : (h : ℕ → ℕ) (n : ℕ) (ks vs us hs : List ℕ) → hs ≡ padded (map (homeFor h) (paired n ks vs us)) → (j : ℕ) → j < n
     → getD hs j 0 ≡ h (getD ks j 0)
-homes-key h n ks vs hs e j l =
-    rw (e, row-at (homeFor h) (paired n ks vs) _ j vacant (omega (arith, paired-length n ks vs)), paired-key n ks vs j l)
+homes-key h n ks vs us hs e j l =
+    rw (e, row-at (homeFor h) (paired n ks vs us) _ j vacant (omega (arith, paired-length n ks vs us)), paired-key n ks vs us j l)
 
 module _ (h : ℕ → ℕ) (r : ℕ) where
   -- the test of a key whose home was worked out
@@ -107,9 +107,9 @@ module _ (h : ℕ → ℕ) (r : ℕ) where
   pub records-ahead : (p : Page) → passed (keyRank h (p .keys)) (p .count) 0 r ≡ ahead (rank h) r (recordsOf p)
   unfolding recordsOf
   records-ahead p =
-      let e : length (recordsOf p) ≡ p .count = paired-length (p .count) (p .keys) (p .values) in
+      let e : length (recordsOf p) ≡ p .count = paired-length (p .count) (p .keys) (p .values) (p .runs) in
       let all = passed-ahead (rank h) (keyRank h (p .keys)) r vacant 0 (recordsOf p)
-      (λ j l. rw (zero-add, paired-key (p .count) (p .keys) (p .values) j (omega arith))) in
+      (λ j l. rw (zero-add, paired-key (p .count) (p .keys) (p .values) (p .runs) j (omega arith))) in
       rw e at all ∙ zero-add (ahead (rank h) r (recordsOf p))
 
   -- how many of the first i places are left from the back, by a row of keys
@@ -141,4 +141,4 @@ module _ (h : ℕ → ℕ) (r : ℕ) where
   -- so do the records of a page
   pub records-back : (p : Page) → back (p .keys) (p .count) ≡ upToBack (rank h) r vacant (recordsOf p) (p .count)
   unfolding recordsOf
-  records-back p = back-same (p .keys) (recordsOf p) (p .count) (paired-key (p .count) (p .keys) (p .values))
+  records-back p = back-same (p .keys) (recordsOf p) (p .count) (paired-key (p .count) (p .keys) (p .values) (p .runs))

@@ -1,4 +1,5 @@
 pub mod Page
+pub mod Small
 pub mod Places
 pub mod Area
 pub mod steps

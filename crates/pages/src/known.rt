@@ -3,10 +3,13 @@
 use crate::Page;
 use homes::Shape;
 use homes::Stage;
+use layouts::IN_USE;
+use layouts::SLOTS;
 ghost use mathlib.Core.Path.{_≡_};
 ghost use mathlib.Core.List.{map};
 ghost use Prim.Native.Nat.{_+_, _*_, _≤_, _<_};
 ghost use lib.ListN.{length};
+ghost use Rattle.layouts.specs.Layout.{inUse};
 ghost use Rattle.homes.specs.Homes.{Ready, homeIn};
 ghost use Rattle.homes.specs.steps.Last.{Within, staysAt};
 ghost use Rattle.pages.specs.Page.{homeFor, recordsIn, inMemory, padded};
@@ -37,20 +40,20 @@ fn homes_on(page: Page, a: u64, shape: Shape, all: bool, once: bool) -> [u64; 12
 // Whether there is a page before page a, and it says that it is full.
 fn full_before(area: &[u8], a: usize) -> bool
     requires { ⌜ (a < 4096) × (256 * (a + 1) ≤ length (now area)) ⌝ }
-    ensures { λ r. ⌜ r ≡ fullBefore (now (area .entry)) a ⌝ }
+    ensures { λ r. ⌜ r ≡ fullBefore inUse (now (area .entry)) a ⌝ }
 {
     if a == 0 {
         return false;
     }
     let at = 256 * (a - 1);
-    12 <= crate::count_in(&area[at..at + 256])
+    SLOTS <= crate::count_in(&area[at..at + 256], IN_USE)
 }
 
 // The homes of the records of page a, in a file that grew by the step `last`.
 pub fn homes_at(area: &[u8], a: usize, page: Page, shape: Shape, last: Stage) -> [u64; 12]
-    requires { ⌜ (a < 4096) × (256 * (a + 1) ≤ length (now area)) × (page ≡ inMemory (recordsIn (partAt (now area) a))) ⌝ }
-    requires { ⌜ Ready shape × Within last × KnownAt (homeIn shape) (staysAt shape last) (now area) a ⌝ }
-    ensures { λ r. ⌜ r ≡ padded (map (homeFor (homeIn shape)) (recordsIn (partAt (now (area .entry)) a))) ⌝ }
+    requires { ⌜ (a < 4096) × (256 * (a + 1) ≤ length (now area)) × (page ≡ inMemory (recordsIn inUse (partAt (now area) a))) ⌝ }
+    requires { ⌜ Ready shape × Within last × KnownAt inUse (homeIn shape) (staysAt shape last) (now area) a ⌝ }
+    ensures { λ r. ⌜ r ≡ padded (map (homeFor (homeIn shape)) (recordsIn inUse (partAt (now (area .entry)) a))) ⌝ }
 {
     let stays = shape.stays(last, a as u64);
     let full = full_before(area, a);

@@ -3,6 +3,7 @@ use crate::Page;
 use crate::Pushed;
 use crate::Record;
 use homes::Shape;
+use layouts::SLOTS;
 ghost use mathlib.Core.Path.{_≡_};
 ghost use mathlib.Core.List.{[], _∷_, _++_};
 ghost use Prim.Native.Nat.{_≤_, _<_};
@@ -79,25 +80,28 @@ fn close_row(row: [u64; 12], at: usize) -> [u64; 12]
     out
 }
 
-// A page with one record more at a place. Of thirteen the last comes back; where there are no
-// thirteen, the record itself does.
+// A page with one record more at a place. Of one more than there are slots the last comes back;
+// where there are not so many, the record itself does.
 pub fn push(page: Page, at: usize, new: Record) -> Pushed
     requires { ⌜ (page .count ≤ 12) × (at ≤ page .count) × (page ≡ inMemory (recordsOf page)) ⌝ }
     ensures { λ r. ⌜ r ≡ pushed at new (recordsOf page) ⌝ }
 {
-    if at == 12 {
+    if at == SLOTS {
         return Pushed { page, over: new };
     }
     let count = page.count;
     let old_keys = page.keys;
     let old_values = page.values;
+    let old_runs = page.runs;
     let keys = open_row(old_keys, at, new.key);
     let values = open_row(old_values, at, new.value);
-    if count < 12 {
+    let runs = open_row(old_runs, at, new.run);
+    if count < SLOTS {
         let more = Page {
             count: count + 1,
             keys,
             values,
+            runs,
         };
         return Pushed {
             page: more,
@@ -108,10 +112,13 @@ pub fn push(page: Page, at: usize, new: Record) -> Pushed
         count,
         keys,
         values,
+        runs,
     };
+    let last = SLOTS - 1;
     let over = Record {
-        key: old_keys[11],
-        value: old_values[11],
+        key: old_keys[last],
+        value: old_values[last],
+        run: old_runs[last],
     };
     Pushed { page: same, over }
 }
@@ -123,11 +130,14 @@ pub fn take_out(page: Page, at: usize) -> Page
 {
     let old_keys = page.keys;
     let old_values = page.values;
+    let old_runs = page.runs;
     let keys = close_row(old_keys, at);
     let values = close_row(old_values, at);
+    let runs = close_row(old_runs, at);
     Page {
         count: page.count - 1,
         keys,
         values,
+        runs,
     }
 }

@@ -11,6 +11,9 @@ get-u16-requires c κs = search needs
 get-u16-requires-2 : tie.Need-get-u16-requires-2
 get-u16-requires-2 c κs = search needs
 
+kind-requires : tie.Need-kind-requires
+kind-requires c κs = search needs
+
 get-u32-requires : tie.Need-get-u32-requires
 get-u32-requires c κs = search needs
 
@@ -29,9 +32,9 @@ get-u32-requires-2 c κs = search needs
 returns : tie.Need-returns
 returns c =
     let place = c .before .before .before in
-    let a = place .before .before .before .before .args in
-    rw (place .before .before .get-u16 .ensures, place .before .get-u162 .ensures, place .get-u32 .ensures, c .before .before .get-u163 .ensures, c .before .get-u164 .ensures, c .get-u322 .ensures)
-    (head-tests (now (a .part)) (a .address) (a .count))
+    let a = place .before .before .before .before .before .args in
+    rw (place .before .before .before .get-u16 .ensures, place .before .before .get-u162 .ensures, place .before .kind .ensures, place .get-u32 .ensures, c .before .before .get-u163 .ensures, c .before .get-u164 .ensures, c .get-u322 .ensures)
+    (head-tests (a .layout) (now (a .part)) (a .address) (a .count))
 
 pub head-exact-spec : {M : Type 1} → statement M
 head-exact-spec =
@@ -39,6 +42,7 @@ head-exact-spec =
     (tie.spec
     get-u16-requires
     get-u16-requires-2
+    kind-requires
     get-u32-requires
     get-u16-requires-3
     cast-used

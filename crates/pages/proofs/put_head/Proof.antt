@@ -11,6 +11,9 @@ use Rattle.pages.proofs.put_head.Tie as tie
 put-u16-requires : tie.Need-put-u16-requires
 put-u16-requires c κs = search needs
 
+kind-requires : tie.Need-kind-requires
+kind-requires c κs = search needs
+
 put-u16-requires-2 : tie.Need-put-u16-requires-2
 put-u16-requires-2 c κs = search needs
 
@@ -35,14 +38,15 @@ same-length c = search needs
 returns : tie.Need-returns
 returns c =
     let f = c .before .before .before .before .before .before .before .before .before .before .before .before in
-    let e = f .before .before .before .before .before .before .before .before .before .before .before .before .before in
-    cc (puts-written (head (e .args .address) (e .args .count)) (now (e .args .part)) 0 (omega arith))
+    let e = f .before .before .before .before .before .before .before .before .before .before .before .before .before .before in
+    cc (puts-written (head (e .args .layout) (e .args .address) (e .args .count)) (now (e .args .part)) 0 (omega arith))
 
 pub put-head-spec : {M : Type 1} → statement M
 put-head-spec =
     tie.close
     (tie.spec
     put-u16-requires
+    kind-requires
     put-u16-requires-2
     put-u32-requires
     cast-put-u16

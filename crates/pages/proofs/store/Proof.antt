@@ -1,15 +1,16 @@
 -- `pages::store` meets its contract. The loop's invariant says what is left to do: the slots from i
--- on, written behind the others, make the
--- page. The measure is how many slots are left.
+-- on, written behind the others, make the page. The measure is how many slots are left.
 use mathlib.Core.Path.{_≡_, sym, _∙_}
 use mathlib.Core.Logic.{⊎-elim}
 use mathlib.Core.List.{List}
-use Prim.Native.Nat.{_≤_, _<_, _+_, _*_, _-_}
+use Prim.Native.Nat.{_≤_, _<_, _-_}
 use native.Mathlib.Omega.{arith}
 use lib.ListN.{length, drop}
 use borrow.Author.Needs.{needs}
 use Rattle.numbers.specs.Little.{written}
 use Rattle.numbers.specs.Fields.{encode}
+use Rattle.layouts.specs.Layout.{slotsOf, slotAt}
+use Rattle.layouts.proofs.Slots.{slots-few, slot-fits, width-low}
 use Rattle.pages.specs.Page.{Record, slots, pageBytes}
 use Rattle.pages.specs.steps.Slots.{recordsOf}
 use Rattle.pages.proofs.Held.{Held, held}
@@ -18,43 +19,52 @@ use Rattle.pages.proofs.store.Statement.{statement}
 use Rattle.pages.proofs.store.Tie as tie
 
 abbrev Inv-loop : tie.InvT-loop
-Inv-loop part₀ address count keys values i₀ part i =
-    (i ≤ 12)
-    × (length part ≡ 256)
-    × ((rs : List Record) → Held count keys values rs
-    → written part (16 + 20 * i) (encode (slots (12 - i) (drop i rs))) ≡ pageBytes address rs)
+Inv-loop part₀ address layout count keys values runs all i₀ part i =
+    (length part ≡ 256)
+    × ((rs : List Record) → Held count keys values runs rs
+    → written part (slotAt layout i) (encode (slots layout (slotsOf layout - i) (drop i rs))) ≡ pageBytes layout address rs)
 
 abbrev μ-loop : tie.MeasureT-loop
-μ-loop part₀ address count keys values i₀ part i = 12 - i
+μ-loop part₀ address layout count keys values runs all i₀ part i = all - i
+
+slots-requires : tie.Need-slots-requires Inv-loop μ-loop
+slots-requires c κs = search needs
 
 put-head-requires : tie.Need-put-head-requires Inv-loop μ-loop
 put-head-requires c κs = search needs
 
 loop-holds : tie.Need-loop-holds Inv-loop μ-loop
 loop-holds c =
-    let n = c .before .before .before .before .before .before .before .pre .0 in
-    (search needs, search needs, λ rs h. head-first _ _ _ _ _ _ rs n (c .before .before .put-head .ensures) h)
+    let s = c .before .before .before .before .before .before .before .before .before in
+    (search needs, λ rs h. head-first (s .args .layout) _ _ _ _ _ _ _ rs (s .pre .0) (c .before .before .put-head .ensures) h)
 
-mul-key : tie.Need-mul-key Inv-loop μ-loop
-mul-key c = search needs
+mul-t18 : tie.Need-mul-t18 Inv-loop μ-loop
+mul-t18 c = search needs
 
-array-read-key : tie.Need-array-read-key Inv-loop μ-loop
-array-read-key c = search needs
+array-read-t21 : tie.Need-array-read-t21 Inv-loop μ-loop
+array-read-t21 c = search needs
 
-mul-value : tie.Need-mul-value Inv-loop μ-loop
-mul-value c = search needs
+mul-t22 : tie.Need-mul-t22 Inv-loop μ-loop
+mul-t22 c = search needs
 
-array-read-value : tie.Need-array-read-value Inv-loop μ-loop
-array-read-value c = search needs
+array-read-t25 : tie.Need-array-read-t25 Inv-loop μ-loop
+array-read-t25 c = search needs
 
-mul-put-slot : tie.Need-mul-put-slot Inv-loop μ-loop
-mul-put-slot c = search needs
+mul-t26 : tie.Need-mul-t26 Inv-loop μ-loop
+mul-t26 c = search needs
 
-add-put-slot : tie.Need-add-put-slot Inv-loop μ-loop
-add-put-slot c = search needs
+array-read-t29 : tie.Need-array-read-t29 Inv-loop μ-loop
+array-read-t29 c = search needs
 
-put-slot-requires : tie.Need-put-slot-requires Inv-loop μ-loop
-put-slot-requires c κs = search needs
+slot-at-requires : tie.Need-slot-at-requires Inv-loop μ-loop
+slot-at-requires c κs = search needs
+
+put-requires : tie.Need-put-requires Inv-loop μ-loop
+put-requires c κs =
+    let f = c .before .before .before .before .before .before .before .before .before .before .before .before .before .before .args .layout in
+    let l = c .before .before .before .before .loop in
+    let fits = slot-fits f (l .i) (omega arith) in
+    (omega (arith, c .slot-at .ensures, fits, width-low f, l .inv .0), omega (arith, c .slot-at .ensures, fits, l .inv .0))
 
 add-i : tie.Need-add-i Inv-loop μ-loop
 add-i c = search needs
@@ -64,16 +74,17 @@ loop-less c = search needs
 
 loop-again : tie.Need-loop-again Inv-loop μ-loop
 loop-again c =
-    let l = c .before .before .before .before .before .before .loop in
-    let p = c .before .before .before .before .before .before .before .before .before .before .before .before .before .before .args .page in
-    let k = c .before .before .before .before .if1 in
-    let t : l .i < 12 = omega arith in (
-      search needs,
+    let l = c .before .before .before .before .before .before .before .loop in
+    let a = c .before .before .before .before .before .before .before .before .before .before .before .before .before .before .before .before .before .args in
+    let p = a .page in
+    let f = a .layout in
+    let k = c .before .before .before .before .before .if1 in
+    let t : l .i < slotsOf f = omega arith in (
       search needs,
       λ rs h.
-          slot-turn (l .part) _ (l .i) (k .kind) (p .keys) (p .values) rs t (l .inv .1) (c .before .before .put-slot .ensures)
-          (⊎-elim (λ w. next-used _ _ _ _ _ rs h t (w .0 .taken) (w .1)) (λ w. next-empty _ _ _ _ _ rs h t (w .0 .left) (w .1)) (k .came))
-          ∙ l .inv .2 rs h,
+          slot-turn f (l .part) _ (l .i) (k .kind) (p .keys) (p .values) (p .runs) rs t (l .inv .0) (rw (c .before .before .before .slot-at .ensures) at (c .before .before .put .ensures))
+          (⊎-elim (λ w. next-used f _ _ _ _ _ _ rs h t (w .0 .taken) (w .1)) (λ w. next-empty f _ _ _ _ _ _ rs h t (w .0 .left) (w .1)) (k .came))
+          ∙ l .inv .1 rs h,
     )
 
 same-length : tie.Need-same-length Inv-loop μ-loop
@@ -81,10 +92,10 @@ same-length c = search needs
 
 returns : tie.Need-returns Inv-loop μ-loop
 returns c =
-    let e = c .before .before .before .before .before .before .before .before .before in
+    let e = c .before .before .before .before .before .before .before .before .before .before .before in
     let l = c .before .loop in
     let rs = recordsOf (e .args .page) in
-    sym (slots-done (l .part) (l .i) rs (omega arith)) ∙ l .inv .2 rs (held (e .args .page) (e .pre .2))
+    sym (slots-done (e .args .layout) (l .part) (l .i) rs (omega arith)) ∙ l .inv .1 rs (held (e .args .page) (e .pre .2))
 
 pub store-spec : {M : Type 1} → statement M
 store-spec =
@@ -92,15 +103,17 @@ store-spec =
     (tie.spec
     Inv-loop
     μ-loop
+    slots-requires
     put-head-requires
     loop-holds
-    mul-key
-    array-read-key
-    mul-value
-    array-read-value
-    mul-put-slot
-    add-put-slot
-    put-slot-requires
+    mul-t18
+    array-read-t21
+    mul-t22
+    array-read-t25
+    mul-t26
+    array-read-t29
+    slot-at-requires
+    put-requires
     add-i
     loop-less
     loop-again

@@ -36,7 +36,7 @@ returns : tie.Need-returns
 returns c =
     let a = c .before .before .before .before .before .args in
     let rs = recordsOf (a .page) in
-    rw (c .before .before .store .ensures) (part-written (now (a .area)) (pageBytes (a .a) rs) (a .a) (page-length (a .a) rs))
+    rw (c .before .before .store .ensures) (part-written (now (a .area)) (pageBytes (a .layout) (a .a) rs) (a .a) (page-length (a .layout) (a .a) rs))
 
 pub store-at-spec : {M : Type 1} → statement M
 store-at-spec =

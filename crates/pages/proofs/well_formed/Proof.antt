@@ -15,7 +15,7 @@ head-exact-requires c κs = search needs
 returns : tie.Need-returns
 returns c =
     let a = c .before .before .before .before .args in
-    no-head (a .address) (now (a .part)) _ _ (c .before .before .count-in .ensures) (c .before .head-exact .ensures) (not-true _ (c .if1 .taken))
+    no-head (a .layout) (a .address) (now (a .part)) _ _ (c .before .before .count-in .ensures) (c .before .head-exact .ensures) (not-true _ (c .if1 .taken))
 
 slots-formed-requires : tie.Need-slots-formed-requires
 slots-formed-requires c κs = search needs
@@ -23,7 +23,7 @@ slots-formed-requires c κs = search needs
 returns-2 : tie.Need-returns-2
 returns-2 c =
     let a = c .before .before .before .before .before .args in
-    slots-decide (a .address) (now (a .part)) _ _ (c .before .before .before .count-in .ensures) (c .before .before .head-exact .ensures) _
+    slots-decide (a .layout) (a .address) (now (a .part)) _ _ (c .before .before .before .count-in .ensures) (c .before .before .head-exact .ensures) _
     (not-false _ (c .before .if1 .left)) (c .slots-formed .ensures)
 
 pub well-formed-spec : {M : Type 1} → statement M

@@ -6,6 +6,8 @@ use mathlib.Core.Bool.{Bool, true, false, not, _&&_}
 use mathlib.Core.List.{List, [], _∷_}
 use lib.ListN.{length}
 use lib.Dec.{leb}
+use Rattle.layouts.specs.declared.Layout.{Layout}
+use Rattle.layouts.specs.Layout.{slotsOf}
 use Rattle.placing.specs.Image.{All}
 use Rattle.pages.specs.Page.{Record, key, recordsIn}
 use Rattle.pages.specs.Area.{partAt}
@@ -25,11 +27,11 @@ module _ (h : ℕ → ℕ) (a : ℕ) where
   Known all once rs = (all ≡ true → AllHere rs) × (once ≡ true → OnceHere rs)
 
 -- whether there is a page before page a, and it says that it is full
-abbrev pub fullBefore : List ℕ → ℕ → Bool
-fullBefore area zero = false
-fullBefore area (suc b) = leb 12 (length (recordsIn (partAt area b)))
+abbrev pub fullBefore : Layout → List ℕ → ℕ → Bool
+fullBefore f area zero = false
+fullBefore f area (suc b) = leb (slotsOf f) (length (recordsIn f (partAt area b)))
 
 -- what is known of page a of an area, if it is one of the pages whose records stay: after a page
 -- that isn't full, all are at home
-abbrev pub KnownAt : (ℕ → ℕ) → (stays : ℕ → Bool) → List ℕ → ℕ → Type 0
-KnownAt h stays area a = Known h a (stays a && not (fullBefore area a)) (stays a) (recordsIn (partAt area a))
+abbrev pub KnownAt : Layout → (ℕ → ℕ) → (stays : ℕ → Bool) → List ℕ → ℕ → Type 0
+KnownAt f h stays area a = Known h a (stays a && not (fullBefore f area a)) (stays a) (recordsIn f (partAt area a))

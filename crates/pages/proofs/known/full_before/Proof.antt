@@ -4,6 +4,7 @@ use Prim.Native.Nat.{_+_, _-_, _*_}
 use native.Mathlib.Omega.{arith}
 use denote.Ref.{now}
 use borrow.Author.Needs.{needs}
+use Rattle.layouts.specs.Layout.{inUse}
 use Rattle.pages.specs.Area.{partAt}
 use Rattle.pages.proofs.Homing.{full-by-count}
 use Rattle.pages.proofs.known.full_before.Statement.{statement}
@@ -39,7 +40,7 @@ returns-2 c =
     let b = c .before .before .before .before in
     let a = b .args .a in
     let n : 256 * (a - 1) + 256 - 256 * (a - 1) ≡ 256 = omega arith in
-    full-by-count (now (b .args .area)) a _ (c .before .before .if1 .left) (rw n at (c .count-in .ensures))
+    full-by-count inUse (now (b .args .area)) a _ (c .before .before .if1 .left) (rw n at (c .count-in .ensures))
 
 pub full-before-spec : {M : Type 1} → statement M
 full-before-spec =

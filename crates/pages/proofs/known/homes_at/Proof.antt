@@ -4,6 +4,7 @@ use denote.Ref.{now}
 use borrow.Author.Needs.{needs}
 use Rattle.homes.specs.Homes.{homeIn}
 use Rattle.homes.specs.steps.Last.{staysAt}
+use Rattle.layouts.specs.Layout.{inUse}
 use Rattle.pages.specs.Area.{partAt}
 use Rattle.pages.proofs.Read.{held-few, ready}
 use Rattle.pages.proofs.Homing.{known-page, homes-page}
@@ -23,9 +24,9 @@ homes-on-requires c κs =
     let h = homeIn (b .args .shape) in
     let t = staysAt (b .args .shape) (b .args .last) in
     let e = b .pre .0 .2 in (
-      ready _ _ e (held-few (partAt (now (b .args .area)) (b .args .a))) .0,
+      ready _ _ e (held-few inUse (partAt (now (b .args .area)) (b .args .a))) .0,
       b .pre .1 .0,
-      known-page h t (now (b .args .area)) (b .args .a) (b .args .page) _ _ e (s .stays .ensures) (c .full-before .ensures) (b .pre .1 .2),
+      known-page inUse h t (now (b .args .area)) (b .args .a) (b .args .page) _ _ e (s .stays .ensures) (c .full-before .ensures) (b .pre .1 .2),
     )
 
 returns : tie.Need-returns

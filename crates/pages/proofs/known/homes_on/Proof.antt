@@ -22,7 +22,7 @@ loop-holds : tie.Need-loop-holds Inv-loop μ-loop
 unfolding recordsOf
 loop-holds c =
     let b = c .before in
-    homing-starts (homeIn (b .args .shape)) (b .args .a) (b .args .page .count) (b .args .page .keys) (b .args .all) (b .args .once) (b .args .page .values) (b .pre .0) (b .pre .2)
+    homing-starts (homeIn (b .args .shape)) (b .args .a) (b .args .page .count) (b .args .page .keys) (b .args .all) (b .args .once) (b .args .page .values) (b .args .page .runs) (b .pre .0) (b .pre .2)
 
 mul-home : tie.Need-mul-home Inv-loop μ-loop
 mul-home c = search needs
@@ -66,7 +66,7 @@ unfolding recordsOf
 returns c =
     let b = c .before .before .before .args in
     let l = c .before .loop in
-    homing-ends (homeIn (b .shape)) (b .a) (b .page .count) (b .page .keys) (b .once) (l .homes) (l .here) (l .i) (b .page .values) (c .loop-test .left) (l .inv)
+    homing-ends (homeIn (b .shape)) (b .a) (b .page .count) (b .page .keys) (b .once) (l .homes) (l .here) (l .i) (b .page .values) (b .page .runs) (c .loop-test .left) (l .inv)
 
 pub homes-on-spec : {M : Type 1} → statement M
 homes-on-spec =

@@ -1,4 +1,4 @@
--- `pages::take_out` meets its contract: both rows are closed over one place.
+-- `pages::take_out` meets its contract: the rows are closed over one place.
 use borrow.Author.Needs.{needs}
 use Rattle.pages.specs.steps.Slots.{recordsOf}
 use Rattle.pages.proofs.Held.{held, taken-out}
@@ -11,15 +11,20 @@ close-row-requires c κs = search needs
 close-row-requires-2 : tie.Need-close-row-requires-2
 close-row-requires-2 c κs = search needs
 
-sub-t7 : tie.Need-sub-t7
-sub-t7 c = search needs
+close-row-requires-3 : tie.Need-close-row-requires-3
+close-row-requires-3 c κs = search needs
+
+sub-t9 : tie.Need-sub-t9
+sub-t9 c = search needs
 
 returns : tie.Need-returns
 returns c =
-    let a = c .before .before .before .before .before .args in
-    let e = c .before .before .before .before .before .pre in
-    taken-out (a .page .count) (a .at) (a .page .keys) (a .page .values) (recordsOf (a .page)) (held (a .page) (e .2)) (e .0)
-    (e .1) _ _ (c .before .before .close-row .ensures) (c .before .close-row2 .ensures)
+    let s = c .before .before .before .before .before .before .before in
+    let a = s .args in
+    taken-out (a .page .count) (a .at) (a .page .keys) (a .page .values) (a .page .runs) (recordsOf (a .page)) (held (a .page) (s .pre .2)) (s .pre .0)
+    (s .pre .1) _ _ _ (c .before .before .before .close-row .ensures) (c .before .before .close-row2 .ensures) (c .before .close-row3 .ensures)
 
 pub take-out-spec : {M : Type 1} → statement M
-take-out-spec = tie.close (tie.spec close-row-requires close-row-requires-2 sub-t7 returns)
+take-out-spec =
+    tie.close
+    (tie.spec close-row-requires close-row-requires-2 close-row-requires-3 sub-t9 returns)

@@ -9,10 +9,12 @@ pub enum Layout {
     Ten,
 }
 
-// The layout of the files that the register makes and takes, and its slots.
+// The layout of the files that the register makes and takes: its slots, and the bytes of one.
 pub const IN_USE: Layout = Layout::Twelve;
 
 pub const SLOTS: usize = 12;
+
+pub const WIDTH: usize = 20;
 
 impl Layout {
     pub fn kind(self) -> u16

@@ -1,6 +1,6 @@
 // A page of records: 256 bytes of a lent area in some layout, and one value in memory.
 pub mod known;
-mod slot;
+pub mod slot;
 pub mod slots;
 
 use homes::Shape;

@@ -47,7 +47,8 @@ pub fn formed(part: &[u8], at: usize, layout: Layout, used: bool) -> bool
     length & ((kind == 0) & ((x.key == 0) & ((x.value == 0) & (x.run == 0))))
 }
 
-fn put_run(part: &mut [u8], at: usize, layout: Layout, run: u64)
+// The run to its place in the slot at an offset, where slots have one.
+pub fn put_run(part: &mut [u8], at: usize, layout: Layout, run: u64)
     requires { ⌜ at + widthOf layout ≤ length (now part) ⌝ }
     ensures { λ _. ⌜ now (part .exit) ≡ written (now (part .entry)) (at + 20) (encode (runField layout run)) ⌝ }
 {

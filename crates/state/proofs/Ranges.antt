@@ -8,6 +8,8 @@ use native.Mathlib.Nat.{mul-le-mul}
 use native.Mathlib.Omega.{arith}
 use lib.ListN.{getD}
 use borrow.Author.Tests.{leb-true, le-leb}
+use Rattle.layouts.specs.declared.Layout.{Layout}
+use Rattle.layouts.specs.Layout.{slotsOn}
 use Rattle.homes.specs.Homes.{InRange}
 use Rattle.state.specs.declared.State.{State}
 use Rattle.state.specs.State.{all, ranges, inRange, oneMore, oneLess, grown}
@@ -36,10 +38,10 @@ every (false ∷ l) h zero = h
 every (false ∷ l) h (suc k) = absurd (let z : _≡_ {A = ℕ} 0 1 = cc in omega arith)
 
 -- A state whose tests hold is in its ranges.
-pub ranged : (s : State) → inRange s ≡ true → Ranged s
+pub ranged : (f : Layout) (s : State) → inRange f s ≡ true → Ranged f s
 unfolding inRange
-ranged s h =
-    let holds : (k : ℕ) → getD (ranges s) k true ≡ true = every (ranges s) h in
+ranged f s h =
+    let holds : (k : ℕ) → getD (ranges f s) k true ≡ true = every (ranges f s) h in
     record {
       n0-low = leb-true _ _ (holds 0);
       n0-high = leb-true _ _ (holds 1);
@@ -57,9 +59,9 @@ ranged s h =
     }
 
 -- The tests hold of a state in its ranges.
-pub in-range : (s : State) → Ranged s → inRange s ≡ true
+pub in-range : (f : Layout) (s : State) → Ranged f s → inRange f s ≡ true
 unfolding inRange all
-in-range s r =
+in-range f s r =
     simp (
       le-leb _ _ (r .n0-low),
       le-leb _ _ (r .n0-high),
@@ -77,17 +79,17 @@ in-range s r =
     )
 
 -- The homes of a state's keys are those of a shape in range.
-pub in-shape : (s : State) → inRange s ≡ true → InRange (s .params) (s .p)
-in-shape s h = let r : Ranged s = ranged s h in search arith
+pub in-shape : (f : Layout) (s : State) → inRange f s ≡ true → InRange (s .params) (s .p)
+in-shape f s h = let r : Ranged f s = ranged f s h in search arith
 
 -- One page more, where the lent pages have one more.
-pub grown-range : (s : State) → inRange s ≡ true → s .p < s .cap → inRange (grown s) ≡ true
-grown-range s h room = let r : Ranged s = ranged s h in in-range (grown s) (search arith)
+pub grown-range : (f : Layout) (s : State) → inRange f s ≡ true → s .p < s .cap → inRange f (grown s) ≡ true
+grown-range f s h room = let r : Ranged f s = ranged f s h in in-range f (grown s) (search arith)
 
 -- One record more, where the capacity has one more.
-pub more-range : (s : State) → inRange s ≡ true → s .r < 12 * s .cap → inRange (oneMore s) ≡ true
-more-range s h room = let r : Ranged s = ranged s h in in-range (oneMore s) (search arith)
+pub more-range : (f : Layout) (s : State) → inRange f s ≡ true → s .r < slotsOn f (s .cap) → inRange f (oneMore s) ≡ true
+more-range f s h room = let r : Ranged f s = ranged f s h in in-range f (oneMore s) (search arith)
 
 -- One record less.
-pub less-range : (s : State) → inRange s ≡ true → inRange (oneLess s) ≡ true
-less-range s h = let r : Ranged s = ranged s h in in-range (oneLess s) (search arith)
+pub less-range : (f : Layout) (s : State) → inRange f s ≡ true → inRange f (oneLess s) ≡ true
+less-range f s h = let r : Ranged f s = ranged f s h in in-range f (oneLess s) (search arith)

@@ -4,12 +4,15 @@ use Prim.Native.Nat.{_*_, _≤_, _<_}
 use mathlib.Core.Path.{_≡_}
 use mathlib.Core.Bool.{true}
 use mathlib.Core.Logic.{_↔_}
+use Rattle.layouts.specs.declared.Layout.{Layout}
+use Rattle.layouts.specs.declared.Layout.the-variants.{Twelve, Ten}
+use Rattle.layouts.specs.Layout.{slotsOn}
 use Rattle.state.specs.declared.State.{State}
 use Rattle.state.specs.State.{inRange, isDue}
 
 -- "Ranges: n0 1 to 4, N 1 to 64, s 1 to 8, cap 1 to 4,096, n0 x N <= P <= cap, r <= 12 x cap." 02,
--- request 4: "The state carries the edition, 1 or 2"
-pub record Ranged (x : State) : Type 0 where
+-- request 4: "The state carries the edition, 1 or 2". Twelve are the slots of a page.
+pub record Ranged (f : Layout) (x : State) : Type 0 where
   pub n0-low : 1 ≤ x .params .n0
   pub n0-high : x .params .n0 ≤ 4
   pub n-low : 1 ≤ x .params .n
@@ -22,10 +25,12 @@ pub record Ranged (x : State) : Type 0 where
   pub cap-high : x .cap ≤ 4096
   pub p-low : x .params .n0 * x .params .n ≤ x .p
   pub p-high : x .p ≤ x .cap
-  pub r-high : x .r ≤ 12 * x .cap
+  pub r-high : x .r ≤ slotsOn f (x .cap)
 
 pub record StatePromises : Type 0 where
   -- the tests are of these ranges, and of no narrower and no wider ones
-  pub in-range : (x : State) → (inRange x ≡ true) ↔ Ranged x
-  -- "Growth is due exactly when 5r > 48P"; of a state out of range "due answers no"
-  pub due : (x : State) → (isDue x ≡ true) ↔ (Ranged x × (48 * x .p < 5 * x .r))
+  pub in-range : (f : Layout) (x : State) → (inRange f x ≡ true) ↔ Ranged f x
+  -- "Growth is due exactly when 5r > 48P"; of a state out of range "due answers no". 02, request 8:
+  -- with ten slots "growth is due when 5r > 40P"
+  pub due : (x : State) → (isDue Twelve x ≡ true) ↔ (Ranged Twelve x × (48 * x .p < 5 * x .r))
+  pub due-ten : (x : State) → (isDue Ten x ≡ true) ↔ (Ranged Ten x × (40 * x .p < 5 * x .r))

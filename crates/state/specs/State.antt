@@ -4,6 +4,8 @@ use Prim.Native.Nat.{ℕ, _+_, _-_, _*_}
 use mathlib.Core.Bool.{Bool, true, _&&_}
 use mathlib.Core.List.{List, [], _∷_}
 use lib.Dec.{leb, ltb}
+use Rattle.layouts.specs.declared.Layout.{Layout}
+use Rattle.layouts.specs.Layout.{slotsOn}
 use Rattle.homes.specs.declared.Params.{Params}
 use Rattle.homes.specs.Homes.{firstPages, home}
 use Rattle.state.specs.declared.State.{State}
@@ -14,24 +16,25 @@ all [] = true
 all (t ∷ ts) = t && all ts
 
 -- "Ranges: n0 1 to 4, N 1 to 64, s 1 to 8, cap 1 to 4,096, n0 x N <= P <= cap, r <= 12 x cap." 02,
--- request 4: "The state carries the edition, 1 or 2"
-abbrev pub ranges : State → List Bool
-ranges s =
+-- request 4: "The state carries the edition, 1 or 2". Twelve are the slots of a page.
+abbrev pub ranges : Layout → State → List Bool
+ranges f s =
     leb 1 (s .params .n0) ∷ leb (s .params .n0) 4
     ∷ leb 1 (s .params .n) ∷ leb (s .params .n) 64
     ∷ leb 1 (s .params .s) ∷ leb (s .params .s) 8
     ∷ leb 1 (s .params .edition) ∷ leb (s .params .edition) 2
     ∷ leb 1 (s .cap) ∷ leb (s .cap) 4096
     ∷ leb (firstPages (s .params)) (s .p) ∷ leb (s .p) (s .cap)
-    ∷ leb (s .r) (12 * s .cap)
+    ∷ leb (s .r) (slotsOn f (s .cap))
     ∷ []
 
-unfoldable pub inRange : State → Bool
-inRange s = all (ranges s)
+unfoldable pub inRange : Layout → State → Bool
+inRange f s = all (ranges f s)
 
--- "Growth is due exactly when 5r > 48P"; of a state out of range "due answers no"
-abbrev pub isDue : State → Bool
-isDue s = inRange s && ltb (48 * s .p) (5 * s .r)
+-- "Growth is due exactly when 5r > 48P", which is four times the slots of P pages; of a state out of
+-- range "due answers no"
+abbrev pub isDue : Layout → State → Bool
+isDue f s = inRange f s && ltb (4 * slotsOn f (s .p)) (5 * s .r)
 
 -- the home of a key in a file of that state
 abbrev pub homes : State → ℕ → ℕ

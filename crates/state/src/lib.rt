@@ -2,10 +2,10 @@
 // answers of the calls.
 use homes::Params;
 use homes::Shape;
+use layouts::Layout;
 ghost use mathlib.Core.Path.{_≡_};
-ghost use mathlib.Core.Bool.{true};
 ghost use Prim.Native.Nat.{_≤_, _<_};
-ghost use Rattle.homes.specs.Homes.{Ready, firstPages, shapeOf};
+ghost use Rattle.homes.specs.Homes.{InRange, Ready, firstPages, shapeOf};
 ghost use Rattle.state.specs.State.{inRange, isDue, fresh, oneMore, oneLess, grown};
 ghost use Rattle.state.specs.Answer.{numbers, again};
 
@@ -63,8 +63,8 @@ impl State {
     }
 
     // Whether its numbers are in their ranges. The tests are joined without a branch.
-    pub fn in_range(self) -> bool
-        ensures { λ r. ⌜ r ≡ inRange self ⌝ }
+    pub fn in_range(self, layout: Layout) -> bool
+        ensures { λ r. ⌜ r ≡ inRange layout self ⌝ }
     {
         let n0 = self.params.n0;
         let n = self.params.n;
@@ -72,6 +72,7 @@ impl State {
         let edition = self.params.edition;
         let p = self.p;
         let cap = self.cap;
+        let most = layout.slots_on(cap as u32);
         (1 <= n0)
             & (n0 <= 4)
             & (1 <= n)
@@ -84,14 +85,15 @@ impl State {
             & (cap <= 4096)
             & ((n0 as u32) * (n as u32) <= p as u32)
             & (p <= cap)
-            & (self.r <= 12 * (cap as u32))
+            & (self.r <= most)
     }
 
     // Whether growth is due.
-    pub fn due(self) -> bool
-        ensures { λ r. ⌜ r ≡ isDue self ⌝ }
+    pub fn due(self, layout: Layout) -> bool
+        ensures { λ r. ⌜ r ≡ isDue layout self ⌝ }
     {
-        self.in_range() & (48 * (self.p as u64) < 5 * (self.r as u64))
+        let slots = layout.slots_on(self.p as u32);
+        self.in_range(layout) & (4 * (slots as u64) < 5 * (self.r as u64))
     }
 
     pub fn one_more(mut self) -> Self
@@ -121,7 +123,7 @@ impl State {
 
     // What the homes of its keys depend on.
     pub fn shape(self) -> Shape
-        requires { ⌜ inRange self ≡ true ⌝ }
+        requires { ⌜ InRange (self .params) (self .p) ⌝ }
         ensures { λ r. ⌜ r ≡ shapeOf (self .params) (self .p) ⌝ }
         ensures ready { λ r. ⌜ Ready r ⌝ }
     {

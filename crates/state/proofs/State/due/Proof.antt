@@ -1,8 +1,13 @@
--- `state::State::due` meets its contract: only the call's answer is to be put in.
---
+-- `state::State::due` meets its contract: only the answers of its calls are to be put in.
 use borrow.Author.Needs.{needs}
 use Rattle.state.proofs.State.due.Statement.{statement}
 use Rattle.state.proofs.State.due.Tie as tie
+
+cast-slots-on : tie.Need-cast-slots-on
+cast-slots-on c = search needs
+
+slots-on-requires : tie.Need-slots-on-requires
+slots-on-requires c κs = search needs
 
 in-range-requires : tie.Need-in-range-requires
 in-range-requires c κs = search needs
@@ -20,9 +25,17 @@ mul-result-2 : tie.Need-mul-result-2
 mul-result-2 c = search needs
 
 returns : tie.Need-returns
-returns c = rw (c .before .before .in-range .ensures)
+returns c = rw (c .before .in-range .ensures, c .before .before .slots-on .ensures .0)
 
 pub due-spec : {M : Type 1} → statement M
 due-spec =
     tie.close
-    (tie.spec in-range-requires cast-result mul-result cast-result-2 mul-result-2 returns)
+    (tie.spec
+    cast-slots-on
+    slots-on-requires
+    in-range-requires
+    cast-result
+    mul-result
+    cast-result-2
+    mul-result-2
+    returns)

@@ -6,6 +6,8 @@ use mathlib.Core.Bool.{Bool, true, false, not, _&&_}
 use mathlib.Core.List.{List, [], _∷_}
 use lib.ListN.{length}
 use lib.Dec.{leb}
+use Rattle.homes.specs.declared.new_homes.NewHomes.{NewHomes}
+use Rattle.homes.specs.steps.NewHomes.{newHome, keepsAt}
 use Rattle.placing.specs.Image.{All}
 use Rattle.pages.specs.Page.{Record, key, recordsIn}
 use Rattle.pages.specs.Area.{partAt}
@@ -29,7 +31,7 @@ abbrev pub fullBefore : List ℕ → ℕ → Bool
 fullBefore area zero = false
 fullBefore area (suc b) = leb 12 (length (recordsIn (partAt area b)))
 
--- what is known of page a of an area, if it is one of the pages whose records stay: after a page
--- that isn't full, all are at home
-abbrev pub KnownAt : (ℕ → ℕ) → (stays : ℕ → Bool) → List ℕ → ℕ → Type 0
-KnownAt h stays area a = Known h a (stays a && not (fullBefore area a)) (stays a) (recordsIn (partAt area a))
+-- what is known of page a of an area for new homes, if it is one of the pages that keep their keys:
+-- after a page that isn't full, all are at home
+abbrev pub KnownAt : NewHomes → List ℕ → ℕ → Type 0
+KnownAt new area a = Known (newHome new) a (keepsAt new a && not (fullBefore area a)) (keepsAt new a) (recordsIn (partAt area a))

@@ -10,8 +10,9 @@ use lib.Dec.{eqb}
 use lib.ListN.{length}
 use borrow.Author.Tests.{eqb-true, eq-eqb}
 use Rattle.homes.specs.declared.Shape.{Shape}
-use Rattle.homes.specs.declared.Stage.{Stage}
+use Rattle.homes.specs.declared.new_homes.NewHomes.{NewHomes}
 use Rattle.homes.specs.Homes.{shapeOf, homeIn}
+use Rattle.homes.specs.steps.NewHomes.{newHome}
 use Rattle.numbers.proofs.Records.{and-left, and-right}
 use Rattle.placing.specs.Image.{cat}
 use Rattle.placing.specs.Rows.{counts}
@@ -65,11 +66,11 @@ module _ (s : State) (v : Verdict) where
     image-shut u = rw (e, u)
 
   -- where it is open, no page is broken, and the homes that were to be counted are
-  pub open-counted : (next : Shape) (last : Stage) (rs : List Record) (n : ℕ) (row : List ℕ) → imageOf s v ≡ Open → Counts v (Homes next last) rs n row
-      → row ≡ counts (homeFor (homeIn next)) rs n 0
-  open-counted next last rs n row e k = go v e k
+  pub open-counted : (new : NewHomes) (rs : List Record) (n : ℕ) (row : List ℕ) → imageOf s v ≡ Open → Counts v (Homes new) rs n row
+      → row ≡ counts (homeFor (newHome new)) rs n 0
+  open-counted new rs n row e k = go v e k
     where
-      go : (w : Verdict) → imageOf s w ≡ Open → Counts w (Homes next last) rs n row → row ≡ counts (homeFor (homeIn next)) rs n 0
+      go : (w : Verdict) → imageOf s w ≡ Open → Counts w (Homes new) rs n row → row ≡ counts (homeFor (newHome new)) rs n 0
       go (verdicts.Broken a) q k = absurd (let z : _≡_ {A = ℕ} 0 1 = cc in omega arith)
       go (Whole image records) q k = k
 

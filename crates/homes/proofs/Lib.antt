@@ -13,6 +13,7 @@ pub mod Addresses
 pub mod Turn
 pub mod Beginning
 pub mod Last
+pub mod Keeping
 pub mod Rowed
 pub mod Together
 pub mod Promises

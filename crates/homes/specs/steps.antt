@@ -4,4 +4,5 @@ pub mod Starts
 pub mod Sweeps
 pub mod Stages
 pub mod Last
+pub mod NewHomes
 pub mod Lanes

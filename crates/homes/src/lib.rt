@@ -1,6 +1,7 @@
 // Where a key lives: its home page, from the numbers of the file and the key.
 mod lane;
 pub mod lanes;
+pub mod new_homes;
 mod powers;
 mod starts;
 mod sweeps;
@@ -151,7 +152,7 @@ impl Shape {
 
     // Whether all keys that had their home on a page before the last page was added have it there
     // still. It tells so by the page's group alone, and may say no where all stay.
-    pub fn stays(self, last: Stage, page: u64) -> bool
+    fn stays(self, last: Stage, page: u64) -> bool
         requires { ⌜ Ready self × Within last ⌝ }
         ensures { λ r. ⌜ r ≡ staysAt self last page ⌝ }
     {

@@ -1,6 +1,6 @@
 -- The homes of a page's records, those that are known and those that are worked out, one by one.
 use mathlib.Core.Path.{_≡_, refl, sym, ap}
-use mathlib.Core.Bool.{Bool, true, false, not, _&&_, _||_}
+use mathlib.Core.Bool.{Bool, true, false, not, _&&_, _||_, false≢true}
 use mathlib.Core.List.{List, [], _∷_, map}
 use Prim.Native.Nat.{ℕ, zero, suc, _+_, _-_, _≤_, _<_}
 use native.Mathlib.Numerals.{add-one}
@@ -11,6 +11,8 @@ use lib.ListN.{drop, getD, set, replicate, length-map, drop-of-length-le}
 use lib.Seq.{sets, drop-cons}
 use Rattle.layouts.specs.declared.Layout.{Layout}
 use Rattle.layouts.specs.Layout.{slotsOf}
+use Rattle.homes.specs.declared.new_homes.NewHomes.{NewHomes}
+use Rattle.homes.specs.steps.NewHomes.{newHome, keepsAt}
 use Rattle.pages.specs.declared.Page.{Page}
 use Rattle.pages.specs.Page.{Record, vacant, homeFor, countIn, recordsIn, padded, inMemory}
 use Rattle.pages.specs.steps.Slots.{paired, recordsOf}
@@ -28,77 +30,61 @@ full-by-count f area (suc b) n z e =
     rw (e, m, length-held f (partAt area b))
 
 -- what is known of a page of an area, for the page as it is read
-pub known-page : (f : Layout) (h : ℕ → ℕ) (stays : ℕ → Bool) (area : List ℕ) (a : ℕ) (p : Page) (u v : Bool) → p ≡ inMemory (recordsIn f (partAt area a))
-    → u ≡ stays a → v ≡ fullBefore f area a → KnownAt f h stays area a → Known h a (u && not v) u (recordsOf p)
-known-page f h stays area a p u v e s b k = rw (page-records p (recordsIn f (partAt area a)) e, s, b) k
+pub known-page : (f : Layout) (new : NewHomes) (area : List ℕ) (a : ℕ) (p : Page) (u v : Bool) → p ≡ inMemory (recordsIn f (partAt area a)) → u ≡ keepsAt new a → v ≡ fullBefore f area a
+    → KnownAt f new area a → Known (newHome new) a (u && not v) u (recordsOf p)
+known-page f new area a p u v e s b k = rw (page-records p (recordsIn f (partAt area a)) e, s, b) k
 
 pub homes-page : (h : ℕ → ℕ) (p : Page) (rs : List Record) → p ≡ inMemory rs → padded (map (homeFor h) (recordsOf p)) ≡ padded (map (homeFor h) rs)
 homes-page h p rs e = ap (λ (s : List Record). padded (map (homeFor h) s)) (page-records p rs e)
 
-module _ (h : ℕ → ℕ) (a : ℕ) where
-  -- values and runs have no part in it
-  all-keys : (n : ℕ) (ks vs us : List ℕ) → AllHere h a (paired n ks vs us) → AllHere h a (paired n ks [] [])
-  all-keys zero ks vs us k = tt
-  all-keys (suc n) ks vs us k = (k .0, all-keys n (drop 1 ks) (drop 1 vs) (drop 1 us) (k .1))
+module _ (h : ℕ → ℕ) (a n : ℕ) (ks vs us : List ℕ) where
+  -- the records of a page
+  abbrev rs : List Record
+  rs = paired n ks vs us
 
-  once-keys : (n : ℕ) (ks vs us : List ℕ) → OnceHere h a (paired n ks vs us) → OnceHere h a (paired n ks [] [])
-  once-keys zero ks vs us k = tt
-  once-keys (suc n) ks vs us k =
-      (λ e. all-keys n (drop 1 ks) (drop 1 vs) (drop 1 us) (k .0 e), once-keys n (drop 1 ks) (drop 1 vs) (drop 1 us) (k .1))
+  -- of the records from i on: what is known, and that their homes are still to be stored
+  pub record Homing (once : Bool) (homes : List ℕ) (here : Bool) (i : ℕ) : Type 0 where
+    pub low : i ≤ n
+    pub all : here ≡ true → AllHere h a (drop i rs)
+    pub after : once ≡ true → OnceHere h a (drop i rs)
+    pub rest : sets homes i (map (homeFor h) (drop i rs)) ≡ padded (map (homeFor h) rs)
 
-  homes-keys : (n : ℕ) (ks vs us : List ℕ) → map (homeFor h) (paired n ks vs us) ≡ map (homeFor h) (paired n ks [] [])
-  homes-keys zero ks vs us = refl
-  homes-keys (suc n) ks vs us = rw (homes-keys n (drop 1 ks) (drop 1 vs) (drop 1 us))
+  pub homing-starts : (all once : Bool) → n ≤ 12 → Known h a all once rs → Homing once (replicate 12 0) all 0
+  homing-starts all once few k =
+      record {
+        low = omega arith;
+        all = k .0;
+        after = k .1;
+        rest = row-starts (map (homeFor h) rs) (rw length-map (omega (arith, paired-length n ks vs us)));
+      }
 
-  module _ (n : ℕ) (ks : List ℕ) where
-    -- the records of the keys
-    abbrev rs : List Record
-    rs = paired n ks [] []
+  module _ (once : Bool) (homes : List ℕ) (here : Bool) (i : ℕ) (l : i < n) (g : Homing once homes here i) where
+    -- record i is the first of those from i on
+    next : drop i rs ≡ getD rs i vacant ∷ drop (suc i) rs
+    next = drop-cons rs i vacant (omega (arith, paired-length n ks vs us))
 
-    -- of the records from i on: what is known, and that their homes are still to be stored
-    pub record Homing (once : Bool) (homes : List ℕ) (here : Bool) (i : ℕ) : Type 0 where
-      pub low : i ≤ n
-      pub all : here ≡ true → AllHere h a (drop i rs)
-      pub after : once ≡ true → OnceHere h a (drop i rs)
-      pub rest : sets homes i (map (homeFor h) (drop i rs)) ≡ padded (map (homeFor h) rs)
+    -- where all are at home, so is record i
+    pub home-here : here ≡ true → a ≡ h (getD ks i 0)
+    home-here e = sym (rw (← paired-key n ks vs us i l) ((rw next at (g .all e)) .0))
 
-    pub homing-starts : (all once : Bool) (vs us : List ℕ) → n ≤ 12 → Known h a all once (paired n ks vs us) → Homing once (replicate 12 0) all 0
-    homing-starts all once vs us few k =
-        record {
-          low = omega arith;
-          all = λ e. all-keys n ks vs us (k .0 e);
-          after = λ e. once-keys n ks vs us (k .1 e);
-          rest = row-starts (map (homeFor h) rs) (rw length-map (omega (arith, paired-length n ks [] [])));
-        }
+    module _ (home : ℕ) (is : home ≡ h (getD ks i 0)) where
+      -- what is known after it
+      known-on : (u : Bool) → here ≡ u → (v : Bool) → once ≡ v → (w : Bool) → eqb home a ≡ w → (u || (v && w)) ≡ true → AllHere h a (drop (suc i) rs)
+      known-on true e v f w q t = (rw next at (g .all e)) .1
+      known-on false e true f true q t = (rw next at (g .after f)) .0 (rw (paired-key n ks vs us i l, ← is) (eqb-true home a q))
+      known-on false e true f false q t = absurd (false≢true t)
+      known-on false e false f w q t = absurd (false≢true t)
 
-    module _ (once : Bool) (homes : List ℕ) (here : Bool) (i : ℕ) (l : i < n) (g : Homing once homes here i) where
-      -- record i is the first of those from i on
-      next : drop i rs ≡ getD rs i vacant ∷ drop (suc i) rs
-      next = drop-cons rs i vacant (omega (arith, paired-length n ks [] []))
+      pub homing-goes-on : Homing once (set homes i home) (here || (once && eqb home a)) (i + 1)
+      homing-goes-on =
+          record {
+            low = omega arith;
+            all = rw add-one (known-on here refl once refl (eqb home a) refl);
+            after = rw add-one (λ e. (rw next at (g .after e)) .1);
+            rest = rw add-one (rw (next, paired-key n ks vs us i l, ← is) at (g .rest));
+          }
 
-      -- where all are at home, so is record i
-      pub home-here : here ≡ true → a ≡ h (getD ks i 0)
-      home-here e = sym (rw (← paired-key n ks [] [] i l) ((rw next at (g .all e)) .0))
-
-      module _ (home : ℕ) (is : home ≡ h (getD ks i 0)) where
-        -- what is known after it
-        known-on : (u : Bool) → here ≡ u → (v : Bool) → once ≡ v → (w : Bool) → eqb home a ≡ w → (u || (v && w)) ≡ true → AllHere h a (drop (suc i) rs)
-        known-on true e v f w q t = (rw next at (g .all e)) .1
-        known-on false e true f true q t = (rw next at (g .after f)) .0 (rw (paired-key n ks [] [] i l, ← is) (eqb-true home a q))
-        known-on false e true f false q t = absurd (let z : _≡_ {A = ℕ} 0 1 = cc in omega arith)
-        known-on false e false f w q t = absurd (let z : _≡_ {A = ℕ} 0 1 = cc in omega arith)
-
-        pub homing-goes-on : Homing once (set homes i home) (here || (once && eqb home a)) (i + 1)
-        homing-goes-on =
-            record {
-              low = omega arith;
-              all = rw add-one (known-on here refl once refl (eqb home a) refl);
-              after = rw add-one (λ e. (rw next at (g .after e)) .1);
-              rest = rw add-one (rw (next, paired-key n ks [] [] i l, ← is) at (g .rest));
-            }
-
-    pub homing-ends : (once : Bool) (homes : List ℕ) (here : Bool) (i : ℕ) (vs us : List ℕ) → n ≤ i → Homing once homes here i
-        → homes ≡ padded (map (homeFor h) (paired n ks vs us))
-    homing-ends once homes here i vs us l g =
-        let z : drop i rs ≡ [] = drop-of-length-le rs {i = i} (omega (arith, paired-length n ks [] [])) in
-        rw (homes-keys n ks vs us) (rw z at (g .rest))
+  pub homing-ends : (once : Bool) (homes : List ℕ) (here : Bool) (i : ℕ) → n ≤ i → Homing once homes here i → homes ≡ padded (map (homeFor h) rs)
+  homing-ends once homes here i l g =
+      let z : drop i rs ≡ [] = drop-of-length-le rs {i = i} (omega (arith, paired-length n ks vs us)) in
+      rw z at (g .rest)

@@ -1,8 +1,8 @@
-// The homes of a page's records where most of them are known: after a check, a growth leaves nearly
-// all records at home on the page where they lie.
+// The new homes of a page's records, where most of them are known: on the pages of an image nearly
+// all records lie at home, and new homes may tell that all on a page stay.
 use crate::Page;
 use homes::Shape;
-use homes::Stage;
+use homes::new_homes::NewHomes;
 use layouts::IN_USE;
 use layouts::SLOTS;
 ghost use mathlib.Core.Path.{_≡_};
@@ -11,7 +11,7 @@ ghost use Prim.Native.Nat.{_+_, _*_, _≤_, _<_};
 ghost use lib.ListN.{length};
 ghost use Rattle.layouts.specs.Layout.{inUse};
 ghost use Rattle.homes.specs.Homes.{Ready, homeIn};
-ghost use Rattle.homes.specs.steps.Last.{Within, staysAt};
+ghost use Rattle.homes.specs.steps.NewHomes.{Usable, newHome};
 ghost use Rattle.pages.specs.Page.{homeFor, recordsIn, inMemory, padded};
 ghost use Rattle.pages.specs.steps.Slots.{recordsOf};
 ghost use Rattle.pages.specs.Area.{partAt};
@@ -24,12 +24,11 @@ fn homes_on(page: Page, a: u64, shape: Shape, all: bool, once: bool) -> [u64; 12
     ensures { λ r. ⌜ r ≡ padded (map (homeFor (homeIn shape)) (recordsOf page)) ⌝ }
 {
     let count = page.count;
-    let keys = page.keys;
     let mut homes = [0; 12];
     let mut here = all;
     let mut i = 0;
     while i < count {
-        let home = if here { a } else { shape.home(keys[i]) };
+        let home = if here { a } else { shape.home(page.keys[i]) };
         homes[i] = home;
         here = here | (once & (home == a));
         i += 1;
@@ -49,13 +48,13 @@ fn full_before(area: &[u8], a: usize) -> bool
     SLOTS <= crate::count_in(&area[at..at + 256], IN_USE)
 }
 
-// The homes of the records of page a, in a file that grew by the step `last`.
-pub fn homes_at(area: &[u8], a: usize, page: Page, shape: Shape, last: Stage) -> [u64; 12]
+// The new homes of the records of page a.
+pub fn homes_at(area: &[u8], a: usize, page: Page, new: NewHomes) -> [u64; 12]
     requires { ⌜ (a < 4096) × (256 * (a + 1) ≤ length (now area)) × (page ≡ inMemory (recordsIn inUse (partAt (now area) a))) ⌝ }
-    requires { ⌜ Ready shape × Within last × KnownAt inUse (homeIn shape) (staysAt shape last) (now area) a ⌝ }
-    ensures { λ r. ⌜ r ≡ padded (map (homeFor (homeIn shape)) (recordsIn inUse (partAt (now (area .entry)) a))) ⌝ }
+    requires { ⌜ Usable new × KnownAt inUse new (now area) a ⌝ }
+    ensures { λ r. ⌜ r ≡ padded (map (homeFor (newHome new)) (recordsIn inUse (partAt (now (area .entry)) a))) ⌝ }
 {
-    let stays = shape.stays(last, a as u64);
+    let keeps = new.keeps(a as u64);
     let full = full_before(area, a);
-    homes_on(page, a as u64, shape, stays & !full, stays)
+    homes_on(page, a as u64, new.shape, keeps & !full, keeps)
 }

@@ -1,7 +1,6 @@
 -- The turns of packing: a page's records downward from its last, and the pages downward from the
 -- last.
 use mathlib.Core.Path.{_≡_, refl, sym, ap, _∙_}
-use mathlib.Core.Bool.{Bool}
 use mathlib.Core.List.{List, [], _∷_, _++_, append-assoc, append-nil}
 use Prim.Native.Nat.{ℕ, zero, suc, _+_, _-_, _*_, _≤_, _<_}
 use native.Mathlib.Nat.{add-assoc, sub-self, sub-zero}
@@ -10,6 +9,7 @@ use lib.ListN.{length, take, drop, getD, length-append, length-take, length-drop
 use lib.Seq.{take-all, take-take, drop-at, take-append-le, drop-append-le, length-take-le, getD-drop}
 use Rattle.numbers.specs.Little.{written}
 use Rattle.numbers.proofs.Laws.{written-nil}
+use Rattle.homes.specs.declared.new_homes.NewHomes.{NewHomes}
 use Rattle.pages.specs.declared.Page.{Page}
 use Rattle.pages.specs.Page.{Record, recordWith, recordsIn, inMemory}
 use Rattle.pages.specs.steps.Slots.{paired, recordsOf}
@@ -124,9 +124,9 @@ module _ (h : ℕ → ℕ) (cap : ℕ) (l : List ℕ) (a at : ℕ) (m : List ℕ
       ∙ rw take-append-drop
 
   -- so what is known of it is known still
-  pub known-below : (stays : ℕ → Bool) → ((b : ℕ) → b < cap → KnownAt h stays l b) → (b : ℕ) → b < a → KnownAt h stays m b
-  known-below stays w zero k = rw (below-same 0 k) (w 0 (omega (arith, s .within)))
-  known-below stays w (suc b) k = rw (below-same (suc b) k, below-same b (omega arith)) (w (suc b) (omega (arith, s .within)))
+  pub known-below : (new : NewHomes) → ((b : ℕ) → b < cap → KnownAt new l b) → (b : ℕ) → b < a → KnownAt new m b
+  known-below new w zero k = rw (below-same 0 k) (w 0 (omega (arith, s .within)))
+  known-below new w (suc b) k = rw (below-same (suc b) k, below-same b (omega arith)) (w (suc b) (omega (arith, s .within)))
 
 -- rows written below those that stand at the end
 rows-below : (l v w : List ℕ) (at to : ℕ) → at ≤ length l → to + length v ≡ at → written (take at l ++ w) to v ≡ take to l ++ (v ++ w)

@@ -2,7 +2,7 @@
 // key), and laid on the pages from below.
 use entries::Entry;
 use homes::Shape;
-use homes::Stage;
+use homes::new_homes::NewHomes;
 use pages::Page;
 use pages::Record;
 ghost use mathlib.Core.Path.{_≡_};
@@ -13,7 +13,7 @@ ghost use lib.ListN.{length, take, drop};
 ghost use lib.Dec.{eqb};
 ghost use Rattle.numbers.specs.Little.{written};
 ghost use Rattle.homes.specs.Homes.{Ready, homeIn};
-ghost use Rattle.homes.specs.steps.Last.{Within, staysAt};
+ghost use Rattle.homes.specs.steps.NewHomes.{Usable, newHome};
 ghost use Rattle.placing.specs.Image.{RecordSet, cat};
 ghost use Rattle.placing.specs.Lay.{one, lay, taken};
 ghost use Rattle.placing.specs.Rows.{strayed};
@@ -69,19 +69,18 @@ fn pack_page(
 
 // All records of an area as entries at its top end, in the order of the pages; the answer is where
 // they begin. A page is read before entries may cover it.
-pub fn pack(area: &mut [u8], cap: usize, shape: Shape, last: Stage) -> usize
-    requires { ⌜ (cap ≤ 4096) × (length (now area) ≡ 256 * cap) × Ready shape ⌝ }
-    requires { ⌜ Within last × ((a : ℕ) → a < cap → KnownAt (homeIn shape) (staysAt shape last) (now area) a) ⌝ }
-    ensures { λ r. ⌜ r ≡ 256 * cap - 20 * length (packed (homeIn shape) cap (now (area .entry))) ⌝ }
-    ensures { λ r. ⌜ now (area .exit) ≡ take r (now (area .entry)) ++ rowBytes (packed (homeIn shape) cap (now (area .entry))) ⌝ }
+pub fn pack(area: &mut [u8], cap: usize, new: NewHomes) -> usize
+    requires { ⌜ (cap ≤ 4096) × (length (now area) ≡ 256 * cap) × Usable new × ((a : ℕ) → a < cap → KnownAt new (now area) a) ⌝ }
+    ensures { λ r. ⌜ r ≡ 256 * cap - 20 * length (packed (newHome new) cap (now (area .entry))) ⌝ }
+    ensures { λ r. ⌜ now (area .exit) ≡ take r (now (area .entry)) ++ rowBytes (packed (newHome new) cap (now (area .entry))) ⌝ }
 {
     let mut at = 256 * cap;
     let mut a = cap;
     while 0 < a {
         a -= 1;
         let page = pages::parse_at(&area[..], a);
-        let homes = pages::known::homes_at(&area[..], a, page, shape, last);
-        at = pack_page(area, page, homes, a, shape, at);
+        let homes = pages::known::homes_at(&area[..], a, page, new);
+        at = pack_page(area, page, homes, a, new.shape, at);
     }
     at
 }
@@ -143,15 +142,14 @@ pub fn unpack(area: &mut [u8], cap: usize, base: usize) -> u32
     moved
 }
 
-// The records of an area laid anew, in a file that grew by the step `last`; the answer is how many
-// lie on another page.
-pub fn rebuild(area: &mut [u8], cap: usize, shape: Shape, last: Stage) -> u32
-    requires { ⌜ (cap ≤ 4096) × (length (now area) ≡ 256 * cap) × Ready shape ⌝ }
-    requires { ⌜ Within last × ((a : ℕ) → a < cap → KnownAt (homeIn shape) (staysAt shape last) (now area) a) ⌝ }
-    requires { let held = cat (heldFrom (now area) cap 0) [] in ⌜ RecordSet key held × (taken (homeFor (homeIn shape)) 12 held cap ≡ length held) ⌝ }
-    ensures { λ r. let ps = heldFrom (now (area .entry)) cap 0 in let qs = relaid (homeIn shape) cap ps in ⌜ (r ≡ strayed key ps qs) × (now (area .exit) ≡ areaFrom 0 qs) ⌝ }
+// The records of an area laid anew, each at its new home; the answer is how many lie on another
+// page.
+pub fn rebuild(area: &mut [u8], cap: usize, new: NewHomes) -> u32
+    requires { ⌜ (cap ≤ 4096) × (length (now area) ≡ 256 * cap) × Usable new × ((a : ℕ) → a < cap → KnownAt new (now area) a) ⌝ }
+    requires { let held = cat (heldFrom (now area) cap 0) [] in ⌜ RecordSet key held × (taken (homeFor (newHome new)) 12 held cap ≡ length held) ⌝ }
+    ensures { λ r. let ps = heldFrom (now (area .entry)) cap 0 in let qs = relaid (newHome new) cap ps in ⌜ (r ≡ strayed key ps qs) × (now (area .exit) ≡ areaFrom 0 qs) ⌝ }
 {
-    let base = pack(area, cap, shape, last);
-    entries::sort_row(&mut area[base..], (shape.p - 1) as u16);
+    let base = pack(area, cap, new);
+    entries::sort_row(&mut area[base..], new.apart);
     unpack(area, cap, base)
 }

@@ -11,11 +11,11 @@ use lib.ListN.{length}
 use borrow.Author.Tests.{eqb-true, eq-eqb}
 use Rattle.numbers.specs.Little.{Bytes}
 use Rattle.homes.specs.declared.Shape.{Shape}
-use Rattle.homes.specs.declared.Stage.{Stage}
+use Rattle.homes.specs.declared.new_homes.NewHomes.{NewHomes}
 use Rattle.homes.specs.Homes.{firstPages, shapeOf, homeIn}
-use Rattle.homes.specs.steps.Last.{staysAt}
+use Rattle.homes.specs.steps.NewHomes.{newHome, Agrees}
 use Rattle.homes.proofs.Homes.{home-below}
-use Rattle.homes.proofs.Last.{home-stays, home-stayed}
+use Rattle.homes.proofs.Keeping.{agrees}
 use Rattle.placing.specs.Image.{All, cat, RecordSet, Room}
 use Rattle.placing.specs.Lay.{taken}
 use Rattle.placing.specs.Rows.{leftOver, strayed}
@@ -50,16 +50,14 @@ held-set s area b l e =
     let k : GoodFile s area = open-good s area e in
     image-set (homes s) (heldFrom area (s .cap) 0) (k .image) (good-pages (homes s) area b (s .cap) 0 (omega arith) (k .whole))
 
--- what holds of every record holds of all
-all-of : (P : Record → Type 0) → ((x : Record) → P x) → (rs : List Record) → All P rs
-all-of P f [] = tt
-all-of P f (x ∷ rs) = (f x, all-of P f rs)
-
 -- the counts are as many as the area has pages
 pub counts-many : (s : State) (area row : List ℕ) → row ≡ grownCounts s area → length row ≡ s .cap
 counts-many s area row e = ap length e ∙ counts-length (homeFor (homes (grown s))) (cat (heldFrom area (s .cap) 0) []) (s .cap) 0
 
--- a file of one page more: its state and its shape
+-- a file of one page more: its shape and its state
+pub grown-shape : (s next : State) → next ≡ grown s → (shape : Shape) → shape ≡ shapeOf (next .params) (next .p) → shape ≡ shapeOf (s .params) (s .p + 1)
+grown-shape s next e shape of = of ∙ rw e
+
 module _ (s : State) (range : inRange s ≡ true) (low : s .p < s .cap) where
   pub grown-low : s .p < 4096
   grown-low = let r : Ranged s = ranged s range in omega arith
@@ -68,49 +66,39 @@ module _ (s : State) (range : inRange s ≡ true) (low : s .p < s .cap) where
   grown-in next e = rw e (grown-range s range low)
 
   -- it has steps to take
-  pub steps-left : (next : State) → next ≡ grown s → (shape : Shape) → shape ≡ shapeOf (next .params) (next .p) → firstPages (shape .params) < shape .p
-  steps-left next more shape of = rw (of, more) (let r : Ranged s = ranged s range in omega (arith, r .p-low))
+  pub steps-left : (shape : Shape) → shape ≡ shapeOf (s .params) (s .p + 1) → firstPages (shape .params) < shape .p
+  steps-left shape of = rw of (omega (arith, ranged s range .p-low))
 
-  module _ {next : State} {shape : Shape} {last : Stage} (m : OnePageMore s next shape last) where
-    grown-shape : shape ≡ shapeOf (s .params) (s .p + 1)
-    grown-shape = rw (m .shaped, m .grows)
-
+  module _ {new : NewHomes} (m : OnePageMore s new) where
     -- its homes are those of the grown state
-    same-homes : homeIn shape ≡ homes (grown s)
-    same-homes = rw grown-shape
+    same-homes : newHome new ≡ homes (grown s)
+    same-homes = rw (m .shaped)
 
-    -- on a page that stays, a record has its home before exactly where it has it after
-    same-page : (k a : ℕ) → staysAt shape last a ≡ true → (homes s k ≡ a → homeIn shape k ≡ a) × (homeIn shape k ≡ a → homes s k ≡ a)
-    same-page k a on =
-        let at = rw (m .steps, grown-shape) at on in (
-          λ e. rw grown-shape (home-stays (s .params) (s .p) k a (in-shape s range) at e),
-          λ e. home-stayed (s .params) (s .p) k a _ (in-shape s range) at (rw grown-shape at e),
-        )
+    same-page : Agrees (homes s) new
+    same-page = agrees (shapeOf (s .params) (s .p)) new (in-shape s range) (m .follows)
 
     -- so its homes may be counted in a row of all pages, if those before were of the file as it was
-    pub countable : (old : Shape) → old ≡ shapeOf (s .params) (s .p) → (n : ℕ) → n ≡ s .cap → Countable (Homes shape last) (λ k a. homeIn old k ≡ a) n
+    pub countable : (old : Shape) → old ≡ shapeOf (s .params) (s .p) → (n : ℕ) → n ≡ s .cap → Countable (Homes new) (λ k a. homeIn old k ≡ a) n
     countable old f n l =
         let r : Ranged s = ranged s range in
-        let p : shape .p ≡ s .p + 1 = rw grown-shape in
-        (m .ready, omega arith, omega (arith, r .cap-high), m .within, λ k a e on. same-page k a on .0 (rw f at e))
+        let p : new .shape .p ≡ s .p + 1 = rw (m .shaped) in
+        (m .usable, omega arith, omega (arith, r .cap-high), λ k a e on. same-page k a on .0 (rw f at e))
 
     -- and past the gate of the pages the counts are those of the growth
-    pub open-counts : (area row : List ℕ) (n : ℕ) → n ≡ s .cap → (v : Verdict) → imageOf s v ≡ Open → Counts v (Homes shape last) (cat (heldFrom area (s .cap) 0) []) n row
+    pub open-counts : (area row : List ℕ) (n : ℕ) → n ≡ s .cap → (v : Verdict) → imageOf s v ≡ Open → Counts v (Homes new) (cat (heldFrom area (s .cap) 0) []) n row
         → row ≡ grownCounts s area
-    open-counts area row n l v e k = rw (l, same-homes) at (open-counted s v shape last (cat (heldFrom area (s .cap) 0) []) n row e k)
+    open-counts area row n l v e k = rw (l, same-homes) at (open-counted s v new (cat (heldFrom area (s .cap) 0) []) n row e k)
 
     -- what is known of the homes on its pages, if they are an image for the file as it was
-    pub grown-known : (area : List ℕ) → Bytes area → length area ≡ 256 * s .cap → imageGate s area ≡ Open → (a : ℕ) → a < s .cap → KnownAt (homeIn shape) (staysAt shape last) area a
+    pub grown-known : (area : List ℕ) → Bytes area → length area ≡ 256 * s .cap → imageGate s area ≡ Open → (a : ℕ) → a < s .cap → KnownAt new area a
     grown-known area b l e =
         let k : GoodFile s area = open-good s area e in
-        image-known (homes s) (homeIn shape) (staysAt shape last) same-page area (s .cap) (good-pages (homes s) area b (s .cap) 0 (omega arith) (k .whole)) (k .image)
+        image-known (homes s) new same-page area (s .cap) (good-pages (homes s) area b (s .cap) 0 (omega arith) (k .whole)) (k .image)
 
   -- all homes after are pages of the area
   homes-low : (rs : List Record) → All (λ x. homeFor (homes (grown s)) x < s .cap) rs
-  homes-low rs =
-      all-of (λ x. homeFor (homes (grown s)) x < s .cap)
-      (λ x. omega (arith, home-below (s .params) (s .p + 1) (key x) (in-shape (grown s) (grown-range s range low))))
-      rs
+  homes-low [] = tt
+  homes-low (x ∷ rs) = (omega (arith, home-below (s .params) (s .p + 1) (key x) (in-shape (grown s) (grown-range s range low))), homes-low rs)
 
   -- so the counts tell whether the pages can take all
   row-takes : (area : List ℕ)
@@ -136,16 +124,16 @@ module _ (s : State) (range : inRange s ≡ true) (low : s .p < s .cap) where
     unfolding grownFile
     grow-full e = rw (decided, e) (refl, (refl, filled))
 
-    module _ (yes : room ≡ true) {next : State} {shape : Shape} {last : Stage} (m : OnePageMore s next shape last) where
+    module _ (yes : room ≡ true) {new : NewHomes} (m : OnePageMore s new) where
       -- with room a rebuild may go on
-      pub takes-all : taken (homeFor (homeIn shape)) 12 (cat (heldFrom area (s .cap) 0) []) (s .cap) ≡ length (cat (heldFrom area (s .cap) 0) [])
+      pub takes-all : taken (homeFor (newHome new)) 12 (cat (heldFrom area (s .cap) 0) []) (s .cap) ≡ length (cat (heldFrom area (s .cap) 0) [])
       takes-all = rw (same-homes m) (eqb-true _ _ (decided ∙ yes))
 
       -- and makes the file anew
-      pub grow-done : (moved : ℕ) → moved ≡ strayed key (heldFrom area (s .cap) 0) (relaid (homeIn shape) (s .cap) (heldFrom area (s .cap) 0))
-          → (new : List ℕ) → new ≡ areaFrom 0 (relaid (homeIn shape) (s .cap) (heldFrom area (s .cap) 0))
-          → Grows (done next (Accepted 0 (s .cap) moved)) new row (grownFile s area)
+      pub grow-done : (moved : ℕ) → moved ≡ strayed key (heldFrom area (s .cap) 0) (relaid (newHome new) (s .cap) (heldFrom area (s .cap) 0))
+          → (made : List ℕ) → made ≡ areaFrom 0 (relaid (newHome new) (s .cap) (heldFrom area (s .cap) 0)) → (next : State) → next ≡ grown s
+          → Grows (done next (Accepted 0 (s .cap) moved)) made row (grownFile s area)
       unfolding grownFile
-      grow-done moved k new n =
+      grow-done moved k made n next g =
           let h = same-homes m in
-          rw (decided, yes) (rw (m .grows, k, h), (n ∙ rw h, filled))
+          rw (decided, yes) (rw (g, k, h), (n ∙ rw h, filled))

@@ -1,14 +1,17 @@
 // A growth past its entry: the pages are judged and the homes counted, the counts decide, and the
 // file is made anew.
 use gates::Gate;
-use homes::Shape;
-use homes::Stage;
+use homes::new_homes::NewHomes;
+use homes::new_homes::Stays;
 use state::Answer;
 use state::Done;
 use state::State;
 use survey::Count;
 ghost use mathlib.Core.Path.{_≡_};
+ghost use mathlib.Core.Bool.{true};
+ghost use Prim.Native.Nat.{_<_};
 ghost use lib.ListN.{length};
+ghost use Rattle.state.specs.State.{inRange};
 ghost use Rattle.gates.specs.declared.Gate.the-variants.{Open};
 ghost use Rattle.gates.specs.steps.Past.{EnteredToGrow};
 ghost use Rattle.register.specs.steps.Past.{OpenToGrow, OnePageMore, grewEntered};
@@ -26,18 +29,26 @@ fn fill_row(row: &mut [u32], counts: &[u32])
     }
 }
 
+// The homes in the file of one page more. They stay on the pages that the step leaves by which that
+// page is added; records that go to it stand apart.
+fn homes_after(state: State) -> NewHomes
+    requires { ⌜ (inRange state ≡ true) × (state .p < state .cap) ⌝ }
+    ensures { λ r. ⌜ OnePageMore state r ⌝ }
+{
+    let next = state.grown();
+    let shape = next.shape();
+    let last = shape.last_step();
+    NewHomes {
+        shape,
+        stays: Stays::Grown { last },
+        apart: state.p,
+    }
+}
+
 // A growth of an image to a file of one page more, with the counts of its records' homes there: the
 // row is filled and decides whether there is room; then the file is made anew in its own area.
-fn grow_image(
-    state: State,
-    next: State,
-    shape: Shape,
-    last: Stage,
-    area: &mut [u8],
-    row: &mut [u32],
-    counts: &[u32],
-) -> Done
-    requires { ⌜ OpenToGrow state (now area) (length (now row)) Open × (now counts ≡ grownCounts state (now area)) × OnePageMore state next shape last ⌝ }
+fn grow_image(state: State, new: NewHomes, area: &mut [u8], row: &mut [u32], counts: &[u32]) -> Done
+    requires { ⌜ OpenToGrow state (now area) (length (now row)) Open × (now counts ≡ grownCounts state (now area)) × OnePageMore state new ⌝ }
     ensures { λ r. let o = grownFile state (now (area .entry)) in ⌜ (r ≡ o .done) × ((now (area .exit) ≡ o .area) × (now (row .exit) ≡ o .row)) ⌝ }
 {
     let cap = state.cap as usize;
@@ -48,14 +59,14 @@ fn grow_image(
             answer: Answer::NoRoom { read: cap as u32 },
         };
     }
-    let moved = rebuild::rebuild(area, cap, shape, last);
+    let moved = rebuild::rebuild(area, cap, new);
     let answer = Answer::Accepted {
         value: 0,
         read: cap as u32,
         moved,
     };
     Done {
-        state: next,
+        state: state.grown(),
         answer,
     }
 }
@@ -68,15 +79,13 @@ fn grow_counting(state: State, area: &mut [u8], row: &mut [u32], counts: &mut [u
 {
     let cap = state.cap as usize;
     let old = state.shape();
-    let next = state.grown();
-    let shape = next.shape();
-    let last = shape.last_step();
-    let count = Count::Homes { next: shape, last };
+    let new = homes_after(state);
+    let count = Count::Homes { new };
     let verdict = survey::survey(&area[..], cap, old, count, counts);
     let gate = gates::image_of(state, verdict);
     match gate {
         Gate::Shut { why } => Done { state, answer: why },
-        Gate::Open => grow_image(state, next, shape, last, area, row, &counts[..]),
+        Gate::Open => grow_image(state, new, area, row, &counts[..]),
     }
 }
 

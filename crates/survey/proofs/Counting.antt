@@ -1,7 +1,7 @@
 -- The records counted by home: one by one on a page, page by page in an area; and what the counts
 -- leave over.
 use mathlib.Core.Path.{_≡_, refl, sym, ap, _∙_}
-use mathlib.Core.Bool.{Bool, true, false, cond}
+use mathlib.Core.Bool.{Bool, true, false, cond, false≢true}
 use mathlib.Core.Option.{some}
 use mathlib.Core.List.{List, [], _∷_, _++_, map, append-nil, map-append, map-map}
 use Prim.Native.Nat.{ℕ, suc, _+_, _*_, _-_, _≤_, _<_}
@@ -11,12 +11,10 @@ use native.Mathlib.Omega.{arith}
 use lib.Dec.{ltb, eqb}
 use lib.ListN.{length, getD, set, take, drop, replicate, length-take, length-set, length-replicate, getD-replicate, length-append, length-drop, length-map, List·getD-eq-default}
 use lib.Seq.{getD-set-same, getD-set-other, take-append-seam, take-suc, drop-cons, drop-length, ext-getD}
-use borrow.Author.Tests.{le-ltb, ltb-true, ltb-false, eqb-true, eqb-false}
+use borrow.Author.Tests.{ltb-true, ltb-false, eqb-true, eqb-false}
 use borrow.Author.Fill.{fill-more}
-use Rattle.homes.specs.declared.Shape.{Shape}
-use Rattle.homes.specs.declared.Stage.{Stage}
-use Rattle.homes.specs.Homes.{homeIn}
-use Rattle.homes.specs.steps.Last.{staysAt}
+use Rattle.homes.specs.declared.new_homes.NewHomes.{NewHomes}
+use Rattle.homes.specs.steps.NewHomes.{newHome, keepsAt}
 use Rattle.placing.specs.Image.{cat}
 use Rattle.placing.specs.Lay.{one}
 use Rattle.placing.specs.Rows.{atHome, counts, leftOver}
@@ -77,48 +75,39 @@ tally-le hs row k = go (ltb k (length row)) refl
     go true e = omega (arith, tally-at hs row k (ltb-true k (length row) e), count-le (λ j. eqb j k) hs)
     go false e = rw (List·getD-eq-default (tallied hs row) 0 {n = k} (omega (arith, tally-length hs row, ltb-false k (length row) e))) (omega arith)
 
-module _ (next : Shape) (last : Stage) where
-  -- a page beyond the last doesn't stay
-  beyond : false ≡ staysAt next last (next .p)
-  unfolding staysAt
-  beyond = sym (rw (le-ltb (next .p) (next .p - 1) (omega arith)))
+-- the new home of a key: the old one, where its page is known to keep it, and else worked out
+pub new-home : (new : NewHomes) (k : ℕ) {x old seen : ℕ} {keeps : Bool} → seen ≡ old → (keeps ≡ true → keepsAt new seen ≡ true)
+    → (keepsAt new old ≡ true → newHome new k ≡ old) → x ≡ cond keeps old (newHome new k) → x ≡ newHome new k
+new-home new k {keeps = true} s a same e = e ∙ sym (same (rw s at (a refl)))
+new-home new k {keeps = false} s a same e = e
 
-  -- the home of a key after a growth: kept, where the page stays that it was, and else worked out
-  pub new-home : (k : ℕ) {x old seen : ℕ} {stays : Bool} → seen ≡ old → stays ≡ staysAt next last seen → (staysAt next last old ≡ true → homeIn next k ≡ old)
-      → x ≡ cond stays old (homeIn next k) → x ≡ homeIn next k
-  new-home k {x} {old} {seen} {stays} s a keeps e = go stays (sym (a ∙ ap (staysAt next last) s)) e
-    where
-      go : (u : Bool) → staysAt next last old ≡ u → x ≡ cond u old (homeIn next k) → x ≡ homeIn next k
-      go true on q = q ∙ sym (keeps on)
-      go false on q = q
+-- the first i of n keys are counted, and page `seen` is known to keep its keys, where that is said
+pub record Tallied (new : NewHomes) (n : ℕ) (keys row₀ row : List ℕ) (seen : ℕ) (keeps : Bool) (i : ℕ) : Type 0 where
+  pub low : i ≤ n
+  pub asked : keeps ≡ true → keepsAt new seen ≡ true
+  pub done : row ≡ tallied (map (newHome new) (take i keys)) row₀
 
-  -- the first i of n keys are counted, and what page `seen` says is known
-  pub record Tallied (n : ℕ) (keys row₀ row : List ℕ) (seen : ℕ) (stays : Bool) (i : ℕ) : Type 0 where
-    pub low : i ≤ n
-    pub asked : stays ≡ staysAt next last seen
-    pub done : row ≡ tallied (map (homeIn next) (take i keys)) row₀
+pub tally-starts : (new : NewHomes) (n : ℕ) (keys row : List ℕ) (seen : ℕ) → Tallied new n keys row row seen false 0
+tally-starts new n keys row seen = record { low = omega arith; asked = λ e. absurd (false≢true e); done = refl }
 
-  pub tally-starts : (n : ℕ) (keys row : List ℕ) → Tallied n keys row row (next .p) false 0
-  tally-starts n keys row = record { low = omega arith; asked = beyond; done = refl }
-
-module _ {next : Shape} {last : Stage} {n : ℕ} {keys row₀ row : List ℕ} {seen : ℕ} {stays : Bool} {i : ℕ} (t : Tallied next last n keys row₀ row seen stays i) where
+module _ {new : NewHomes} {n : ℕ} {keys row₀ row : List ℕ} {seen : ℕ} {keeps : Bool} {i : ℕ} (t : Tallied new n keys row₀ row seen keeps i) where
   pub part-length : length row ≡ length row₀
-  part-length = ap length (t .done) ∙ tally-length (map (homeIn next) (take i keys)) row₀
+  part-length = ap length (t .done) ∙ tally-length (map (newHome new) (take i keys)) row₀
 
   pub part-le : (k : ℕ) → getD row k 0 ≤ getD row₀ k 0 + i
   part-le k =
-      let hs : List ℕ = map (homeIn next) (take i keys) in
-      rw (t .done) (omega (arith, tally-le hs row₀ k, length-map (take i keys) (homeIn next), length-take i keys))
+      let hs : List ℕ = map (newHome new) (take i keys) in
+      rw (t .done) (omega (arith, tally-le hs row₀ k, length-map (take i keys) (newHome new), length-take i keys))
 
-  pub tally-goes-on : {x seen′ : ℕ} {stays′ : Bool} → i < n → i < length keys → stays′ ≡ staysAt next last seen′ → x ≡ homeIn next (getD keys i 0)
-      → Tallied next last n keys row₀ (set row x (getD row x 0 + 1)) seen′ stays′ (i + 1)
+  pub tally-goes-on : {x seen′ : ℕ} {keeps′ : Bool} → i < n → i < length keys → (keeps′ ≡ true → keepsAt new seen′ ≡ true) → x ≡ newHome new (getD keys i 0)
+      → Tallied new n keys row₀ (set row x (getD row x 0 + 1)) seen′ keeps′ (i + 1)
   tally-goes-on l m a e =
-      let hs : List ℕ = map (homeIn next) (take i keys) in
+      let hs : List ℕ = map (newHome new) (take i keys) in
       let k : ℕ = getD keys i 0 in
       record {
         low = omega arith;
         asked = a;
-        done = rw (add-one i, take-suc keys i 0 m, map-append (homeIn next) (take i keys) (k ∷ []), tally-append hs (homeIn next k ∷ []) row₀, ← t .done, e);
+        done = rw (add-one i, take-suc keys i 0 m, map-append (newHome new) (take i keys) (k ∷ []), tally-append hs (newHome new k ∷ []) row₀, ← t .done, e);
       }
 
 -- a page has as many keys as it says
@@ -131,18 +120,13 @@ page-keys : (p : Page) (rs : List Record) → p ≡ inMemory rs → take (p .cou
 unfolding inMemory
 page-keys p rs e = rw (e, ← length-map rs key) (take-append-seam (map key rs) _)
 
-module _ (count : Count) (next : Shape) (last : Stage) (is : count ≡ Homes next last) where
-  -- what is known where homes are counted
-  pub countable-homes : (had : ℕ → ℕ → Type 0) (n : ℕ) → Countable count had n → Countable (Homes next last) had n
-  countable-homes had n k = rw is at k
-
-  -- all keys of a page counted are its records counted
-  pub tally-ends : (p : Page) {row₀ row : List ℕ} {seen : ℕ} {stays : Bool} {i : ℕ} → Tallied next last (p .count) (p .keys) row₀ row seen stays i
-      → p .count ≤ i → p ≡ inMemory (recordsOf p) → row ≡ tallied (homesOf count (recordsOf p)) row₀
-  tally-ends p {i = i} t l e =
-      let n : i ≡ p .count = omega (arith, t .low) in
-      let rs : List Record = recordsOf p in
-      t .done ∙ rw (n, page-keys p rs e, map-map (homeIn next) key rs, is)
+-- all keys of a page counted are its records counted
+pub tally-ends : (count : Count) (new : NewHomes) → count ≡ Homes new → (p : Page) {row₀ row : List ℕ} {seen : ℕ} {keeps : Bool} {i : ℕ}
+    → Tallied new (p .count) (p .keys) row₀ row seen keeps i → p .count ≤ i → p ≡ inMemory (recordsOf p) → row ≡ tallied (homesOf count (recordsOf p)) row₀
+tally-ends count new is p {i = i} t l e =
+    let n : i ≡ p .count = omega (arith, t .low) in
+    let rs : List Record = recordsOf p in
+    t .done ∙ rw (n, page-keys p rs e, map-map (newHome new) key rs, is)
 
 module _ {R : Type 0} (home : R → ℕ) where
   -- to count records by their homes is to count their homes
@@ -168,11 +152,11 @@ module _ {R : Type 0} (home : R → ℕ) where
 -- of two lists of records the homes of the one are counted, and then those of the other
 homes-append : (count : Count) (rs ss : List Record) → homesOf count (rs ++ ss) ≡ homesOf count rs ++ homesOf count ss
 homes-append Nothing rs ss = refl
-homes-append (Homes next last) rs ss = map-append (homeFor (homeIn next)) rs ss
+homes-append (Homes new) rs ss = map-append (homeFor (newHome new)) rs ss
 
 homes-few : (count : Count) (rs : List Record) → length (homesOf count rs) ≤ length rs
 homes-few Nothing rs = omega arith
-homes-few (Homes next last) rs = omega (arith, length-map rs (homeFor (homeIn next)))
+homes-few (Homes new) rs = omega (arith, length-map rs (homeFor (newHome new)))
 
 -- the pages below a are counted, and those from a on are left to tally
 pub record ToCount (count : Count) (area : List ℕ) (cap n : ℕ) (row : List ℕ) (a : ℕ) : Type 0 where
@@ -210,7 +194,7 @@ module _ {count : Count} {area : List ℕ} {cap n : ℕ} {row : List ℕ} {a : �
 
       go : (k : Count) → tallied (homesOf k []) row ≡ tallied (homesOf k rs) (replicate m 0) → Counts (Whole image records) k rs m row
       go Nothing e = tt
-      go (Homes next last) e = e ∙ tally-counts (homeFor (homeIn next)) rs m
+      go (Homes new) e = e ∙ tally-counts (homeFor (newHome new)) rs m
 
 -- a page that was judged, with its records
 module _ (h : ℕ → ℕ) (j : Judged) (rs : List Record) (e : j ≡ judged h (some rs)) where
@@ -231,7 +215,7 @@ module _ (h : ℕ → ℕ) (j : Judged) (rs : List Record) (e : j ≡ judged h (
   -- so they may be counted, if all records may
   pub page-countable : (count : Count) (m n : ℕ) → m ≡ n → Countable count (λ k a. h k ≡ a) n → Countable count (Stands j) m
   page-countable Nothing m n l w = tt
-  page-countable (Homes next last) m n l w = rw l (w .0, w .1, w .2, w .3, λ k a s. w .4 k a (stands-home k a s))
+  page-countable (Homes new) m n l w = rw l (w .0, w .1, w .2, λ k a s. w .3 k a (stands-home k a s))
 
 -- what the counts from i on leave over
 pub over-goes-on : (row : List ℕ) (i x y : ℕ) → i < length row → y ≡ x + getD row i 0 - 12 → leftOver 12 (drop (i + 1) row) y ≡ leftOver 12 (drop i row) x

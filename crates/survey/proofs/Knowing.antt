@@ -1,11 +1,13 @@
--- What is known of the homes after a growth on pages that were an image before it.
+-- What is known of new homes on pages that are an image for the old ones.
 use mathlib.Core.Path.{_≡_, refl}
-use mathlib.Core.Bool.{Bool, true, false, not, _&&_}
+use mathlib.Core.Bool.{Bool, true, false, not, _&&_, false≢true}
 use mathlib.Core.Logic.{⊎-elim}
 use mathlib.Core.List.{List, [], _∷_}
 use Prim.Native.Nat.{ℕ, zero, suc, _+_, _≤_, _<_}
 use native.Mathlib.Omega.{arith}
 use borrow.Author.Tests.{leb-true, le-leb}
+use Rattle.homes.specs.declared.new_homes.NewHomes.{NewHomes}
+use Rattle.homes.specs.steps.NewHomes.{newHome, keepsAt, Agrees}
 use Rattle.homes.proofs.New.{split}
 use Rattle.placing.specs.Image.{All}
 use Rattle.placing.specs.Lay.{rankIn}
@@ -37,19 +39,18 @@ module _ (h : ℕ → ℕ) (a : ℕ) where
       let l : a ≤ h (key x) = leb-true a (h (key x)) e in
       (omega (arith, t .0), all-after x p l s (t .1))
 
--- h are the homes before, g those after; on a page that stays, a record has its home before exactly
--- where it has it after
-module _ (h g : ℕ → ℕ) (stays : ℕ → Bool) (same : (k a : ℕ) → stays a ≡ true → (h k ≡ a → g k ≡ a) × (g k ≡ a → h k ≡ a)) where
-  module _ (a : ℕ) (on : stays a ≡ true) where
-    all-still : (p : List Record) → AllHere h a p → AllHere g a p
-    all-still p k = all-map (λ x. h (key x) ≡ a) (λ x. g (key x) ≡ a) (λ x e. same (key x) a on .0 e) p k
+-- h are the old homes, with which the new ones agree
+module _ (h : ℕ → ℕ) (new : NewHomes) (same : Agrees h new) where
+  module _ (a : ℕ) (on : keepsAt new a ≡ true) where
+    all-still : (p : List Record) → AllHere h a p → AllHere (newHome new) a p
+    all-still p k = all-map (λ x. h (key x) ≡ a) (λ x. newHome new (key x) ≡ a) (λ x e. same (key x) a on .0 e) p k
 
-    once-still : (p : List Record) → OnceHere h a p → OnceHere g a p
+    once-still : (p : List Record) → OnceHere h a p → OnceHere (newHome new) a p
     once-still [] k = tt
     once-still (x ∷ p) k = (λ e. all-still p (k .0 (same (key x) a on .1 e)), once-still p (k .1))
 
   -- what is known of a page that keeps its rules and begins rightly after the page before it
-  page-known : (full : Bool) (a : ℕ) (p : List Record) → GoodPage h a p → startsAtHome h full a p ≡ true → Known g a (stays a && not full) (stays a) p
+  page-known : (full : Bool) (a : ℕ) (p : List Record) → GoodPage h a p → startsAtHome h full a p ≡ true → Known (newHome new) a (keepsAt new a && not full) (keepsAt new a) p
   page-known full a p k e = (λ t. go full e t, λ t. once-still a t p (once-here h a p sorted low))
     where
       sorted : Sorted (rankIn key h) p
@@ -58,14 +59,14 @@ module _ (h g : ℕ → ℕ) (stays : ℕ → Bool) (same : (k a : ℕ) → stay
       low : All (λ y. h (key y) ≤ a) p
       low = homes-all h a p (k .homes)
 
-      go : (f : Bool) → startsAtHome h f a p ≡ true → (stays a && not f) ≡ true → AllHere g a p
-      go true q t = absurd (let u : false ≡ true = and-right (stays a) false t in let z : _≡_ {A = ℕ} 0 1 = cc in omega arith)
-      go false q t = all-still a (and-left (stays a) true t) p (all-here h a p q sorted low)
+      go : (f : Bool) → startsAtHome h f a p ≡ true → (keepsAt new a && not f) ≡ true → AllHere (newHome new) a p
+      go true q t = absurd (false≢true (and-right (keepsAt new a) false t))
+      go false q t = all-still a (and-left (keepsAt new a) true t) p (all-here h a p q sorted low)
 
   module _ (area : List ℕ) where
     -- so it is for all pages from a on
     known-from : (n a low b : ℕ) → GoodFrom h a (heldFrom area n a) → imageFrom h (fullBefore area a) low a (heldFrom area n a) ≡ true
-        → a ≤ b → b < a + n → KnownAt g stays area b
+        → a ≤ b → b < a + n → KnownAt new area b
     known-from zero a low b k e l m = absurd (omega arith)
     known-from (suc n) a low b k e l m =
         let p : List Record = recordsIn (partAt area a) in
@@ -85,6 +86,6 @@ module _ (h g : ℕ → ℕ) (stays : ℕ → Bool) (same : (k a : ℕ) → stay
         begins (x ∷ p) = le-leb 0 (h (key x)) (omega arith)
 
     -- and for every page of an image
-    pub image-known : (n : ℕ) → GoodFrom h 0 (heldFrom area n 0) → isImage h (heldFrom area n 0) ≡ true → (b : ℕ) → b < n → KnownAt g stays area b
+    pub image-known : (n : ℕ) → GoodFrom h 0 (heldFrom area n 0) → isImage h (heldFrom area n 0) ≡ true → (b : ℕ) → b < n → KnownAt new area b
     unfolding isImage
     image-known n k e b l = known-from n 0 0 b k (from-none (heldFrom area n 0) e) (omega arith) (omega arith)

@@ -1,7 +1,7 @@
 // Looks at all pages of an area: whether they are an image, and how many records there are of each
 // home.
 use homes::Shape;
-use homes::Stage;
+use homes::new_homes::NewHomes;
 use pages::Judged;
 ghost use mathlib.Core.Path.{_≡_};
 ghost use mathlib.Core.List.{[]};
@@ -25,11 +25,10 @@ pub enum Verdict {
     Whole { image: bool, records: u32 },
 }
 
-// What is counted while the pages are judged: nothing, or the records of each home in the file as
-// it grew by the step `last`.
+// What is counted while the pages are judged: nothing, or the records of each new home.
 pub enum Count {
     Nothing,
-    Homes { next: Shape, last: Stage },
+    Homes { new: NewHomes },
 }
 
 // What has been seen of the pages so far: whether they may be an image, whether the last of them is
@@ -101,31 +100,32 @@ fn clear(row: &mut [u32])
     }
 }
 
-// The records of a judged page, counted by their homes in the file as it grew, if that is wanted. A
-// home whose page stays is kept, and what that page says is asked for once; others are worked out.
+// The records of a judged page, counted by their new homes, if that is wanted. Where a page keeps
+// its keys their homes are known, and that is asked once for a run of them; others are worked out.
 fn tally(judged: Judged, count: Count, row: &mut [u32])
     requires { ⌜ (judged .page .count ≤ 12) × (judged .page ≡ inMemory (recordsOf (judged .page))) × ((k : ℕ) → getD (now row) k 0 ≤ 49152) ⌝ }
     requires { ⌜ Countable count (Stands judged) (length (now row)) ⌝ }
     ensures { λ _. ⌜ now (row .exit) ≡ tallied (homesOf count (recordsOf (judged .page))) (now (row .entry)) ⌝ }
 {
-    let Count::Homes { next, last } = count else {
+    let Count::Homes { new } = count else {
         return;
     };
+    let shape = new.shape;
     let homes = judged.homes;
     let page = judged.page;
     let held = page.count;
     let keys = page.keys;
-    let mut seen = next.p;
-    let mut stays = false;
+    let mut seen = shape.p;
+    let mut keeps = false;
     let mut i = 0;
     while i < held {
         let old = homes[i];
         if old != seen {
-            stays = next.stays(last, old);
+            keeps = new.keeps(old);
             seen = old;
         }
-        let new = if stays { old } else { next.home(keys[i]) };
-        let home = new as usize;
+        let to = if keeps { old } else { shape.home(keys[i]) };
+        let home = to as usize;
         row[home] = row[home] + 1;
         i += 1;
     }

@@ -8,6 +8,8 @@ use lib.ListN.{length}
 use lib.Dec.{leb}
 use Rattle.layouts.specs.declared.Layout.{Layout}
 use Rattle.layouts.specs.Layout.{slotsOf}
+use Rattle.homes.specs.declared.new_homes.NewHomes.{NewHomes}
+use Rattle.homes.specs.steps.NewHomes.{newHome, keepsAt}
 use Rattle.placing.specs.Image.{All}
 use Rattle.pages.specs.Page.{Record, key, recordsIn}
 use Rattle.pages.specs.Area.{partAt}
@@ -31,7 +33,7 @@ abbrev pub fullBefore : Layout → List ℕ → ℕ → Bool
 fullBefore f area zero = false
 fullBefore f area (suc b) = leb (slotsOf f) (length (recordsIn f (partAt area b)))
 
--- what is known of page a of an area, if it is one of the pages whose records stay: after a page
--- that isn't full, all are at home
-abbrev pub KnownAt : Layout → (ℕ → ℕ) → (stays : ℕ → Bool) → List ℕ → ℕ → Type 0
-KnownAt f h stays area a = Known h a (stays a && not (fullBefore f area a)) (stays a) (recordsIn f (partAt area a))
+-- what is known of page a of an area for new homes, if it is one of the pages that keep their keys:
+-- after a page that isn't full, all are at home
+abbrev pub KnownAt : Layout → NewHomes → List ℕ → ℕ → Type 0
+KnownAt f new area a = Known (newHome new) a (keepsAt new a && not (fullBefore f area a)) (keepsAt new a) (recordsIn f (partAt area a))

@@ -4,8 +4,7 @@ use mathlib.Core.Path.{sym, _∙_}
 use Prim.Native.Nat.{_-_}
 use native.Mathlib.Omega.{arith}
 use borrow.Author.Needs.{needs}
-use Rattle.homes.specs.Homes.{homeIn}
-use Rattle.homes.specs.steps.Last.{staysAt}
+use Rattle.homes.specs.steps.NewHomes.{newHome}
 use Rattle.pages.proofs.Homing.{homes-page}
 use Rattle.rebuild.proofs.Tags.{page-few}
 use Rattle.rebuild.proofs.Packing.{Above, above-start, above-room, above-length, known-below, above-turn, above-end}
@@ -13,16 +12,16 @@ use Rattle.rebuild.proofs.pack.Statement.{statement}
 use Rattle.rebuild.proofs.pack.Tie as tie
 
 abbrev Inv-loop : tie.InvT-loop
-Inv-loop area₀ cap shape last at₀ a₀ area at a = Above (homeIn shape) cap area₀ a at area
+Inv-loop area₀ cap new at₀ a₀ area at a = Above (newHome new) cap area₀ a at area
 
 abbrev μ-loop : tie.MeasureT-loop
-μ-loop area₀ cap shape last at₀ a₀ area at a = a
+μ-loop area₀ cap new at₀ a₀ area at a = a
 
 mul-at : tie.Need-mul-at Inv-loop μ-loop
 mul-at c = search needs
 
 loop-holds : tie.Need-loop-holds Inv-loop μ-loop
-loop-holds c = above-start _ _ _ (c .before .pre .0 .1)
+loop-holds c = above-start _ _ _ (c .before .pre .1)
 
 sub-a : tie.Need-sub-a Inv-loop μ-loop
 sub-a c = search needs
@@ -30,7 +29,7 @@ sub-a c = search needs
 parse-at-requires : tie.Need-parse-at-requires Inv-loop μ-loop
 parse-at-requires c κs =
     let l = c .before .before .loop in
-    let n = c .before .before .before .before .pre .0 .1 in
+    let n = c .before .before .before .before .pre .1 in
     (omega (arith, l .inv .within), omega (arith, l .inv .within, above-length _ _ _ _ _ (l .area) n (l .inv)))
 
 homes-at-requires : tie.Need-homes-at-requires Inv-loop μ-loop
@@ -38,9 +37,9 @@ homes-at-requires c κs =
     let turn = c .before .before .before in
     let l = turn .before .loop in
     let start = turn .before .before .before in
-    let n = start .pre .0 .1 in
-    let known = known-below _ _ _ _ _ (l .area) n (l .inv) (staysAt (start .args .shape) (start .args .last)) (start .pre .1 .1) (l .a - 1) (omega arith) in
-    ((omega (arith, l .inv .within), omega (arith, l .inv .within, above-length _ _ _ _ _ (l .area) n (l .inv)), c .before .parse-at .ensures), (start .pre .0 .2, start .pre .1 .0, known))
+    let n = start .pre .1 in
+    let known = known-below _ _ _ _ _ (l .area) n (l .inv) (start .args .new) (start .pre .3) (l .a - 1) (omega arith) in
+    ((omega (arith, l .inv .within), omega (arith, l .inv .within, above-length _ _ _ _ _ (l .area) n (l .inv)), c .before .parse-at .ensures), (start .pre .2, known))
 
 pack-page-requires : tie.Need-pack-page-requires Inv-loop μ-loop
 pack-page-requires c κs =
@@ -49,14 +48,14 @@ pack-page-requires c κs =
     let l = turn .before .loop in
     let start = turn .before .before .before in
     let few = page-few _ _ (read .parse-at .ensures) in
-    let room = above-room _ _ _ _ _ (l .area) (start .pre .0 .1) (l .inv) in
-    let len = above-length _ _ _ _ _ (l .area) (start .pre .0 .1) (l .inv) in (
+    let room = above-room _ _ _ _ _ (l .area) (start .pre .1) (l .inv) in
+    let len = above-length _ _ _ _ _ (l .area) (start .pre .1) (l .inv) in (
       few,
       omega (arith, l .inv .within),
       omega (arith, few, room),
       omega (arith, len, l .inv .begins),
-      start .pre .0 .2,
-      c .before .homes-at .ensures ∙ sym (homes-page (homeIn (start .args .shape)) _ _ (read .parse-at .ensures)),
+      start .pre .2 .ready,
+      c .before .homes-at .ensures ∙ sym (homes-page (newHome (start .args .new)) _ _ (read .parse-at .ensures)),
     )
 
 loop-less : tie.Need-loop-less Inv-loop μ-loop
@@ -69,12 +68,12 @@ loop-again c =
     let turn = read .before .before in
     let l = turn .before .loop in
     let start = turn .before .before .before in
-    above-turn _ _ _ (l .a) (l .at) (l .area) (read .parse-at .result) _ _ (start .pre .0 .1) (l .inv) (turn .loop-test .taken) (read .parse-at .ensures) (called .pack-page .ensures .0) (called .pack-page .ensures .1)
+    above-turn _ _ _ (l .a) (l .at) (l .area) (read .parse-at .result) _ _ (start .pre .1) (l .inv) (turn .loop-test .taken) (read .parse-at .ensures) (called .pack-page .ensures .0) (called .pack-page .ensures .1)
 
 same-length : tie.Need-same-length Inv-loop μ-loop
 same-length c =
     let l = c .before .loop in
-    let n = c .before .before .before .pre .0 .1 in
+    let n = c .before .before .before .pre .1 in
     omega (arith, n, above-length _ _ _ _ _ (l .area) n (l .inv))
 
 returns : tie.Need-returns Inv-loop μ-loop

@@ -57,12 +57,8 @@ returns c =
     (survey-breaks (homeIn (a .shape)) (now (a .area)) (a .cap) (l .seen) (l .a) (c .before .before .before .loop-test .taken) (l .inv .0) _ (c .before .before .judge-at .ensures) (not-true _ (c .if1 .taken)), tt)
 
 -- a good page has the records that stand at its place
-abbrev Held : tie.Else1 Inv-loop μ-loop → Type 0
-Held c =
-    let a = c .before .before .before .before .before .before .before .before .before .before .before .before .args in
-    c .before .before .judge-at .result ≡ judged (homeIn (a .shape)) (some (recordsIn (partAt (now (a .area)) (c .before .before .before .before .loop .a))))
-
-held : (c : tie.Else1 Inv-loop μ-loop) → Held c
+held : (c : tie.Else1 Inv-loop μ-loop)
+    → c .before .before .judge-at .result ≡ judged (homeIn (c .before .before .before .before .before .before .before .before .before .before .before .before .args .shape)) (some (recordsIn (partAt (now (c .before .before .before .before .before .before .before .before .before .before .before .before .args .area)) (c .before .before .before .before .loop .a))))
 held c =
     let a = c .before .before .before .before .before .before .before .before .before .before .before .before .args in
     judged-held (homeIn (a .shape)) (now (a .area)) (a .cap) (c .before .before .before .before .loop .a) _ (c .before .before .judge-at .ensures) (not-false _ (c .if1 .left))

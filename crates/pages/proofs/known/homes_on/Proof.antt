@@ -13,34 +13,34 @@ use Rattle.pages.proofs.known.homes_on.Statement.{statement}
 use Rattle.pages.proofs.known.homes_on.Tie as tie
 
 abbrev Inv-loop : tie.InvT-loop
-Inv-loop a shape all once count keys homes₀ here₀ i₀ homes here i = Homing (homeIn shape) a count keys once homes here i
+Inv-loop a shape all once page count homes₀ here₀ i₀ homes here i = Homing (homeIn shape) a (page .count) (page .keys) (page .values) (page .runs) once homes here i
 
 abbrev μ-loop : tie.MeasureT-loop
-μ-loop a shape all once count keys homes₀ here₀ i₀ homes here i = count - i
+μ-loop a shape all once page count homes₀ here₀ i₀ homes here i = count - i
 
 loop-holds : tie.Need-loop-holds Inv-loop μ-loop
 unfolding recordsOf
 loop-holds c =
-    let b = c .before in
-    homing-starts (homeIn (b .args .shape)) (b .args .a) (b .args .page .count) (b .args .page .keys) (b .args .all) (b .args .once) (b .args .page .values) (b .args .page .runs) (b .pre .0) (b .pre .2)
+    let b = c .args in
+    homing-starts (homeIn (b .shape)) (b .a) (b .t1 .count) (b .t1 .keys) (b .t1 .values) (b .t1 .runs) (b .all) (b .once) (c .pre .0) (c .pre .2)
 
 mul-home : tie.Need-mul-home Inv-loop μ-loop
 mul-home c = search needs
 
-array-read-home : tie.Need-array-read-home Inv-loop μ-loop
-array-read-home c = search needs
+element-copy-out-home : tie.Need-element-copy-out-home Inv-loop μ-loop
+element-copy-out-home c = search needs
 
 home-requires : tie.Need-home-requires Inv-loop μ-loop
 home-requires c κs = search needs
 
 -- known or worked out, it is the home
-home-is : (c : tie.Joined1 Inv-loop μ-loop) → c .if1 .home ≡ homeIn (c .before .before .before .before .args .shape) (getD (c .before .before .before .before .args .page .keys) (c .before .before .loop .i) 0)
+home-is : (c : tie.Joined1 Inv-loop μ-loop) → c .if1 .home ≡ homeIn (c .before .before .before .args .shape) (getD (c .before .before .before .args .t1 .keys) (c .before .before .loop .i) 0)
 home-is c =
-    let b = c .before .before .before .before .args in
+    let b = c .before .before .before .args in
     let l = c .before .before .loop in
     ⊎-elim
-    (λ w. w .1 ∙ home-here (homeIn (b .shape)) (b .a) (b .page .count) (b .page .keys) (b .once) (l .homes) (l .here) (l .i) (c .before .loop-test .taken) (l .inv) (w .0 .taken))
-    (λ w. w .2 ∙ w .1 .ensures)
+    (λ w. w .1 ∙ home-here (homeIn (b .shape)) (b .a) (b .t1 .count) (b .t1 .keys) (b .t1 .values) (b .t1 .runs) (b .once) (l .homes) (l .here) (l .i) (c .before .loop-test .taken) (l .inv) (w .0 .taken))
+    (λ w. w .3 ∙ w .2 .ensures)
     (c .if1 .came)
 
 mul-homes : tie.Need-mul-homes Inv-loop μ-loop
@@ -57,16 +57,16 @@ loop-less c = search needs
 
 loop-again : tie.Need-loop-again Inv-loop μ-loop
 loop-again c =
-    let b = c .before .before .before .before .args in
+    let b = c .before .before .before .args in
     let l = c .before .before .loop in
-    homing-goes-on (homeIn (b .shape)) (b .a) (b .page .count) (b .page .keys) (b .once) (l .homes) (l .here) (l .i) (c .before .loop-test .taken) (l .inv) (c .if1 .home) (home-is c)
+    homing-goes-on (homeIn (b .shape)) (b .a) (b .t1 .count) (b .t1 .keys) (b .t1 .values) (b .t1 .runs) (b .once) (l .homes) (l .here) (l .i) (c .before .loop-test .taken) (l .inv) (c .if1 .home) (home-is c)
 
 returns : tie.Need-returns Inv-loop μ-loop
 unfolding recordsOf
 returns c =
-    let b = c .before .before .before .args in
+    let b = c .before .before .args in
     let l = c .before .loop in
-    homing-ends (homeIn (b .shape)) (b .a) (b .page .count) (b .page .keys) (b .once) (l .homes) (l .here) (l .i) (b .page .values) (b .page .runs) (c .loop-test .left) (l .inv)
+    homing-ends (homeIn (b .shape)) (b .a) (b .t1 .count) (b .t1 .keys) (b .t1 .values) (b .t1 .runs) (b .once) (l .homes) (l .here) (l .i) (c .loop-test .left) (l .inv)
 
 pub homes-on-spec : {M : Type 1} → statement M
 homes-on-spec =
@@ -76,7 +76,7 @@ homes-on-spec =
     μ-loop
     loop-holds
     mul-home
-    array-read-home
+    element-copy-out-home
     home-requires
     mul-homes
     array-write-homes

@@ -8,7 +8,7 @@ use borrow.Author.Needs.{needs}
 use Rattle.numbers.specs.Little.{Bytes}
 use Rattle.state.proofs.Ranges.{ranged}
 use Rattle.register.specs.Calls.{grownCounts}
-use Rattle.register.proofs.Growing.{held-set, counts-many, grown-known, takes-all, grow-full, grow-done}
+use Rattle.register.proofs.Growing.{held-set, counts-many, grown-low, grown-known, takes-all, grow-full, grow-done}
 use Rattle.register.proofs.growth.grow_image.Statement.{statement}
 use Rattle.register.proofs.growth.grow_image.Tie as tie
 
@@ -30,8 +30,8 @@ has-room-requires c κs =
     let b = w .before .before .before .before .before .before in
     omega (arith, counts-many (b .args .state) (now (b .args .area)) _ (filled w), ranged (b .args .state) (b .pre .0 .0) .cap-high)
 
-cast-t18 : tie.Need-cast-t18
-cast-t18 c = search needs
+cast-t16 : tie.Need-cast-t16
+cast-t16 c = search needs
 
 same-length : tie.Need-same-length
 same-length c = search needs
@@ -55,15 +55,17 @@ rebuild-requires c κs =
     let area = now (b .args .area) in
     let n = b .pre .0 in
     let m = b .pre .2 in (
-      (ranged s (n .0) .cap-high, n .1, m .ready),
-      (
-        (m .within, grown-known s (n .0) (n .3) m area (bytes k) (n .1) (n .4)),
-        (held-set s area (bytes k) (n .1) (n .4), takes-all s (n .0) (n .3) area _ (filled w) _ (c .before .before .has-room .ensures) (not-false _ (c .before .if1 .left)) m),
-      ),
+      (ranged s (n .0) .cap-high, n .1, m .usable, grown-known s (n .0) (n .3) m area (bytes k) (n .1) (n .4)),
+      (held-set s area (bytes k) (n .1) (n .4), takes-all s (n .0) (n .3) area _ (filled w) _ (c .before .before .has-room .ensures) (not-false _ (c .before .if1 .left)) m),
     )
 
-cast-t22 : tie.Need-cast-t22
-cast-t22 c = search needs
+cast-t20 : tie.Need-cast-t20
+cast-t20 c = search needs
+
+grown-requires : tie.Need-grown-requires
+grown-requires c κs =
+    let b = c .before .before .before .before .before .before .before .before .before .before .before .before .before .before .before in
+    grown-low (b .args .state) (b .pre .0 .0) (b .pre .0 .3)
 
 same-length-2 : tie.Need-same-length-2
 same-length-2 c = search needs
@@ -73,11 +75,12 @@ same-length-3 c = search needs
 
 returns-2 : tie.Need-returns-2
 returns-2 c =
-    let v = c .before .before in
-    let w = c .before .before .before .before .before .before .before .before .before in
+    let v = c .before .before .before in
+    let e = v .before .before in
+    let w = e .before .before .before .before .before in
     let b = w .before .before .before .before .before .before in
-    grow-done (b .args .state) (b .pre .0 .0) (b .pre .0 .3) (now (b .args .area)) _ (filled w) _ (c .before .before .before .before .before .has-room .ensures) (not-false _ (c .before .before .before .before .if1 .left)) (b .pre .2)
-    _ (v .rebuild .ensures .0) _ (v .rebuild .ensures .1)
+    grow-done (b .args .state) (b .pre .0 .0) (b .pre .0 .3) (now (b .args .area)) _ (filled w) _ (e .before .has-room .ensures) (not-false _ (e .if1 .left)) (b .pre .2)
+    _ (v .rebuild .ensures .0) _ (v .rebuild .ensures .1) _ (c .grown .ensures)
 
 pub grow-image-spec : {M : Type 1} → statement M
 grow-image-spec =
@@ -86,11 +89,12 @@ grow-image-spec =
     cast-cap
     fill-row-requires
     has-room-requires
-    cast-t18
+    cast-t16
     same-length
     returns
     rebuild-requires
-    cast-t22
+    cast-t20
+    grown-requires
     same-length-2
     same-length-3
     returns-2)

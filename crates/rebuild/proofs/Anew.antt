@@ -8,6 +8,7 @@ use mir.Val as val
 use borrow.Rule.Slice.PartMut.{putMid}
 use lib.ListN.{length, take, drop, getD, length-append, length-drop, drop-of-length-le}
 use lib.Seq.{take-all, take-at, drop-at, length-take-le}
+use Rattle.layouts.specs.Layout.{inUse}
 use Rattle.placing.specs.Image.{All, cat, Distinct, RecordSet}
 use Rattle.placing.specs.Lay.{sort, lay, taken}
 use Rattle.placing.specs.Rows.{strayed}
@@ -17,11 +18,11 @@ use Rattle.pages.proofs.Areas.{held-length}
 use Rattle.pages.specs.Page.{Record, key, homeFor}
 use Rattle.pages.specs.Area.{heldFrom, areaFrom}
 use Rattle.entries.specs.declared.Entry.{Entry}
-use Rattle.entries.specs.steps.Entries.{entriesIn, rowBytes, rank, home}
+use Rattle.entries.specs.steps.Entries.{size, entriesIn, rowBytes, rank, home}
 use Rattle.entries.proofs.Entries.{SizedEntry}
 use Rattle.entries.proofs.Rows.{row-length, entries-row}
 use Rattle.rebuild.specs.Relaid.{relaid}
-use Rattle.rebuild.specs.steps.Rebuild.{packed, recordIn, hopsFrom}
+use Rattle.rebuild.specs.steps.Rebuild.{slots, packed, recordIn, hopsFrom}
 use Rattle.rebuild.proofs.Tags.{entries-few}
 use Rattle.rebuild.proofs.Fitting.{held-fit}
 use Rattle.rebuild.proofs.Commuting.{all-sort, pages-relaid, pages-distinct, pages-sorted, pages-room}
@@ -30,27 +31,27 @@ use Rattle.rebuild.proofs.Moved.{pages-moved}
 -- the records of l, no key twice, packed from base on in m
 pub record Gathered (h : ℕ → ℕ) (cap : ℕ) (l : List ℕ) (base : ℕ) (m : List ℕ) : Type 0 where
   pub small : cap ≤ 4096
-  pub size : length l ≡ 256 * cap
+  pub whole : length l ≡ 256 * cap
   pub low : (k : ℕ) → h k < 2 ^ 16
   pub fit : (k : ℕ) → val.Fits w8 (getD l k 0)
-  pub set : RecordSet key (cat (heldFrom l cap 0) [])
-  pub base-is : base ≡ 256 * cap - 20 * length (packed h cap l)
+  pub set : RecordSet key (cat (heldFrom inUse l cap 0) [])
+  pub base-is : base ≡ 256 * cap - size * length (packed h cap l)
   pub bytes : m ≡ take base l ++ rowBytes (packed h cap l)
 
 module _ (h : ℕ → ℕ) (cap : ℕ) (l : List ℕ) (base : ℕ) (m : List ℕ) (g : Gathered h cap l base m) where
-  pub begins : base + 20 * length (packed h cap l) ≡ 256 * cap
+  pub begins : base + size * length (packed h cap l) ≡ 256 * cap
   unfolding packed
   begins = omega (arith, g .base-is, entries-few h l cap 0)
 
-  pub base-whole : 256 * cap ≡ base + 20 * ((256 * cap - base) / 20)
+  pub base-whole : 256 * cap ≡ base + size * ((256 * cap - base) / size)
   base-whole = omega (arith, begins)
 
   es-fit : All SizedEntry (packed h cap l)
   unfolding packed
-  es-fit = held-fit h l cap 0 (g .low) (λ k i. omega (arith, g .fit k)) (omega (arith, g .size)) (omega (arith, g .small))
+  es-fit = held-fit h l cap 0 (g .low) (λ k i. omega (arith, g .fit k)) (omega (arith, g .whole)) (omega (arith, g .small))
 
   front : length (take base l) ≡ base
-  front = length-take-le base l (omega (arith, begins, g .size))
+  front = length-take-le base l (omega (arith, begins, g .whole))
 
   -- as long as the area, with any as many entries
   full : (fs : List Entry) → length fs ≡ length (packed h cap l) → length (take base l ++ rowBytes fs) ≡ 256 * cap
@@ -62,7 +63,7 @@ module _ (h : ℕ → ℕ) (cap : ℕ) (l : List ℕ) (base : ℕ) (m : List ℕ
       let d : drop base m ≡ rowBytes (packed h cap l) = rw (g .bytes) (drop-at (take base l) (rowBytes (packed h cap l)) base front) in
       rw d (take-all (length m - base) (rowBytes (packed h cap l)) (omega (arith, row-length (packed h cap l), ap length (g .bytes), full (packed h cap l) refl, begins)))
 
-  pub part-whole : length (take (length m - base) (drop base m)) ≡ 20 * (length (take (length m - base) (drop base m)) / 20)
+  pub part-whole : length (take (length m - base) (drop base m)) ≡ size * (length (take (length m - base) (drop base m)) / size)
   part-whole = rw part (omega (arith, row-length (packed h cap l)))
 
   part-entries : entriesIn (take (length m - base) (drop base m)) ≡ packed h cap l
@@ -70,7 +71,7 @@ module _ (h : ℕ → ℕ) (cap : ℕ) (l : List ℕ) (base : ℕ) (m : List ℕ
 
   packed-distinct : Distinct rank (packed h cap l)
   unfolding packed
-  packed-distinct = pages-distinct h (heldFrom l cap 0) (g .set)
+  packed-distinct = pages-distinct h (heldFrom inUse l cap 0) (g .set)
 
   pub part-distinct : Distinct rank (entriesIn (take (length m - base) (drop base m)))
   part-distinct = rw part-entries packed-distinct
@@ -95,20 +96,20 @@ module _ (h : ℕ → ℕ) (cap : ℕ) (l : List ℕ) (base : ℕ) (m : List ℕ
 
     pub back-sorted : Sorted rank (entriesIn (drop base (putMid base (length m - base) m k)))
     unfolding packed
-    back-sorted = rw back-entries (pages-sorted h (heldFrom l cap 0) (g .set))
+    back-sorted = rw back-entries (pages-sorted h (heldFrom inUse l cap 0) (g .set))
 
-    pub back-room : taken (homeFor h) 12 (cat (heldFrom l cap 0) []) cap ≡ length (cat (heldFrom l cap 0) [])
-        → taken home 12 (entriesIn (drop base (putMid base (length m - base) m k))) cap ≡ length (entriesIn (drop base (putMid base (length m - base) m k)))
+    pub back-room : taken (homeFor h) slots (cat (heldFrom inUse l cap 0) []) cap ≡ length (cat (heldFrom inUse l cap 0) [])
+        → taken home slots (entriesIn (drop base (putMid base (length m - base) m k))) cap ≡ length (entriesIn (drop base (putMid base (length m - base) m k)))
     unfolding packed
-    back-room r = rw back-entries (pages-room h (heldFrom l cap 0) cap r)
+    back-room r = rw back-entries (pages-room h (heldFrom inUse l cap 0) cap r)
 
     -- and is laid as the records are
-    pub back-moved : hopsFrom 0 (lay home 12 cap 0 (entriesIn (drop base (putMid base (length m - base) m k))))
-        ≡ strayed key (heldFrom l cap 0) (relaid h cap (heldFrom l cap 0))
+    pub back-moved : hopsFrom 0 (lay home slots cap 0 (entriesIn (drop base (putMid base (length m - base) m k))))
+        ≡ strayed key (heldFrom inUse l cap 0) (relaid slots h cap (heldFrom inUse l cap 0))
     unfolding packed
-    back-moved = rw back-entries (pages-moved h cap (heldFrom l cap 0) (held-length l cap 0) (g .set .once))
+    back-moved = rw back-entries (pages-moved h cap (heldFrom inUse l cap 0) (held-length inUse l cap 0) (g .set .once))
 
-    pub back-laid : areaFrom 0 (map (map recordIn) (lay home 12 cap 0 (entriesIn (drop base (putMid base (length m - base) m k)))))
-        ≡ areaFrom 0 (relaid h cap (heldFrom l cap 0))
+    pub back-laid : areaFrom inUse 0 (map (map recordIn) (lay home slots cap 0 (entriesIn (drop base (putMid base (length m - base) m k)))))
+        ≡ areaFrom inUse 0 (relaid slots h cap (heldFrom inUse l cap 0))
     unfolding packed
-    back-laid = rw back-entries (ap (λ (qs : List (List Record)). areaFrom 0 qs) (pages-relaid h (heldFrom l cap 0) cap))
+    back-laid = rw back-entries (ap (λ (qs : List (List Record)). areaFrom inUse 0 qs) (pages-relaid h (heldFrom inUse l cap 0) cap))

@@ -18,7 +18,7 @@ use Rattle.entries.specs.declared.Entry.{Entry}
 use Rattle.entries.specs.steps.Entries.{rank, home}
 use Rattle.pages.proofs.Rows.{map-take}
 use Rattle.rebuild.specs.Relaid.{relaid}
-use Rattle.rebuild.specs.steps.Rebuild.{tagged, taggedFrom, recordIn}
+use Rattle.rebuild.specs.steps.Rebuild.{slots, tagged, taggedFrom, recordIn}
 
 module _ {A B : Type 0} (f : A → B) where
   map-drop : (n : ℕ) (s : List A) → map f (drop n s) ≡ drop n (map f s)
@@ -110,10 +110,10 @@ module _ (h : ℕ → ℕ) where
 -- the same of the entries of pages
 module _ (h : ℕ → ℕ) (ps : List (List Record)) where
   -- in order of rank they are laid as the records are
-  pub pages-relaid : (n : ℕ) → map (map recordIn) (lay home 12 n 0 (sort rank (taggedFrom h 0 ps))) ≡ relaid h n ps
+  pub pages-relaid : (n : ℕ) → map (map recordIn) (lay home slots n 0 (sort rank (taggedFrom h 0 ps))) ≡ relaid slots h n ps
   unfolding relaid
   pages-relaid n =
-      lay-records h 12 n 0 (sort rank (taggedFrom h 0 ps)) (all-sort (Right h) rank (taggedFrom h 0 ps) (pages-right h 0 ps))
+      lay-records h slots n 0 (sort rank (taggedFrom h 0 ps)) (all-sort (Right h) rank (taggedFrom h 0 ps) (pages-right h 0 ps))
       ∙ rw (sort-records h (taggedFrom h 0 ps) (pages-right h 0 ps), pages-records h 0 ps)
 
   pub pages-distinct : RecordSet key (cat ps []) → Distinct rank (taggedFrom h 0 ps)
@@ -126,16 +126,16 @@ module _ (h : ℕ → ℕ) (ps : List (List Record)) where
   pages-length = sym (length-map (taggedFrom h 0 ps) recordIn) ∙ ap length (pages-records h 0 ps)
 
   -- and have room where the records have it
-  pub pages-room : (n : ℕ) → taken (homeFor h) 12 (cat ps []) n ≡ length (cat ps [])
-      → taken home 12 (sort rank (taggedFrom h 0 ps)) n ≡ length (sort rank (taggedFrom h 0 ps))
+  pub pages-room : (n : ℕ) → taken (homeFor h) slots (cat ps []) n ≡ length (cat ps [])
+      → taken home slots (sort rank (taggedFrom h 0 ps)) n ≡ length (sort rank (taggedFrom h 0 ps))
   pages-room n e =
       let s : List Entry = taggedFrom h 0 ps in
-      let t : taken home 12 s n ≡ taken (homeFor h) 12 (cat ps []) n = taken-records h 12 s (pages-right h 0 ps) n ∙ rw (pages-records h 0 ps) in
+      let t : taken home slots s n ≡ taken (homeFor h) slots (cat ps []) n = taken-records h slots s (pages-right h 0 ps) n ∙ rw (pages-records h 0 ps) in
       omega (
         arith,
         t,
         e,
         pages-length,
         perm-length (sort-perm rank s),
-        taken-cong home 12 (sort rank s) s (λ j. perm-upTo home j (sort-perm rank s)) n,
+        taken-cong home slots (sort rank s) s (λ j. perm-upTo home j (sort-perm rank s)) n,
       )

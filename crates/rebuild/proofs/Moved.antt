@@ -20,7 +20,7 @@ use Rattle.pages.specs.Page.{Record, key}
 use Rattle.entries.specs.declared.Entry.{Entry}
 use Rattle.entries.specs.steps.Entries.{rank, home}
 use Rattle.rebuild.specs.Relaid.{relaid}
-use Rattle.rebuild.specs.steps.Rebuild.{tagged, taggedFrom, recordIn, hops, hopsFrom}
+use Rattle.rebuild.specs.steps.Rebuild.{slots, tagged, taggedFrom, recordIn, hops, hopsFrom}
 use Rattle.rebuild.proofs.Commuting.{all-drop, all-sort, all-records, pages-records, pages-relaid}
 
 module _ {R : Type 0} (key : R → ℕ) where
@@ -135,9 +135,9 @@ module _ {R : Type 0} (home : R → ℕ) (b : ℕ) where
 
 -- so they are counted where the entries of pages are laid anew
 pub pages-moved : (h : ℕ → ℕ) (n : ℕ) (ps : List (List Record)) → length ps ≡ n → Distinct key (cat ps [])
-    → hopsFrom 0 (lay home 12 n 0 (sort rank (taggedFrom h 0 ps))) ≡ strayed key ps (relaid h n ps)
+    → hopsFrom 0 (lay home slots n 0 (sort rank (taggedFrom h 0 ps))) ≡ strayed key ps (relaid slots h n ps)
 pages-moved h n ps e d =
     let s : List Entry = sort rank (taggedFrom h 0 ps) in
-    hops-strayed 0 ps (lay home 12 n 0 s) (lay-length home 12 n 0 s ∙ sym e)
-    (lay-all home 12 (Came 0 ps) n 0 s (all-sort (Came 0 ps) rank (taggedFrom h 0 ps) (came h 0 ps d)))
+    hops-strayed 0 ps (lay home slots n 0 s) (lay-length home slots n 0 s ∙ sym e)
+    (lay-all home slots (Came 0 ps) n 0 s (all-sort (Came 0 ps) rank (taggedFrom h 0 ps) (came h 0 ps d)))
     ∙ ap (λ (qs : List (List Record)). strayed key ps qs) (pages-relaid h ps n)

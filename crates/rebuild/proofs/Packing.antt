@@ -9,6 +9,7 @@ use lib.ListN.{length, take, drop, getD, length-append, length-take, length-drop
 use lib.Seq.{take-all, take-take, drop-at, take-append-le, drop-append-le, length-take-le, getD-drop}
 use Rattle.numbers.specs.Little.{written}
 use Rattle.numbers.proofs.Laws.{written-nil}
+use Rattle.layouts.specs.Layout.{inUse}
 use Rattle.homes.specs.declared.new_homes.NewHomes.{NewHomes}
 use Rattle.pages.specs.declared.Page.{Page}
 use Rattle.pages.specs.Page.{Record, recordWith, recordsIn, inMemory}
@@ -19,9 +20,9 @@ use Rattle.pages.proofs.Memory.{page-count, page-records}
 use Rattle.pages.proofs.Read.{held-few}
 use Rattle.pages.proofs.Seeking.{paired-length}
 use Rattle.entries.specs.declared.Entry.{Entry}
-use Rattle.entries.specs.steps.Entries.{entryBytes, rowBytes}
+use Rattle.entries.specs.steps.Entries.{size, entryBytes, rowBytes}
 use Rattle.entries.proofs.Rows.{row-length, row-append}
-use Rattle.rebuild.specs.steps.Rebuild.{tagged, taggedFrom, packed}
+use Rattle.rebuild.specs.steps.Rebuild.{slots, tagged, taggedFrom, packed}
 use Rattle.rebuild.proofs.Tags.{tagged-append, tagged-length, entries-few}
 
 -- two writes, the second where it ends at the first, are one
@@ -40,53 +41,53 @@ written-before l at v w h =
     )
 
 -- one record more of a page's rows
-paired-last : (n : ℕ) (ks vs : List ℕ) → paired (suc n) ks vs ≡ paired n ks vs ++ (recordWith (getD ks n 0) (getD vs n 0) ∷ [])
-paired-last zero ks vs = refl
-paired-last (suc n) ks vs =
+paired-last : (n : ℕ) (ks vs us : List ℕ) → paired (suc n) ks vs us ≡ paired n ks vs us ++ (recordWith (getD ks n 0) (getD vs n 0) (getD us n 0) ∷ [])
+paired-last zero ks vs us = refl
+paired-last (suc n) ks vs us =
     let q : 1 + n ≡ suc n = omega arith in
-    rw (paired-last n (drop 1 ks) (drop 1 vs), getD-drop 1 ks n 0, getD-drop 1 vs n 0, q)
+    rw (paired-last n (drop 1 ks) (drop 1 vs) (drop 1 us), getD-drop 1 ks n 0, getD-drop 1 vs n 0, getD-drop 1 us n 0, q)
 
 -- the bytes of the entries of the first n records of a page's rows
-abbrev pub rows : (ℕ → ℕ) → (a n : ℕ) → List ℕ → List ℕ → List ℕ
-rows h a n ks vs = rowBytes (tagged h a (paired n ks vs))
+abbrev pub rows : (ℕ → ℕ) → (a n : ℕ) → (ks vs us : List ℕ) → List ℕ
+rows h a n ks vs us = rowBytes (tagged h a (paired n ks vs us))
 
-rows-length : (h : ℕ → ℕ) (a n : ℕ) (ks vs : List ℕ) → length (rows h a n ks vs) ≡ 20 * n
-rows-length h a n ks vs =
-    omega (arith, row-length (tagged h a (paired n ks vs)), tagged-length h a (paired n ks vs), paired-length n ks vs)
+rows-length : (h : ℕ → ℕ) (a n : ℕ) (ks vs us : List ℕ) → length (rows h a n ks vs us) ≡ size * n
+rows-length h a n ks vs us =
+    omega (arith, row-length (tagged h a (paired n ks vs us)), tagged-length h a (paired n ks vs us), paired-length n ks vs us)
 
-rows-last : (h : ℕ → ℕ) (a n : ℕ) (ks vs : List ℕ)
-    → rows h a (suc n) ks vs ≡ rows h a n ks vs ++ entryBytes (record { home = h (getD ks n 0); from = a; held = recordWith (getD ks n 0) (getD vs n 0) })
-rows-last h a n ks vs =
-    let x : Record = recordWith (getD ks n 0) (getD vs n 0) in
-    ap (λ (s : List Record). rowBytes (tagged h a s)) (paired-last n ks vs)
-    ∙ rw (tagged-append h a (paired n ks vs) (x ∷ []), row-append (tagged h a (paired n ks vs)) (tagged h a (x ∷ [])), append-nil)
+rows-last : (h : ℕ → ℕ) (a n : ℕ) (ks vs us : List ℕ)
+    → rows h a (suc n) ks vs us ≡ rows h a n ks vs us ++ entryBytes (record { home = h (getD ks n 0); from = a; held = recordWith (getD ks n 0) (getD vs n 0) (getD us n 0) })
+rows-last h a n ks vs us =
+    let x : Record = recordWith (getD ks n 0) (getD vs n 0) (getD us n 0) in
+    ap (λ (s : List Record). rowBytes (tagged h a s)) (paired-last n ks vs us)
+    ∙ rw (tagged-append h a (paired n ks vs us) (x ∷ []), row-append (tagged h a (paired n ks vs us)) (tagged h a (x ∷ [])), append-nil)
 
 -- a turn puts the last entry of what is left to write
-pub page-turn : (l m : List ℕ) (h : ℕ → ℕ) (a b i at home : ℕ) (ks vs : List ℕ) → 0 < i → b + 20 * i ≤ length l
-    → at ≡ b + 20 * (i - 1) → home ≡ h (getD ks (i - 1) 0)
-    → m ≡ written l at (entryBytes (record { home = home; from = a; held = recordWith (getD ks (i - 1) 0) (getD vs (i - 1) 0) }))
-    → written m b (rows h a (i - 1) ks vs) ≡ written l b (rows h a i ks vs)
-page-turn l m h a b i at home ks vs z n p q e =
+pub page-turn : (l m : List ℕ) (h : ℕ → ℕ) (a b i at home : ℕ) (ks vs us : List ℕ) → 0 < i → b + size * i ≤ length l
+    → at ≡ b + size * (i - 1) → home ≡ h (getD ks (i - 1) 0)
+    → m ≡ written l at (entryBytes (record { home = home; from = a; held = recordWith (getD ks (i - 1) 0) (getD vs (i - 1) 0) (getD us (i - 1) 0) }))
+    → written m b (rows h a (i - 1) ks vs us) ≡ written l b (rows h a i ks vs us)
+page-turn l m h a b i at home ks vs us z n p q e =
     let s : suc (i - 1) ≡ i = omega arith in
-    let len : length (rows h a (i - 1) ks vs) ≡ 20 * (i - 1) = rows-length h a (i - 1) ks vs in
+    let len : length (rows h a (i - 1) ks vs us) ≡ size * (i - 1) = rows-length h a (i - 1) ks vs us in
     rw (e, p, q, ← len)
-    (written-before l b (rows h a (i - 1) ks vs) (entryBytes (record { home = h (getD ks (i - 1) 0); from = a; held = recordWith (getD ks (i - 1) 0) (getD vs (i - 1) 0) })) (omega arith)
-    ∙ ap (λ (v : List ℕ). written l b v) (sym (rows-last h a (i - 1) ks vs) ∙ ap (λ (n : ℕ). rows h a n ks vs) s))
+    (written-before l b (rows h a (i - 1) ks vs us) (entryBytes (record { home = h (getD ks (i - 1) 0); from = a; held = recordWith (getD ks (i - 1) 0) (getD vs (i - 1) 0) (getD us (i - 1) 0) })) (omega arith)
+    ∙ ap (λ (v : List ℕ). written l b v) (sym (rows-last h a (i - 1) ks vs us) ∙ ap (λ (n : ℕ). rows h a n ks vs us) s))
 
 -- after the last turn nothing is left to write
-pub page-done : (l m : List ℕ) (h : ℕ → ℕ) (a b i : ℕ) (ks vs : List ℕ) → i ≤ 0 → written l b (rows h a i ks vs) ≡ m → l ≡ m
-page-done l m h a b i ks vs z e =
+pub page-done : (l m : List ℕ) (h : ℕ → ℕ) (a b i : ℕ) (ks vs us : List ℕ) → i ≤ 0 → written l b (rows h a i ks vs us) ≡ m → l ≡ m
+page-done l m h a b i ks vs us z e =
     let y : i ≡ 0 = omega arith in
-    sym (written-nil l b) ∙ ap (λ (n : ℕ). written l b (rows h a n ks vs)) (sym y) ∙ e
+    sym (written-nil l b) ∙ ap (λ (n : ℕ). written l b (rows h a n ks vs us)) (sym y) ∙ e
 
 -- the entries of the pages from a on
 abbrev pub upward : (ℕ → ℕ) → (cap : ℕ) → List ℕ → ℕ → List Entry
-upward h cap l a = taggedFrom h a (heldFrom l (cap - a) a)
+upward h cap l a = taggedFrom h a (heldFrom inUse l (cap - a) a)
 
 -- the pages from a on are packed in m, and the others stand as in l
 pub record Above (h : ℕ → ℕ) (cap : ℕ) (l : List ℕ) (a at : ℕ) (m : List ℕ) : Type 0 where
   pub within : a ≤ cap
-  pub begins : at + 20 * length (upward h cap l a) ≡ 256 * cap
+  pub begins : at + size * length (upward h cap l a) ≡ 256 * cap
   pub bytes : m ≡ take at l ++ rowBytes (upward h cap l a)
 
 pub above-start : (h : ℕ → ℕ) (cap : ℕ) (l : List ℕ) → length l ≡ 256 * cap → Above h cap l cap (256 * cap) l
@@ -124,7 +125,7 @@ module _ (h : ℕ → ℕ) (cap : ℕ) (l : List ℕ) (a at : ℕ) (m : List ℕ
       ∙ rw take-append-drop
 
   -- so what is known of it is known still
-  pub known-below : (new : NewHomes) → ((b : ℕ) → b < cap → KnownAt new l b) → (b : ℕ) → b < a → KnownAt new m b
+  pub known-below : (new : NewHomes) → ((b : ℕ) → b < cap → KnownAt inUse new l b) → (b : ℕ) → b < a → KnownAt inUse new m b
   known-below new w zero k = rw (below-same 0 k) (w 0 (omega (arith, s .within)))
   known-below new w (suc b) k = rw (below-same (suc b) k, below-same b (omega arith)) (w (suc b) (omega (arith, s .within)))
 
@@ -137,7 +138,7 @@ rows-below l v w at to h e =
 
 -- one page more
 upward-more : (h : ℕ → ℕ) (cap : ℕ) (l : List ℕ) (a : ℕ) → 0 < a → a ≤ cap
-    → upward h cap l (a - 1) ≡ tagged h (a - 1) (recordsIn (partAt l (a - 1))) ++ upward h cap l a
+    → upward h cap l (a - 1) ≡ tagged h (a - 1) (recordsIn inUse (partAt l (a - 1))) ++ upward h cap l a
 upward-more h cap l a z k =
     let e : cap - (a - 1) ≡ suc (cap - a) = omega arith in
     let f : suc (a - 1) ≡ a = omega arith in
@@ -145,12 +146,12 @@ upward-more h cap l a z k =
 
 -- a turn packs the next page below
 pub above-turn : (h : ℕ → ℕ) (cap : ℕ) (l : List ℕ) (a at : ℕ) (m : List ℕ) (p : Page) (to : ℕ) (k : List ℕ)
-    → length l ≡ 256 * cap → Above h cap l a at m → 0 < a → p ≡ inMemory (recordsIn (partAt m (a - 1)))
-    → to ≡ at - 20 * p .count → k ≡ written m (at - 20 * p .count) (rowBytes (tagged h (a - 1) (recordsOf p)))
+    → length l ≡ 256 * cap → Above h cap l a at m → 0 < a → p ≡ inMemory (recordsIn inUse (partAt m (a - 1)))
+    → to ≡ at - size * p .count → k ≡ written m (at - size * p .count) (rowBytes (tagged h (a - 1) (recordsOf p)))
     → Above h cap l (a - 1) to k
 above-turn h cap l a at m p to k n s z e f g =
     let room : 256 * a ≤ at = above-room h cap l a at m n s in
-    let few : length rs ≤ 12 = held-few (partAt l (a - 1)) in
+    let few : length rs ≤ slots = held-few inUse (partAt l (a - 1)) in
     let many : p .count ≡ length rs = page-count p rs held in
     let more : upward h cap l (a - 1) ≡ tagged h (a - 1) rs ++ upward h cap l a = upward-more h cap l a z (s .within) in
     let sum : length (upward h cap l (a - 1)) ≡ length rs + length (upward h cap l a) =
@@ -166,16 +167,16 @@ above-turn h cap l a at m p to k n s z e f g =
     }
   where
     rs : List Record
-    rs = recordsIn (partAt l (a - 1))
+    rs = recordsIn inUse (partAt l (a - 1))
 
     held : p ≡ inMemory rs
-    held = e ∙ ap (λ (x : List ℕ). inMemory (recordsIn x)) (below-same h cap l a at m n s (a - 1) (omega arith))
+    held = e ∙ ap (λ (x : List ℕ). inMemory (recordsIn inUse x)) (below-same h cap l a at m n s (a - 1) (omega arith))
 
 -- after the last turn all pages are packed
 pub above-end : (h : ℕ → ℕ) (cap : ℕ) (l : List ℕ) (a at : ℕ) (m : List ℕ) → Above h cap l a at m → a ≤ 0
-    → (at ≡ 256 * cap - 20 * length (packed h cap l)) × (m ≡ take at l ++ rowBytes (packed h cap l))
+    → (at ≡ 256 * cap - size * length (packed h cap l)) × (m ≡ take at l ++ rowBytes (packed h cap l))
 unfolding packed
 above-end h cap l a at m s z =
     let y : a ≡ 0 = omega arith in
-    let e : upward h cap l a ≡ taggedFrom h 0 (heldFrom l cap 0) = rw (y, sub-zero) in
+    let e : upward h cap l a ≡ taggedFrom h 0 (heldFrom inUse l cap 0) = rw (y, sub-zero) in
     (rw (← e) (omega (arith, s .begins)), rw (← e) (s .bytes))

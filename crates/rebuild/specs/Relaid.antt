@@ -5,6 +5,7 @@ use Rattle.placing.specs.Image.{cat}
 use Rattle.placing.specs.Lay.{rankIn, sort, lay}
 use Rattle.pages.specs.Page.{Record, key, homeFor}
 
--- the pages of the records of n pages, each record at its place for the homes h
-unfoldable pub relaid : (ℕ → ℕ) → (n : ℕ) → List (List Record) → List (List Record)
-relaid h n ps = lay (homeFor h) 12 n 0 (sort (rankIn key h) (cat ps []))
+-- the pages of the records of n pages, with b slots to a page, each record at its place for the
+-- homes h
+unfoldable pub relaid : (b : ℕ) → (ℕ → ℕ) → (n : ℕ) → List (List Record) → List (List Record)
+relaid b h n ps = lay (homeFor h) b n 0 (sort (rankIn key h) (cat ps []))

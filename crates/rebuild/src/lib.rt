@@ -3,6 +3,9 @@
 use entries::Entry;
 use homes::Shape;
 use homes::new_homes::NewHomes;
+use layouts::IN_USE;
+use layouts::SLOTS;
+use layouts::WIDTH;
 use pages::Page;
 use pages::Record;
 ghost use mathlib.Core.Path.{_≡_};
@@ -12,6 +15,7 @@ ghost use Prim.Native.Nat.{ℕ, _+_, _-_, _*_, _/_, _≤_, _<_};
 ghost use lib.ListN.{length, take, drop};
 ghost use lib.Dec.{eqb};
 ghost use Rattle.numbers.specs.Little.{written};
+ghost use Rattle.layouts.specs.Layout.{inUse};
 ghost use Rattle.homes.specs.Homes.{Ready, homeIn};
 ghost use Rattle.homes.specs.steps.NewHomes.{Usable, newHome};
 ghost use Rattle.placing.specs.Image.{RecordSet, cat};
@@ -22,9 +26,9 @@ ghost use Rattle.pages.specs.Page.{key, homeFor, padded};
 ghost use Rattle.pages.specs.steps.Slots.{recordsOf};
 ghost use Rattle.pages.specs.Area.{heldFrom, areaFrom};
 ghost use Rattle.pages.specs.steps.Known.{KnownAt};
-ghost use Rattle.entries.specs.steps.Entries.{entriesIn, rowBytes, rank, home};
+ghost use Rattle.entries.specs.steps.Entries.{size, entriesIn, rowBytes, rank, home};
 ghost use Rattle.rebuild.specs.Relaid.{relaid};
-ghost use Rattle.rebuild.specs.steps.Rebuild.{tagged, packed, recordIn, hopsFrom, took};
+ghost use Rattle.rebuild.specs.steps.Rebuild.{slots, tagged, packed, recordIn, hopsFrom, took};
 
 // A page filled from entries: where the next entry stands, and how many came from another page.
 pub struct Took {
@@ -43,23 +47,25 @@ fn pack_page(
     shape: Shape,
     top: usize,
 ) -> usize
-    requires { ⌜ (page .count ≤ 12) × (a < 4096) × (20 * page .count ≤ top) × (top ≤ length (now area)) × Ready shape × (homes ≡ padded (map (homeFor (homeIn shape)) (recordsOf page))) ⌝ }
-    ensures { λ r. ⌜ r ≡ top - 20 * page .count ⌝ }
-    ensures { λ r. ⌜ now (area .exit) ≡ written (now (area .entry)) (top - 20 * page .count) (rowBytes (tagged (homeIn shape) a (recordsOf page))) ⌝ }
+    requires { ⌜ (page .count ≤ 12) × (a < 4096) × (size * page .count ≤ top) × (top ≤ length (now area)) × Ready shape × (homes ≡ padded (map (homeFor (homeIn shape)) (recordsOf page))) ⌝ }
+    ensures { λ r. ⌜ r ≡ top - size * page .count ⌝ }
+    ensures { λ r. ⌜ now (area .exit) ≡ written (now (area .entry)) (top - size * page .count) (rowBytes (tagged (homeIn shape) a (recordsOf page))) ⌝ }
 {
     let keys = page.keys;
     let values = page.values;
+    let runs = page.runs;
     let mut at = top;
     let mut i = page.count;
     while 0 < i {
         i -= 1;
-        at -= 20;
+        at -= WIDTH;
         let e = Entry {
             home: homes[i] as u16,
             from: a as u16,
             held: Record {
                 key: keys[i],
                 value: values[i],
+                run: runs[i],
             },
         };
         entries::put_entry(area, at, e);
@@ -70,15 +76,15 @@ fn pack_page(
 // All records of an area as entries at its top end, in the order of the pages; the answer is where
 // they begin. A page is read before entries may cover it.
 pub fn pack(area: &mut [u8], cap: usize, new: NewHomes) -> usize
-    requires { ⌜ (cap ≤ 4096) × (length (now area) ≡ 256 * cap) × Usable new × ((a : ℕ) → a < cap → KnownAt new (now area) a) ⌝ }
-    ensures { λ r. ⌜ r ≡ 256 * cap - 20 * length (packed (newHome new) cap (now (area .entry))) ⌝ }
+    requires { ⌜ (cap ≤ 4096) × (length (now area) ≡ 256 * cap) × Usable new × ((a : ℕ) → a < cap → KnownAt inUse new (now area) a) ⌝ }
+    ensures { λ r. ⌜ r ≡ 256 * cap - size * length (packed (newHome new) cap (now (area .entry))) ⌝ }
     ensures { λ r. ⌜ now (area .exit) ≡ take r (now (area .entry)) ++ rowBytes (packed (newHome new) cap (now (area .entry))) ⌝ }
 {
     let mut at = 256 * cap;
     let mut a = cap;
     while 0 < a {
         a -= 1;
-        let page = pages::parse_at(&area[..], a);
+        let page = pages::parse_at(&area[..], a, IN_USE);
         let homes = pages::known::homes_at(&area[..], a, page, new);
         at = pack_page(area, page, homes, a, new.shape, at);
     }
@@ -87,29 +93,32 @@ pub fn pack(area: &mut [u8], cap: usize, new: NewHomes) -> usize
 
 // Page a takes entries while it has a slot and the next entry's home is not above it.
 fn take_page(area: &[u8], at: usize, a: usize) -> Took
-    requires { ⌜ (at ≤ length (now area)) × (length (now area) ≡ at + 20 * ((length (now area) - at) / 20)) × (a < 4096) ⌝ }
+    requires { ⌜ (at ≤ length (now area)) × (length (now area) ≡ at + size * ((length (now area) - at) / size)) × (a < 4096) ⌝ }
     ensures { λ r. ⌜ r ≡ took a at (entriesIn (drop at (now (area .entry)))) ⌝ }
 {
     let mut keys = [0; 12];
     let mut values = [0; 12];
+    let mut runs = [0; 12];
     let mut count = 0;
     let mut next = at;
     let mut moved: u32 = 0;
-    while (count < 12) & (next < area.len()) {
+    while (count < SLOTS) & (next < area.len()) {
         let e = entries::get_entry(area, next);
         if (a as u16) < e.home {
             break;
         }
         keys[count] = e.held.key;
         values[count] = e.held.value;
+        runs[count] = e.held.run;
         moved += strange(e.from, a);
         count += 1;
-        next += 20;
+        next += WIDTH;
     }
     let page = Page {
         count,
         keys,
         values,
+        runs,
     };
     Took { page, next, moved }
 }
@@ -124,9 +133,9 @@ fn strange(from: u16, a: usize) -> u32
 // Sorted entries at the top end of an area laid on its pages; the answer is how many came from
 // another page. Where all have room, a page ends below the first entry that is not yet read.
 pub fn unpack(area: &mut [u8], cap: usize, base: usize) -> u32
-    requires { ⌜ (cap ≤ 4096) × (length (now area) ≡ 256 * cap) × (base ≤ 256 * cap) × (256 * cap ≡ base + 20 * ((256 * cap - base) / 20)) ⌝ }
-    requires { let es = entriesIn (drop base (now area)) in ⌜ Sorted rank es × (taken home 12 es cap ≡ length es) ⌝ }
-    ensures { λ r. let ps = lay home 12 cap 0 (entriesIn (drop base (now (area .entry)))) in ⌜ (r ≡ hopsFrom 0 ps) × (now (area .exit) ≡ areaFrom 0 (map (map recordIn) ps)) ⌝ }
+    requires { ⌜ (cap ≤ 4096) × (length (now area) ≡ 256 * cap) × (base ≤ 256 * cap) × (256 * cap ≡ base + size * ((256 * cap - base) / size)) ⌝ }
+    requires { let es = entriesIn (drop base (now area)) in ⌜ Sorted rank es × (taken home slots es cap ≡ length es) ⌝ }
+    ensures { λ r. let ps = lay home slots cap 0 (entriesIn (drop base (now (area .entry)))) in ⌜ (r ≡ hopsFrom 0 ps) × (now (area .exit) ≡ areaFrom inUse 0 (map (map recordIn) ps)) ⌝ }
 {
     let mut moved = 0;
     let mut at = base;
@@ -134,7 +143,7 @@ pub fn unpack(area: &mut [u8], cap: usize, base: usize) -> u32
     while a < cap {
         let t = take_page(&area[..], at, a);
         let page = t.page;
-        pages::store_at(area, a, page);
+        pages::store_at(area, a, IN_USE, page);
         at = t.next;
         moved += t.moved;
         a += 1;
@@ -145,9 +154,9 @@ pub fn unpack(area: &mut [u8], cap: usize, base: usize) -> u32
 // The records of an area laid anew, each at its new home; the answer is how many lie on another
 // page.
 pub fn rebuild(area: &mut [u8], cap: usize, new: NewHomes) -> u32
-    requires { ⌜ (cap ≤ 4096) × (length (now area) ≡ 256 * cap) × Usable new × ((a : ℕ) → a < cap → KnownAt new (now area) a) ⌝ }
-    requires { let held = cat (heldFrom (now area) cap 0) [] in ⌜ RecordSet key held × (taken (homeFor (newHome new)) 12 held cap ≡ length held) ⌝ }
-    ensures { λ r. let ps = heldFrom (now (area .entry)) cap 0 in let qs = relaid (newHome new) cap ps in ⌜ (r ≡ strayed key ps qs) × (now (area .exit) ≡ areaFrom 0 qs) ⌝ }
+    requires { ⌜ (cap ≤ 4096) × (length (now area) ≡ 256 * cap) × Usable new × ((a : ℕ) → a < cap → KnownAt inUse new (now area) a) ⌝ }
+    requires { let held = cat (heldFrom inUse (now area) cap 0) [] in ⌜ RecordSet key held × (taken (homeFor (newHome new)) slots held cap ≡ length held) ⌝ }
+    ensures { λ r. let ps = heldFrom inUse (now (area .entry)) cap 0 in let qs = relaid slots (newHome new) cap ps in ⌜ (r ≡ strayed key ps qs) × (now (area .exit) ≡ areaFrom inUse 0 qs) ⌝ }
 {
     let base = pack(area, cap, new);
     entries::sort_row(&mut area[base..], new.apart);

@@ -9,6 +9,7 @@ use native.Mathlib.Omega.{arith}
 use borrow.Author.Needs.{needs}
 use lib.ListN.{length}
 use Rattle.numbers.specs.Little.{written}
+use Rattle.entries.specs.steps.Entries.{size}
 use Rattle.homes.specs.Homes.{homeIn}
 use Rattle.pages.specs.Page.{homeFor, padded}
 use Rattle.pages.specs.steps.Slots.{paired, recordsOf}
@@ -19,13 +20,13 @@ use Rattle.rebuild.proofs.pack_page.Statement.{statement}
 use Rattle.rebuild.proofs.pack_page.Tie as tie
 
 abbrev Inv-loop : tie.InvT-loop
-Inv-loop area₀ a top homes keys values at₀ i₀ area at i =
-    (i ≤ i₀) × (at ≡ top - 20 * i₀ + 20 * i) × (length area ≡ length area₀)
-    × ((h : ℕ → ℕ) → homes ≡ padded (map (homeFor h) (paired i₀ keys values))
-    → written area (top - 20 * i₀) (rows h a i keys values) ≡ written area₀ (top - 20 * i₀) (rows h a i₀ keys values))
+Inv-loop area₀ a top homes keys values runs at₀ i₀ area at i =
+    (i ≤ i₀) × (at ≡ top - size * i₀ + size * i) × (length area ≡ length area₀)
+    × ((h : ℕ → ℕ) → homes ≡ padded (map (homeFor h) (paired i₀ keys values runs))
+    → written area (top - size * i₀) (rows h a i keys values runs) ≡ written area₀ (top - size * i₀) (rows h a i₀ keys values runs))
 
 abbrev μ-loop : tie.MeasureT-loop
-μ-loop area₀ a top homes keys values at₀ i₀ area at i = i
+μ-loop area₀ a top homes keys values runs at₀ i₀ area at i = i
 
 loop-holds : tie.Need-loop-holds Inv-loop μ-loop
 loop-holds c = (omega arith, omega arith, refl, λ h e. refl)
@@ -36,34 +37,40 @@ sub-i c = search needs
 sub-at : tie.Need-sub-at Inv-loop μ-loop
 sub-at c = search needs
 
-mul-t14 : tie.Need-mul-t14 Inv-loop μ-loop
-mul-t14 c = search needs
+mul-t15 : tie.Need-mul-t15 Inv-loop μ-loop
+mul-t15 c = search needs
 
-array-read-t17 : tie.Need-array-read-t17 Inv-loop μ-loop
-array-read-t17 c = search needs
-
-cast-t18 : tie.Need-cast-t18 Inv-loop μ-loop
-unfolding recordsOf
-cast-t18 c =
-    let start = c .before .before .before .before .before in
-    let p = start .args .page in
-    let is = homes-key (homeIn (start .args .shape)) (p .count) (p .keys) (p .values) _ (start .pre .5) (c .before .loop .i - 1) (omega arith) in
-    record { fits = home-small (start .args .shape) _ _ (start .pre .4) is }
+array-read-t18 : tie.Need-array-read-t18 Inv-loop μ-loop
+array-read-t18 c = search needs
 
 cast-t19 : tie.Need-cast-t19 Inv-loop μ-loop
-cast-t19 c = search needs
+unfolding recordsOf
+cast-t19 c =
+    let start = c .before .before .before .before .before .before in
+    let p = start .args .page in
+    let is = homes-key (homeIn (start .args .shape)) (p .count) (p .keys) (p .values) (p .runs) _ (start .pre .5) (c .before .loop .i - 1) (omega arith) in
+    record { fits = home-small (start .args .shape) _ _ (start .pre .4) is }
 
-mul-t20 : tie.Need-mul-t20 Inv-loop μ-loop
-mul-t20 c = search needs
+cast-t20 : tie.Need-cast-t20 Inv-loop μ-loop
+cast-t20 c = search needs
 
-array-read-t23 : tie.Need-array-read-t23 Inv-loop μ-loop
-array-read-t23 c = search needs
+mul-t21 : tie.Need-mul-t21 Inv-loop μ-loop
+mul-t21 c = search needs
 
-mul-t24 : tie.Need-mul-t24 Inv-loop μ-loop
-mul-t24 c = search needs
+array-read-t24 : tie.Need-array-read-t24 Inv-loop μ-loop
+array-read-t24 c = search needs
 
-array-read-t27 : tie.Need-array-read-t27 Inv-loop μ-loop
-array-read-t27 c = search needs
+mul-t25 : tie.Need-mul-t25 Inv-loop μ-loop
+mul-t25 c = search needs
+
+array-read-t28 : tie.Need-array-read-t28 Inv-loop μ-loop
+array-read-t28 c = search needs
+
+mul-t29 : tie.Need-mul-t29 Inv-loop μ-loop
+mul-t29 c = search needs
+
+array-read-t32 : tie.Need-array-read-t32 Inv-loop μ-loop
+array-read-t32 c = search needs
 
 put-entry-requires : tie.Need-put-entry-requires Inv-loop μ-loop
 put-entry-requires c κs = search needs
@@ -76,12 +83,12 @@ loop-again c =
     let called = c .before .before in
     let turn = called .before .before in
     let l = turn .before .loop in
-    let start = turn .before .before .before .before .before in
+    let start = turn .before .before .before .before .before .before in
     let p = start .args .page in (
       omega arith,
       omega arith,
       search needs,
-      λ h e. page-turn (l .area) _ h (start .args .a) _ (l .i) _ _ _ _ (turn .loop-test .taken) (omega arith) (omega arith) (homes-key h (p .count) (p .keys) (p .values) _ e (l .i - 1) (omega arith)) (called .put-entry .ensures) ∙ l .inv .3 h e,
+      λ h e. page-turn (l .area) _ h (start .args .a) _ (l .i) _ _ _ _ _ (turn .loop-test .taken) (omega arith) (omega arith) (homes-key h (p .count) (p .keys) (p .values) (p .runs) _ e (l .i - 1) (omega arith)) (called .put-entry .ensures) ∙ l .inv .3 h e,
     )
 
 same-length : tie.Need-same-length Inv-loop μ-loop
@@ -91,9 +98,9 @@ returns : tie.Need-returns Inv-loop μ-loop
 unfolding recordsOf
 returns c =
     let l = c .before .loop in
-    let start = c .before .before .before .before .before in
+    let start = c .before .before .before .before .before .before in
     let h = homeIn (start .args .shape) in
-    (omega arith, page-done (l .area) _ h (start .args .a) _ (l .i) _ _ (c .loop-test .left) (l .inv .3 h (start .pre .5)))
+    (omega arith, page-done (l .area) _ h (start .args .a) _ (l .i) _ _ _ (c .loop-test .left) (l .inv .3 h (start .pre .5)))
 
 pub pack-page-spec : {M : Type 1} → statement M
 pack-page-spec =
@@ -104,14 +111,16 @@ pack-page-spec =
     loop-holds
     sub-i
     sub-at
-    mul-t14
-    array-read-t17
-    cast-t18
+    mul-t15
+    array-read-t18
     cast-t19
-    mul-t20
-    array-read-t23
-    mul-t24
-    array-read-t27
+    cast-t20
+    mul-t21
+    array-read-t24
+    mul-t25
+    array-read-t28
+    mul-t29
+    array-read-t32
     put-entry-requires
     loop-less
     loop-again

@@ -17,7 +17,7 @@ gathered c =
     let start = c .before .before .before in
     record {
       small = start .pre .0 .0;
-      size = start .pre .0 .1;
+      whole = start .pre .0 .1;
       low = λ k. home-small (start .args .new .shape) k _ (start .pre .0 .2 .ready) refl;
       fit = c .before .before .slice-known .given;
       set = start .pre .1 .0;

@@ -4,16 +4,17 @@
 use Prim.Native.Nat.{_-_}
 use native.Mathlib.Omega.{arith}
 use borrow.Author.Needs.{needs}
+use Rattle.rebuild.specs.steps.Rebuild.{slots}
 use Rattle.rebuild.proofs.Take.{Taking, taking-start, taking-turn, taking-above, taking-end, slot-left, entry-left, moves-fit}
 use Rattle.rebuild.proofs.take_page.Statement.{statement}
 use Rattle.rebuild.proofs.take_page.Tie as tie
 
 abbrev Inv-loop : tie.InvT-loop
-Inv-loop area at a keys₀ values₀ count₀ next₀ moved₀ keys values count next moved =
-    Taking a at area keys values count next moved
+Inv-loop area at a keys₀ values₀ runs₀ count₀ next₀ moved₀ keys values runs count next moved =
+    Taking a at area keys values runs count next moved
 
 abbrev μ-loop : tie.MeasureT-loop
-μ-loop area at a keys₀ values₀ count₀ next₀ moved₀ keys values count next moved = 12 - count
+μ-loop area at a keys₀ values₀ runs₀ count₀ next₀ moved₀ keys values runs count next moved = slots - count
 
 loop-holds : tie.Need-loop-holds Inv-loop μ-loop
 loop-holds c = taking-start _ _ _ (c .before .pre .1) (c .before .pre .0)
@@ -35,6 +36,12 @@ mul-values c = search needs
 
 array-write-values : tie.Need-array-write-values Inv-loop μ-loop
 array-write-values c = slot-left (c .before .before .before .before .loop .inv) (c .before .before .before .loop-test .taken)
+
+mul-runs : tie.Need-mul-runs Inv-loop μ-loop
+mul-runs c = search needs
+
+array-write-runs : tie.Need-array-write-runs Inv-loop μ-loop
+array-write-runs c = slot-left (c .before .before .before .before .loop .inv) (c .before .before .before .loop-test .taken)
 
 strange-requires : tie.Need-strange-requires Inv-loop μ-loop
 strange-requires c κs = search needs
@@ -77,6 +84,8 @@ take-page-spec =
     array-write-keys
     mul-values
     array-write-values
+    mul-runs
+    array-write-runs
     strange-requires
     add-moved
     add-count

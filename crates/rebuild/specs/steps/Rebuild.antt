@@ -4,12 +4,17 @@ use mathlib.Core.Bool.{cond, not}
 use mathlib.Core.List.{List, [], _∷_, _++_, map}
 use lib.ListN.{take}
 use lib.Dec.{leb, eqb}
+use Rattle.layouts.specs.Layout.{inUse, slotsOf}
 use Rattle.placing.specs.Lay.{count}
 use Rattle.pages.specs.Page.{Record, key, inMemory}
 use Rattle.pages.specs.Area.{heldFrom}
 use Rattle.entries.specs.declared.Entry.{Entry}
-use Rattle.entries.specs.steps.Entries.{home}
+use Rattle.entries.specs.steps.Entries.{size, home}
 use Rattle.rebuild.specs.declared.Took.{Took}
+
+-- how many slots a page has that is laid
+abbrev pub slots : ℕ
+slots = slotsOf inUse
 
 -- the entries of a page's records, each with its home and the page's address
 abbrev pub tagged : (ℕ → ℕ) → ℕ → List Record → List Entry
@@ -27,7 +32,7 @@ recordIn e = e .held
 
 -- what an area of n pages holds, as entries
 unfoldable pub packed : (ℕ → ℕ) → (n : ℕ) → List ℕ → List Entry
-packed h n area = taggedFrom h 0 (heldFrom area n 0)
+packed h n area = taggedFrom h 0 (heldFrom inUse area n 0)
 
 -- how many at the front, of b at most, have their home at a or lower
 abbrev pub fitting : (b a : ℕ) → List Entry → ℕ
@@ -46,4 +51,4 @@ hopsFrom a (p ∷ ps) = hops a p + hopsFrom (suc a) ps
 
 -- page a filled from the entries at an offset
 abbrev pub took : (a at : ℕ) → List Entry → Took
-took a at es = let k = fitting 12 a es in record { page = inMemory (map recordIn (take k es)); next = at + 20 * k; moved = hops a (take k es) }
+took a at es = let k = fitting slots a es in record { page = inMemory (map recordIn (take k es)); next = at + size * k; moved = hops a (take k es) }

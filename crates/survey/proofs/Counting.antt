@@ -13,6 +13,7 @@ use lib.ListN.{length, getD, set, take, drop, replicate, length-take, length-set
 use lib.Seq.{getD-set-same, getD-set-other, take-append-seam, take-suc, drop-cons, drop-length, ext-getD}
 use borrow.Author.Tests.{ltb-true, ltb-false, eqb-true, eqb-false}
 use borrow.Author.Fill.{fill-more}
+use Rattle.layouts.specs.declared.Layout.{Layout}
 use Rattle.homes.specs.declared.new_homes.NewHomes.{NewHomes}
 use Rattle.homes.specs.steps.NewHomes.{newHome, keepsAt}
 use Rattle.placing.specs.Image.{cat}
@@ -26,7 +27,7 @@ use Rattle.pages.specs.Page.{Record, key, vacant, homeFor, recordsIn, inMemory,
 use Rattle.pages.specs.steps.Slots.{recordsOf}
 use Rattle.pages.specs.Area.{partAt, heldFrom}
 use Rattle.pages.proofs.Rows.{row-at}
-use Rattle.pages.proofs.Read.{held-few}
+use Rattle.pages.proofs.Read.{held-twelve}
 use Rattle.pages.proofs.Write.{zeros}
 use Rattle.survey.specs.declared.Count.{Count}
 use Rattle.survey.specs.declared.Count.the-variants.{Nothing, Homes}
@@ -159,38 +160,38 @@ homes-few Nothing rs = omega arith
 homes-few (Homes new) rs = omega (arith, length-map rs (homeFor (newHome new)))
 
 -- the pages below a are counted, and those from a on are left to tally
-pub record ToCount (count : Count) (area : List ℕ) (cap n : ℕ) (row : List ℕ) (a : ℕ) : Type 0 where
+pub record ToCount (f : Layout) (count : Count) (area : List ℕ) (cap n : ℕ) (row : List ℕ) (a : ℕ) : Type 0 where
   pub long : length row ≡ n
   pub small : (k : ℕ) → getD row k 0 ≤ 12 * a
-  pub rest : tallied (homesOf count (cat (heldFrom area (cap - a) a) [])) row ≡ tallied (homesOf count (cat (heldFrom area cap 0) [])) (replicate n 0)
+  pub rest : tallied (homesOf count (cat (heldFrom f area (cap - a) a) [])) row ≡ tallied (homesOf count (cat (heldFrom f area cap 0) [])) (replicate n 0)
 
 -- a row of zeros is where they start
-pub count-starts : (count : Count) (area : List ℕ) (cap m : ℕ) (row : List ℕ) → row ≡ replicate m 0 → ToCount count area cap (length row) row 0
-count-starts count area cap m row e =
+pub count-starts : (f : Layout) (count : Count) (area : List ℕ) (cap m : ℕ) (row : List ℕ) → row ≡ replicate m 0 → ToCount f count area cap (length row) row 0
+count-starts f count area cap m row e =
     let l : length row ≡ m = ap length e ∙ length-replicate m 0 in
     let z : cap - 0 ≡ cap = omega arith in
     record { long = refl; small = λ k. rw e (omega (arith, zeros m k)); rest = rw (z, l, e) }
 
-module _ {count : Count} {area : List ℕ} {cap n : ℕ} {row : List ℕ} {a : ℕ} (c : ToCount count area cap n row a) where
+module _ {f : Layout} {count : Count} {area : List ℕ} {cap n : ℕ} {row : List ℕ} {a : ℕ} (c : ToCount f count area cap n row a) where
   -- the records of page a counted
-  pub count-goes-on : {row′ : List ℕ} (rs : List Record) → rs ≡ recordsIn (partAt area a) → a < cap → row′ ≡ tallied (homesOf count rs) row
-      → ToCount count area cap n row′ (a + 1)
+  pub count-goes-on : {row′ : List ℕ} (rs : List Record) → rs ≡ recordsIn f (partAt area a) → a < cap → row′ ≡ tallied (homesOf count rs) row
+      → ToCount f count area cap n row′ (a + 1)
   count-goes-on {row′} rs is l e =
       let js : List ℕ = homesOf count rs in
       let m : cap - a ≡ suc (cap - suc a) = omega arith in
-      let more : List Record = cat (heldFrom area (cap - suc a) (suc a)) [] in
+      let more : List Record = cat (heldFrom f area (cap - suc a) (suc a)) [] in
       record {
         long = ap length e ∙ tally-length js row ∙ c .long;
-        small = λ k. rw e (omega (arith, tally-le js row k, c .small k, homes-few count rs, ap length is, held-few (partAt area a)));
+        small = λ k. rw e (omega (arith, tally-le js row k, c .small k, homes-few count rs, ap length is, held-twelve f (partAt area a)));
         rest = rw (e, add-one a) (sym (tally-append js (homesOf count more) row)) ∙ rw (m, ← is, homes-append count rs more) at (c .rest);
       }
 
   -- all counted
-  pub count-ends : cap ≤ a → (m : ℕ) → n ≡ m → (image : Bool) (records : ℕ) → Counts (Whole image records) count (cat (heldFrom area cap 0) []) m row
+  pub count-ends : cap ≤ a → (m : ℕ) → n ≡ m → (image : Bool) (records : ℕ) → Counts (Whole image records) count (cat (heldFrom f area cap 0) []) m row
   count-ends l m q image records = go count (let z : cap - a ≡ 0 = omega arith in rw (z, q) at (c .rest))
     where
       rs : List Record
-      rs = cat (heldFrom area cap 0) []
+      rs = cat (heldFrom f area cap 0) []
 
       go : (k : Count) → tallied (homesOf k []) row ≡ tallied (homesOf k rs) (replicate m 0) → Counts (Whole image records) k rs m row
       go Nothing e = tt
@@ -218,8 +219,8 @@ module _ (h : ℕ → ℕ) (j : Judged) (rs : List Record) (e : j ≡ judged h (
   page-countable (Homes new) m n l w = rw l (w .0, w .1, w .2, λ k a s. w .3 k a (stands-home k a s))
 
 -- what the counts from i on leave over
-pub over-goes-on : (row : List ℕ) (i x y : ℕ) → i < length row → y ≡ x + getD row i 0 - 12 → leftOver 12 (drop (i + 1) row) y ≡ leftOver 12 (drop i row) x
-over-goes-on row i x y l e = rw (add-one i, drop-cons row i 0 l, e)
+pub over-goes-on : (b : ℕ) (row : List ℕ) (i x y : ℕ) → i < length row → y ≡ x + getD row i 0 - b → leftOver b (drop (i + 1) row) y ≡ leftOver b (drop i row) x
+over-goes-on b row i x y l e = rw (add-one i, drop-cons row i 0 l, e)
 
-pub over-ends : (row : List ℕ) (i x : ℕ) → i ≡ length row → leftOver 12 (drop i row) x ≡ leftOver 12 row 0 → eqb x 0 ≡ eqb (leftOver 12 row 0) 0
-over-ends row i x n e = ap (λ (y : ℕ). eqb y 0) (rw (n, drop-length) at e)
+pub over-ends : (b : ℕ) (row : List ℕ) (i x : ℕ) → i ≡ length row → leftOver b (drop i row) x ≡ leftOver b row 0 → eqb x 0 ≡ eqb (leftOver b row 0) 0
+over-ends b row i x n e = ap (λ (y : ℕ). eqb y 0) (rw (n, drop-length) at e)

@@ -11,6 +11,9 @@ use lib.ListN.{length}
 use borrow.Author.Tests.{leb-true, le-leb}
 use Rattle.numbers.specs.Little.{Bytes}
 use Rattle.numbers.proofs.Records.{and-left, and-right}
+use Rattle.layouts.specs.Layout.{slotsOf}
+use Rattle.layouts.specs.declared.Layout.{Layout}
+use Rattle.layouts.proofs.Slots.{slots-few}
 use Rattle.placing.specs.Image.{All, cat, Distinct, RecordSet, homeOf, Image}
 use Rattle.placing.specs.Lay.{rankOf, rankIn}
 use Rattle.placing.proofs.Lists.{all-map, all-append, all-right}
@@ -27,13 +30,13 @@ use Rattle.pages.proofs.Rules.{homes-all, rises-sorted}
 use Rattle.pages.proofs.Areas.{held-length}
 use Rattle.survey.specs.Survey.{lowestBroken, startsAtHome, startsAt, nextLow, imageFrom, isImage}
 
-module _ (h : ℕ → ℕ) where
+module _ (f : Layout) (h : ℕ → ℕ) where
   abbrev rank : Record → ℕ
   rank = rankIn key h
 
   -- a page at address a keeps the page rules
   pub record GoodPage (a : ℕ) (p : List Record) : Type 0 where
-    pub few : length p ≤ 12
+    pub few : length p ≤ (slotsOf f)
     pub homes : homesTo h a p ≡ true
     pub rising : rises h p ≡ true
     pub keys : All (λ x. key x < 2 ^ 64) p
@@ -75,52 +78,52 @@ module _ (h : ℕ → ℕ) where
   low-starts low (x ∷ p) t b = le-leb low (rank x) (b .0)
 
   -- the test of the first home is that of the page by page form
-  starts-first : (full : Bool) (a : ℕ) (p : List Record) → startsAtHome h full a p ≡ true → FirstHome (homeOf key h) 12 full a p
+  starts-first : (full : Bool) (a : ℕ) (p : List Record) → startsAtHome h full a p ≡ true → FirstHome (homeOf key h) (slotsOf f) full a p
   starts-first true a p e = tt
   starts-first false a [] e = tt
   starts-first false a (x ∷ p) e = leb-true a (h (key x)) e
 
-  first-starts : (full : Bool) (a : ℕ) (p : List Record) → FirstHome (homeOf key h) 12 full a p → startsAtHome h full a p ≡ true
+  first-starts : (full : Bool) (a : ℕ) (p : List Record) → FirstHome (homeOf key h) (slotsOf f) full a p → startsAtHome h full a p ≡ true
   first-starts true a p f = refl
   first-starts false a [] f = refl
   first-starts false a (x ∷ p) f = le-leb a (h (key x)) f
 
   -- the test of a page and of those after it is three tests
-  pub three : (full : Bool) (low a : ℕ) (p : List Record) (ps : List (List Record)) → imageFrom h full low a (p ∷ ps) ≡ true
-      → (startsAtHome h full a p ≡ true) × (startsAt h low p ≡ true) × (imageFrom h (leb 12 (length p)) (nextLow h low p) (suc a) ps ≡ true)
+  pub three : (full : Bool) (low a : ℕ) (p : List Record) (ps : List (List Record)) → imageFrom f h full low a (p ∷ ps) ≡ true
+      → (startsAtHome h full a p ≡ true) × (startsAt h low p ≡ true) × (imageFrom f h (leb (slotsOf f) (length p)) (nextLow h low p) (suc a) ps ≡ true)
   three full low a p ps e =
-      let on : Bool = imageFrom h (leb 12 (length p)) (nextLow h low p) (suc a) ps in
+      let on : Bool = imageFrom f h (leb (slotsOf f) (length p)) (nextLow h low p) (suc a) ps in
       let both : (startsAt h low p && on) ≡ true = and-right (startsAtHome h full a p) (startsAt h low p && on) e in
       (and-left (startsAtHome h full a p) (startsAt h low p && on) e, and-left (startsAt h low p) on both, and-right (startsAt h low p) on both)
 
   -- good pages that pass are sorted, from `low` on
-  test-sorted : (full : Bool) (low a : ℕ) (ps : List (List Record)) → GoodFrom a ps → imageFrom h full low a ps ≡ true
+  test-sorted : (full : Bool) (low a : ℕ) (ps : List (List Record)) → GoodFrom a ps → imageFrom f h full low a ps ≡ true
       → Sorted rank (cat ps []) × All (λ y. low ≤ rank y) (cat ps [])
   test-sorted full low a [] g e = (tt, tt)
   test-sorted full low a (p ∷ ps) g e =
       let t = three full low a p ps e in
-      let on = test-sorted (leb 12 (length p)) (nextLow h low p) (suc a) ps (g .1) (t .2) in
+      let on = test-sorted (leb (slotsOf f) (length p)) (nextLow h low p) (suc a) ps (g .1) (t .2) in
       let s : Sorted rank (p ++ cat ps []) = sorted-append low p (cat ps []) (rises-sorted h p (g .0 .rising)) (on .1) (on .0) in
       (s, starts-low low p (cat ps []) (t .1) s (on .1))
 
   -- and rightly placed, each judged with what was seen of the page before it
-  test-local : (full : Bool) (low a : ℕ) (ps : List (List Record)) → GoodFrom a ps → imageFrom h full low a ps ≡ true → Local (homeOf key h) 12 full a ps
+  test-local : (full : Bool) (low a : ℕ) (ps : List (List Record)) → GoodFrom a ps → imageFrom f h full low a ps ≡ true → Local (homeOf key h) (slotsOf f) full a ps
   test-local full low a [] g e = tt
   test-local full low a (p ∷ ps) g e =
       let t = three full low a p ps e in (
         g .0 .few,
         homes-all h a p (g .0 .homes),
         starts-first full a p (t .0),
-        test-local (leb 12 (length p)) (nextLow h low p) (suc a) ps (g .1) (t .2),
+        test-local (leb (slotsOf f) (length p)) (nextLow h low p) (suc a) ps (g .1) (t .2),
       )
 
   -- pages that are both pass
-  local-test : (full : Bool) (low a : ℕ) (ps : List (List Record)) → Local (homeOf key h) 12 full a ps → Sorted rank (cat ps []) → All (λ y. low ≤ rank y) (cat ps [])
-      → imageFrom h full low a ps ≡ true
+  local-test : (full : Bool) (low a : ℕ) (ps : List (List Record)) → Local (homeOf key h) (slotsOf f) full a ps → Sorted rank (cat ps []) → All (λ y. low ≤ rank y) (cat ps [])
+      → imageFrom f h full low a ps ≡ true
   local-test full low a [] l s b = refl
   local-test full low a (p ∷ ps) l s b =
       rw (first-starts full a p (l .2), low-starts low p (cat ps []) b)
-      (local-test (leb 12 (length p)) (nextLow h low p) (suc a) ps (l .3) (sorted-right rank p (cat ps []) s)
+      (local-test (leb (slotsOf f) (length p)) (nextLow h low p) (suc a) ps (l .3) (sorted-right rank p (cat ps []) s)
       (after-last low p (cat ps []) s (all-right (λ y. low ≤ rank y) p (cat ps []) b)))
 
   -- in rising ranks no key is there twice
@@ -136,64 +139,64 @@ module _ (h : ℕ → ℕ) where
 
   module _ (ps : List (List Record)) where
     -- an image, read upward, is sorted
-    pub image-sorted : isImage h ps ≡ true → GoodFrom 0 ps → Sorted (rankIn key h) (cat ps [])
+    pub image-sorted : isImage f h ps ≡ true → GoodFrom 0 ps → Sorted (rankIn key h) (cat ps [])
     unfolding isImage
     image-sorted e g = test-sorted true 0 0 ps g e .0
 
     -- and holds no key twice
-    pub image-set : isImage h ps ≡ true → GoodFrom 0 ps → RecordSet key (cat ps [])
+    pub image-set : isImage f h ps ≡ true → GoodFrom 0 ps → RecordSet key (cat ps [])
     image-set e g = sorted-set ps g (image-sorted e g)
 
     -- good pages pass the test exactly where they are the image of their records
-    pub image-test : (n : ℕ) → length ps ≡ n → GoodFrom 0 ps → (isImage h ps ≡ true) ↔ Image key h 12 n (cat ps []) ps
+    pub image-test : (n : ℕ) → length ps ≡ n → GoodFrom 0 ps → (isImage f h ps ≡ true) ↔ Image key h (slotsOf f) n (cat ps []) ps
     unfolding isImage
     image-test n m g = (passes, passed)
       where
-        passes : isImage h ps ≡ true → Image key h 12 n (cat ps []) ps
+        passes : isImage f h ps ≡ true → Image key h (slotsOf f) n (cat ps []) ps
         passes e =
             let s : Sorted rank (cat ps []) = image-sorted e g in
-            tidy-image key h 12 (image-set e g) (record {
-              packed = local-packed rank (homeOf key h) 12 (omega arith) (mono key h) true 0 ps s (test-local true 0 0 ps g e);
+            tidy-image key h (slotsOf f) (image-set e g) (record {
+              packed = local-packed rank (homeOf key h) (slotsOf f) (slots-few f .0) (mono key h) true 0 ps s (test-local true 0 0 ps g e);
               sorted = s;
               holds = Permᴰ·refl (cat ps []);
               many = m;
             })
 
-        passed : Image key h 12 n (cat ps []) ps → isImage h ps ≡ true
+        passed : Image key h (slotsOf f) n (cat ps []) ps → isImage f h ps ≡ true
         passed i =
             let s : Sorted rank (cat ps []) = rising-sorted key h (cat ps []) (good-keys 0 ps g) (i .rising) in
-            let t : Tidy key h 12 n (cat ps []) ps = image-tidy key h 12 (sorted-set ps g s) i in
-            local-test true 0 0 ps (packed-local rank (homeOf key h) 12 (omega arith) (mono key h) true 0 ps (t .packed) (λ e. absurd (let z : _≡_ {A = ℕ} 0 1 = cc in omega arith))) s
+            let t : Tidy key h (slotsOf f) n (cat ps []) ps = image-tidy key h (slotsOf f) (sorted-set ps g s) i in
+            local-test true 0 0 ps (packed-local rank (homeOf key h) (slotsOf f) (slots-few f .0) (mono key h) true 0 ps (t .packed) (λ e. absurd (let z : _≡_ {A = ℕ} 0 1 = cc in omega arith))) s
             (all-map (λ x. key x < 2 ^ 64) (λ y. 0 ≤ rank y) (λ y k. omega arith) (cat ps []) (good-keys 0 ps g))
 
-module _ (h : ℕ → ℕ) (area : List ℕ) where
+module _ (f : Layout) (h : ℕ → ℕ) (area : List ℕ) where
   -- where no page is broken, each is read as what it holds
-  pub none-broken : (n a : ℕ) → lowestBroken a (pagesFrom h area n a) ≡ none → pagesFrom h area n a ≡ map some (heldFrom area n a)
+  pub none-broken : (n a : ℕ) → lowestBroken a (pagesFrom f h area n a) ≡ none → pagesFrom f h area n a ≡ map some (heldFrom f area n a)
   none-broken zero a e = refl
-  none-broken (suc n) a e = go (readPage h a (partAt area a)) refl (none-broken n (suc a))
+  none-broken (suc n) a e = go (readPage f h a (partAt area a)) refl (none-broken n (suc a))
     where
-      go : (o : Option (List Record)) → readPage h a (partAt area a) ≡ o
-          → (lowestBroken (suc a) (pagesFrom h area n (suc a)) ≡ none → pagesFrom h area n (suc a) ≡ map some (heldFrom area n (suc a)))
-          → pagesFrom h area (suc n) a ≡ map some (heldFrom area (suc n) a)
+      go : (o : Option (List Record)) → readPage f h a (partAt area a) ≡ o
+          → (lowestBroken (suc a) (pagesFrom f h area n (suc a)) ≡ none → pagesFrom f h area n (suc a) ≡ map some (heldFrom f area n (suc a)))
+          → pagesFrom f h area (suc n) a ≡ map some (heldFrom f area (suc n) a)
       go none q on = absurd (clash (sym (rw q at e)))
       go (some p) q on =
-          let r : p ≡ recordsIn (partAt area a) = read-good h a (partAt area a) p q .records in
+          let r : p ≡ recordsIn f (partAt area a) = read-good f h a (partAt area a) p q .records in
           rw (q, r, on (rw q at e))
 
   -- and all keep the page rules
-  pub good-pages : Bytes area → (n a : ℕ) → 256 * (a + n) ≤ length area → lowestBroken a (pagesFrom h area n a) ≡ none → GoodFrom h a (heldFrom area n a)
+  pub good-pages : Bytes area → (n a : ℕ) → 256 * (a + n) ≤ length area → lowestBroken a (pagesFrom f h area n a) ≡ none → GoodFrom f h a (heldFrom f area n a)
   unfolding partAt
-  good-pages b zero a f e = tt
-  good-pages b (suc n) a f e = go (readPage h a (partAt area a)) refl (good-pages b n (suc a) (omega arith))
+  good-pages b zero a k e = tt
+  good-pages b (suc n) a k e = go (readPage f h a (partAt area a)) refl (good-pages b n (suc a) (omega arith))
     where
-      go : (o : Option (List Record)) → readPage h a (partAt area a) ≡ o
-          → (lowestBroken (suc a) (pagesFrom h area n (suc a)) ≡ none → GoodFrom h (suc a) (heldFrom area n (suc a)))
-          → GoodFrom h a (heldFrom area (suc n) a)
+      go : (o : Option (List Record)) → readPage f h a (partAt area a) ≡ o
+          → (lowestBroken (suc a) (pagesFrom f h area n (suc a)) ≡ none → GoodFrom f h (suc a) (heldFrom f area n (suc a)))
+          → GoodFrom f h a (heldFrom f area (suc n) a)
       go none q on = absurd (clash (sym (rw q at e)))
       go (some p) q on =
           let l : List ℕ = partAt area a in
-          let g : Good h a l p = read-good h a l p q in
-          let keys : All (λ x. key x < 2 ^ 64) (recordsIn l) = keys-small area a (omega arith) b in
+          let g : Good f h a l p = read-good f h a l p q in
+          let keys : All (λ x. key x < 2 ^ 64) (recordsIn f l) = keys-small f area a (omega arith) b in
           (rw (← g .records) (record { few = g .few; homes = g .homes; rising = g .rising; keys = rw (g .records) keys }), on (rw q at e))
 
 -- what pages are read as is one list
@@ -212,14 +215,14 @@ none-lowest a [] = refl
 none-lowest a (p ∷ ps) = none-lowest (suc a) ps
 
 -- so, where all pages pass, what they are read as stands on them
-module _ (h : ℕ → ℕ) (area : List ℕ) (n : ℕ) (ps : List (List Record)) where
-  pub all-pass : pagesFrom h area n 0 ≡ map some ps → (lowestBroken 0 (pagesFrom h area n 0) ≡ none) × (ps ≡ heldFrom area n 0)
+module _ (f : Layout) (h : ℕ → ℕ) (area : List ℕ) (n : ℕ) (ps : List (List Record)) where
+  pub all-pass : pagesFrom f h area n 0 ≡ map some ps → (lowestBroken 0 (pagesFrom f h area n 0) ≡ none) × (ps ≡ heldFrom f area n 0)
   all-pass e =
-      let w : lowestBroken 0 (pagesFrom h area n 0) ≡ none = rw e (none-lowest 0 ps) in
-      (w, same-pages ps (heldFrom area n 0) (sym e ∙ none-broken h area n 0 w))
+      let w : lowestBroken 0 (pagesFrom f h area n 0) ≡ none = rw e (none-lowest 0 ps) in
+      (w, same-pages ps (heldFrom f area n 0) (sym e ∙ none-broken f h area n 0 w))
 
   -- and the test tells whether they are an image
-  pub pages-test : Bytes area → 256 * n ≤ length area → pagesFrom h area n 0 ≡ map some ps → (isImage h ps ≡ true) ↔ Image key h 12 n (cat ps []) ps
+  pub pages-test : Bytes area → 256 * n ≤ length area → pagesFrom f h area n 0 ≡ map some ps → (isImage f h ps ≡ true) ↔ Image key h (slotsOf f) n (cat ps []) ps
   pages-test b l e =
       let w = all-pass e in
-      image-test h ps n (rw (w .1) (held-length area n 0)) (rw (w .1) (good-pages h area b n 0 (omega arith) (w .0)))
+      image-test f h ps n (rw (w .1) (held-length f area n 0)) (rw (w .1) (good-pages f h area b n 0 (omega arith) (w .0)))

@@ -6,6 +6,7 @@ use mathlib.Core.List.{List, [], _∷_}
 use Prim.Native.Nat.{ℕ, zero, suc, _+_, _≤_, _<_}
 use native.Mathlib.Omega.{arith}
 use borrow.Author.Tests.{leb-true, le-leb}
+use Rattle.layouts.specs.declared.Layout.{Layout}
 use Rattle.homes.specs.declared.new_homes.NewHomes.{NewHomes}
 use Rattle.homes.specs.steps.NewHomes.{newHome, keepsAt, Agrees}
 use Rattle.homes.proofs.New.{split}
@@ -40,7 +41,7 @@ module _ (h : ℕ → ℕ) (a : ℕ) where
       (omega (arith, t .0), all-after x p l s (t .1))
 
 -- h are the old homes, with which the new ones agree
-module _ (h : ℕ → ℕ) (new : NewHomes) (same : Agrees h new) where
+module _ (f : Layout) (h : ℕ → ℕ) (new : NewHomes) (same : Agrees h new) where
   module _ (a : ℕ) (on : keepsAt new a ≡ true) where
     all-still : (p : List Record) → AllHere h a p → AllHere (newHome new) a p
     all-still p k = all-map (λ x. h (key x) ≡ a) (λ x. newHome new (key x) ≡ a) (λ x e. same (key x) a on .0 e) p k
@@ -50,7 +51,7 @@ module _ (h : ℕ → ℕ) (new : NewHomes) (same : Agrees h new) where
     once-still (x ∷ p) k = (λ e. all-still p (k .0 (same (key x) a on .1 e)), once-still p (k .1))
 
   -- what is known of a page that keeps its rules and begins rightly after the page before it
-  page-known : (full : Bool) (a : ℕ) (p : List Record) → GoodPage h a p → startsAtHome h full a p ≡ true → Known (newHome new) a (keepsAt new a && not full) (keepsAt new a) p
+  page-known : (full : Bool) (a : ℕ) (p : List Record) → GoodPage f h a p → startsAtHome h full a p ≡ true → Known (newHome new) a (keepsAt new a && not full) (keepsAt new a) p
   page-known full a p k e = (λ t. go full e t, λ t. once-still a t p (once-here h a p sorted low))
     where
       sorted : Sorted (rankIn key h) p
@@ -59,25 +60,25 @@ module _ (h : ℕ → ℕ) (new : NewHomes) (same : Agrees h new) where
       low : All (λ y. h (key y) ≤ a) p
       low = homes-all h a p (k .homes)
 
-      go : (f : Bool) → startsAtHome h f a p ≡ true → (keepsAt new a && not f) ≡ true → AllHere (newHome new) a p
+      go : (u : Bool) → startsAtHome h u a p ≡ true → (keepsAt new a && not u) ≡ true → AllHere (newHome new) a p
       go true q t = absurd (false≢true (and-right (keepsAt new a) false t))
       go false q t = all-still a (and-left (keepsAt new a) true t) p (all-here h a p q sorted low)
 
   module _ (area : List ℕ) where
     -- so it is for all pages from a on
-    known-from : (n a low b : ℕ) → GoodFrom h a (heldFrom area n a) → imageFrom h (fullBefore area a) low a (heldFrom area n a) ≡ true
-        → a ≤ b → b < a + n → KnownAt new area b
+    known-from : (n a low b : ℕ) → GoodFrom f h a (heldFrom f area n a) → imageFrom f h (fullBefore f area a) low a (heldFrom f area n a) ≡ true
+        → a ≤ b → b < a + n → KnownAt f new area b
     known-from zero a low b k e l m = absurd (omega arith)
     known-from (suc n) a low b k e l m =
-        let p : List Record = recordsIn (partAt area a) in
-        let t = three h (fullBefore area a) low a p (heldFrom area n (suc a)) e in
+        let p : List Record = recordsIn f (partAt area a) in
+        let t = three f h (fullBefore f area a) low a p (heldFrom f area n (suc a)) e in
         ⊎-elim
         (λ lt. known-from n (suc a) (nextLow h low p) b (k .1) (t .2) (omega arith) (omega arith))
-        (λ ge. let q : b ≡ a = omega arith in rw q (page-known (fullBefore area a) a p (k .0) (t .0)))
+        (λ ge. let q : b ≡ a = omega arith in rw q (page-known (fullBefore f area a) a p (k .0) (t .0)))
         (split a b)
 
     -- page 0 begins rightly after none
-    from-none : (ps : List (List Record)) → imageFrom h true 0 0 ps ≡ true → imageFrom h false 0 0 ps ≡ true
+    from-none : (ps : List (List Record)) → imageFrom f h true 0 0 ps ≡ true → imageFrom f h false 0 0 ps ≡ true
     from-none [] e = refl
     from-none (p ∷ ps) e = rw (begins p) (and-right true _ e)
       where
@@ -86,6 +87,6 @@ module _ (h : ℕ → ℕ) (new : NewHomes) (same : Agrees h new) where
         begins (x ∷ p) = le-leb 0 (h (key x)) (omega arith)
 
     -- and for every page of an image
-    pub image-known : (n : ℕ) → GoodFrom h 0 (heldFrom area n 0) → isImage h (heldFrom area n 0) ≡ true → (b : ℕ) → b < n → KnownAt new area b
+    pub image-known : (n : ℕ) → GoodFrom f h 0 (heldFrom f area n 0) → isImage f h (heldFrom f area n 0) ≡ true → (b : ℕ) → b < n → KnownAt f new area b
     unfolding isImage
-    image-known n k e b l = known-from n 0 0 b k (from-none (heldFrom area n 0) e) (omega arith) (omega arith)
+    image-known n k e b l = known-from n 0 0 b k (from-none (heldFrom f area n 0) e) (omega arith) (omega arith)

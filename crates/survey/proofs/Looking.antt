@@ -10,6 +10,9 @@ use native.Mathlib.Omega.{arith}
 use lib.Dec.{leb, ltb, eqb}
 use lib.ListN.{length, getD, length-append}
 use borrow.Author.Tests.{eqb-true, eqb-false, eq-eqb, ne-eqb, le-leb, lt-leb}
+use Rattle.layouts.proofs.Slots.{slots-few}
+use Rattle.layouts.specs.Layout.{slotsOf}
+use Rattle.layouts.specs.declared.Layout.{Layout}
 use Rattle.placing.specs.Image.{cat}
 use Rattle.placing.specs.Lay.{rankIn, ranked}
 use Rattle.pages.specs.declared.Judged.{Judged}
@@ -22,10 +25,10 @@ use Rattle.survey.specs.declared.Verdict.the-variants as verdicts
 use Rattle.survey.specs.Survey.{lowestBroken, startsAtHome, startsAt, nextLow, imageFrom, isImage, surveyed}
 use Rattle.survey.specs.steps.Looks.{unseen, looked}
 
-module _ (s : Seen) (a n : ℕ) (hs ks : List ℕ) where
+module _ (f : Layout) (s : Seen) (a n : ℕ) (hs ks : List ℕ) where
   -- a page of no record tells only that it isn't full
   pub look-none : n ≡ 0
-      → _≡_ {A = Seen} (record { image = s .image; full = false; any = s .any; home = s .home; key = s .key; records = s .records + n }) (looked s a n hs ks)
+      → _≡_ {A = Seen} (record { image = s .image; full = false; any = s .any; home = s .home; key = s .key; records = s .records + n }) (looked f s a n hs ks)
   look-none e = rw (eq-eqb n 0 e)
 
   -- of any other the first record is compared and the last kept
@@ -33,28 +36,28 @@ module _ (s : Seen) (a n : ℕ) (hs ks : List ℕ) where
       → _≡_ {A = Seen}
       (record {
         image = s .image && ((s .full || leb a (getD hs 0 0)) && (not (s .any) || t));
-        full = eqb n 12;
+        full = eqb n (slotsOf f);
         any = true;
         home = getD hs (n - 1) 0;
         key = getD ks (n - 1) 0;
         records = s .records + n;
       })
-      (looked s a n hs ks)
+      (looked f s a n hs ks)
   look-some t e b = rw (ne-eqb n 0 e, b)
 
 -- what stands after the last record that was seen
 abbrev pub lowAfter : Seen → ℕ
 lowAfter s = cond (s .any) (suc (ranked (s .home) (s .key))) 0
 
--- a page is full with twelve records
-full-page : (n : ℕ) → n ≤ 12 → eqb n 12 ≡ leb 12 n
-full-page n l = go (eqb n 12) refl
+-- a page is full with as many records as it has slots
+full-page : (b n : ℕ) → n ≤ b → eqb n b ≡ leb b n
+full-page b n l = go (eqb n b) refl
   where
-    go : (u : Bool) → eqb n 12 ≡ u → u ≡ leb 12 n
-    go true e = sym (le-leb 12 n (omega (arith, eqb-true n 12 e)))
-    go false e = sym (lt-leb 12 n (let ne : (n ≡ 12 → ⊥) = eqb-false n 12 e in omega arith))
+    go : (u : Bool) → eqb n b ≡ u → u ≡ leb b n
+    go true e = sym (le-leb b n (omega (arith, eqb-true n b e)))
+    go false e = sym (lt-leb b n (let ne : (n ≡ b → ⊥) = eqb-false n b e in omega arith))
 
-module _ (h : ℕ → ℕ) where
+module _ (f : Layout) (h : ℕ → ℕ) where
   starts-none : (full : Bool) (a : ℕ) → startsAtHome h full a [] ≡ true
   starts-none true a = refl
   starts-none false a = refl
@@ -75,40 +78,40 @@ module _ (h : ℕ → ℕ) where
 
   -- what was seen, and what is left to look at from page a on
   abbrev decides : Seen → ℕ → List (List Record) → Bool
-  decides s a ps = s .image && imageFrom h (s .full) (lowAfter s) a ps
+  decides s a ps = s .image && imageFrom f h (s .full) (lowAfter s) a ps
 
   -- what was seen after a page, from the rows of its homes and keys
   abbrev after : Seen → ℕ → List Record → Seen
-  after s a p = looked s a (length p) (padded (map (λ x. h (key x)) p)) (padded (map key p))
+  after s a p = looked f s a (length p) (padded (map (λ x. h (key x)) p)) (padded (map key p))
 
   -- a look at a page leaves the rest to decide
-  look-decides : (s : Seen) (a : ℕ) (p : List Record) (ps : List (List Record)) → length p ≤ 12 → decides (after s a p) (suc a) ps ≡ decides s a (p ∷ ps)
-  look-decides s a [] ps l = rw (starts-none (s .full) a)
+  look-decides : (s : Seen) (a : ℕ) (p : List Record) (ps : List (List Record)) → length p ≤ (slotsOf f) → decides (after s a p) (suc a) ps ≡ decides s a (p ∷ ps)
+  look-decides s a [] ps l = rw (starts-none (s .full) a, lt-leb (slotsOf f) 0 (slots-few f .0))
   look-decides s a (x ∷ p) ps l =
       let hs : List ℕ = padded (map (λ y. h (key y)) (x ∷ p)) in
       let ks : List ℕ = padded (map key (x ∷ p)) in
       let n : ℕ = suc (length p) in
       let z : n - 1 ≡ length p = omega arith in
-      ap (λ (t : Seen). decides t (suc a) ps) (sym (look-some s a n hs ks _ (λ (e : n ≡ 0). omega arith) refl))
-      ∙ rw (z, full-page n l, rows-low (lowAfter s) x p _ _, ← starts-home (s .full) a x p, ← starts-after (s .any) (ranked (s .home) (s .key)) x p)
+      ap (λ (t : Seen). decides t (suc a) ps) (sym (look-some f s a n hs ks _ (λ (e : n ≡ 0). omega arith) refl))
+      ∙ rw (z, full-page (slotsOf f) n l, rows-low (lowAfter s) x p _ _, ← starts-home (s .full) a x p, ← starts-after (s .any) (ranked (s .home) (s .key)) x p)
       (simp and-assoc)
 
   look-records : (s : Seen) (a : ℕ) (p : List Record) → after s a p .records ≡ s .records + length p
   look-records s a [] = refl
   look-records s a (x ∷ p) = rw (ne-eqb (suc (length p)) 0 (λ e. omega arith))
 
-module _ (h : ℕ → ℕ) (area : List ℕ) (cap : ℕ) where
+module _ (f : Layout) (h : ℕ → ℕ) (area : List ℕ) (cap : ℕ) where
   -- page a as it is read
   abbrev pub pageAt : ℕ → Option (List Record)
-  pageAt a = readPage h a (partAt area a)
+  pageAt a = readPage f h a (partAt area a)
 
   -- what is left of a survey from page a on, all pages below being good: the lowest broken page,
   -- the records and the image are there to be told
   abbrev pub ToSurvey : Seen → ℕ → Type 0
   ToSurvey s a =
-      (lowestBroken a (pagesFrom h area (cap - a) a) ≡ lowestBroken 0 (pagesFrom h area cap 0))
-      × (decides h s a (heldFrom area (cap - a) a) ≡ isImage h (heldFrom area cap 0))
-      × (s .records + length (cat (heldFrom area (cap - a) a) []) ≡ length (cat (heldFrom area cap 0) []))
+      (lowestBroken a (pagesFrom f h area (cap - a) a) ≡ lowestBroken 0 (pagesFrom f h area cap 0))
+      × (decides f h s a (heldFrom f area (cap - a) a) ≡ isImage f h (heldFrom f area cap 0))
+      × (s .records + length (cat (heldFrom f area (cap - a) a) []) ≡ length (cat (heldFrom f area cap 0) []))
       × (s .records ≤ 12 * a)
 
   -- at the start all is left
@@ -119,53 +122,53 @@ module _ (h : ℕ → ℕ) (area : List ℕ) (cap : ℕ) where
       rw (e, u) (refl, refl, omega arith, omega arith)
 
   -- a page that was judged good has the records that stand at its place
-  pub judged-held : (a : ℕ) (j : Judged) → j ≡ judged h (pageAt a) → j .good ≡ true → j ≡ judged h (some (recordsIn (partAt area a)))
+  pub judged-held : (a : ℕ) (j : Judged) → j ≡ judged h (pageAt a) → j .good ≡ true → j ≡ judged h (some (recordsIn f (partAt area a)))
   unfolding judged
   judged-held a j e b = go (pageAt a) refl e
     where
-      go : (o : Option (List Record)) → pageAt a ≡ o → j ≡ judged h o → j ≡ judged h (some (recordsIn (partAt area a)))
+      go : (o : Option (List Record)) → pageAt a ≡ o → j ≡ judged h o → j ≡ judged h (some (recordsIn f (partAt area a)))
       go none q k = absurd (let z : _≡_ {A = ℕ} 0 1 = cc in omega arith)
-      go (some rs) q k = k ∙ ap (λ (s : List Record). judged h (some s)) (read-good h a (partAt area a) rs q .records)
+      go (some rs) q k = k ∙ ap (λ (s : List Record). judged h (some s)) (read-good f h a (partAt area a) rs q .records)
 
   module _ (s : Seen) (a : ℕ) (l : a < cap) (left : ToSurvey s a) (j : Judged) (e : j ≡ judged h (pageAt a)) where
     more : cap - a ≡ suc (cap - suc a)
     more = omega arith
 
     -- a broken page is the lowest one
-    pub survey-breaks : j .good ≡ false → verdicts.Broken a ≡ surveyed h area cap
+    pub survey-breaks : j .good ≡ false → verdicts.Broken a ≡ surveyed f h area cap
     unfolding surveyed judged
     survey-breaks b = go (pageAt a) refl e
       where
-        go : (o : Option (List Record)) → pageAt a ≡ o → j ≡ judged h o → verdicts.Broken a ≡ surveyed h area cap
+        go : (o : Option (List Record)) → pageAt a ≡ o → j ≡ judged h o → verdicts.Broken a ≡ surveyed f h area cap
         go none q k =
-            let w : some a ≡ lowestBroken 0 (pagesFrom h area cap 0) = rw (more, q) at (left .0) in
+            let w : some a ≡ lowestBroken 0 (pagesFrom f h area cap 0) = rw (more, q) at (left .0) in
             rw (← w)
         go (some rs) q k = absurd (let z : _≡_ {A = ℕ} 0 1 = cc in omega arith)
 
     -- a good one leaves those after it
-    pub survey-goes-on : j .good ≡ true → (t : Seen) → t ≡ looked s a (j .page .count) (j .homes) (j .page .keys) → ToSurvey t (a + 1)
+    pub survey-goes-on : j .good ≡ true → (t : Seen) → t ≡ looked f s a (j .page .count) (j .homes) (j .page .keys) → ToSurvey t (a + 1)
     unfolding judged inMemory
     survey-goes-on b t n = go (pageAt a) refl e
       where
         go : (o : Option (List Record)) → pageAt a ≡ o → j ≡ judged h o → ToSurvey t (a + 1)
         go none q k = absurd (let z : _≡_ {A = ℕ} 0 1 = cc in omega arith)
         go (some rs) q k =
-            let g : Good h a (partAt area a) rs = read-good h a (partAt area a) rs q in
-            let m : t ≡ after h s a rs = n ∙ ap (λ (i : Judged). looked s a (i .page .count) (i .homes) (i .page .keys)) k in
-            let rest : List (List Record) = heldFrom area (cap - suc a) (suc a) in
-            let w : lowestBroken (suc a) (pagesFrom h area (cap - suc a) (suc a)) ≡ lowestBroken 0 (pagesFrom h area cap 0) = rw (more, q) at (left .0) in
-            let i : decides h s a (rs ∷ rest) ≡ isImage h (heldFrom area cap 0) = rw (more, ← g .records) at (left .1) in
-            let c : s .records + length (rs ++ cat rest []) ≡ length (cat (heldFrom area cap 0) []) = rw (more, ← g .records) at (left .2) in
-            let r : after h s a rs .records ≡ s .records + length rs = look-records h s a rs in
-            rw (add-one, m) (w, look-decides h s a rs rest (g .few) ∙ i, omega (arith, length-append rs (cat rest [])), omega (arith, g .few))
+            let g : Good f h a (partAt area a) rs = read-good f h a (partAt area a) rs q in
+            let m : t ≡ after f h s a rs = n ∙ ap (λ (i : Judged). looked f s a (i .page .count) (i .homes) (i .page .keys)) k in
+            let rest : List (List Record) = heldFrom f area (cap - suc a) (suc a) in
+            let w : lowestBroken (suc a) (pagesFrom f h area (cap - suc a) (suc a)) ≡ lowestBroken 0 (pagesFrom f h area cap 0) = rw (more, q) at (left .0) in
+            let i : decides f h s a (rs ∷ rest) ≡ isImage f h (heldFrom f area cap 0) = rw (more, ← g .records) at (left .1) in
+            let c : s .records + length (rs ++ cat rest []) ≡ length (cat (heldFrom f area cap 0) []) = rw (more, ← g .records) at (left .2) in
+            let r : after f h s a rs .records ≡ s .records + length rs = look-records f h s a rs in
+            rw (add-one, m) (w, look-decides f h s a rs rest (g .few) ∙ i, omega (arith, length-append rs (cat rest [])), omega (arith, g .few, slots-few f .1))
 
   -- with no page left the pages are whole
-  pub survey-ends : (s : Seen) (a : ℕ) → cap ≤ a → ToSurvey s a → Whole (s .image) (s .records) ≡ surveyed h area cap
+  pub survey-ends : (s : Seen) (a : ℕ) → cap ≤ a → ToSurvey s a → Whole (s .image) (s .records) ≡ surveyed f h area cap
   unfolding surveyed
   survey-ends s a l left =
       let z : cap - a ≡ 0 = omega arith in
-      let w : none ≡ lowestBroken 0 (pagesFrom h area cap 0) = rw z at (left .0) in
-      let i : s .image ≡ isImage h (heldFrom area cap 0) = rw (z, and-true) at (left .1) in
-      let r : s .records + 0 ≡ length (cat (heldFrom area cap 0) []) = rw z at (left .2) in
-      let n : s .records ≡ length (cat (heldFrom area cap 0) []) = omega arith in
+      let w : none ≡ lowestBroken 0 (pagesFrom f h area cap 0) = rw z at (left .0) in
+      let i : s .image ≡ isImage f h (heldFrom f area cap 0) = rw (z, and-true) at (left .1) in
+      let r : s .records + 0 ≡ length (cat (heldFrom f area cap 0) []) = rw z at (left .2) in
+      let n : s .records ≡ length (cat (heldFrom f area cap 0) []) = omega arith in
       rw (← w, ← i, ← n)

@@ -6,6 +6,8 @@ use mathlib.Core.Option.{Option, none, some}
 use mathlib.Core.List.{List, [], _∷_}
 use lib.ListN.{length}
 use lib.Dec.{leb}
+use Rattle.layouts.specs.declared.Layout.{Layout}
+use Rattle.layouts.specs.Layout.{slotsOf}
 use Rattle.placing.specs.Image.{cat}
 use Rattle.placing.specs.Lay.{rankIn}
 use Rattle.pages.specs.Page.{Record, key}
@@ -43,12 +45,14 @@ module _ (h : ℕ → ℕ) where
   nextLow low (x ∷ []) = suc (rankIn key h x)
   nextLow low (x ∷ (y ∷ p)) = nextLow low (y ∷ p)
 
+module _ (f : Layout) (h : ℕ → ℕ) where
   -- Whether pages that pass their rules are an image, page by page: `full` tells whether the page
   -- before is full, `low` what stands after all records so far. Proved to be 01's sentence
   -- (`SurveyPromises`).
   abbrev pub imageFrom : (full : Bool) → (low a : ℕ) → List (List Record) → Bool
   imageFrom full low a [] = true
-  imageFrom full low a (p ∷ ps) = startsAtHome full a p && (startsAt low p && imageFrom (leb 12 (length p)) (nextLow low p) (suc a) ps)
+  imageFrom full low a (p ∷ ps) =
+      startsAtHome h full a p && (startsAt h low p && imageFrom (leb (slotsOf f) (length p)) (nextLow h low p) (suc a) ps)
 
   unfoldable pub isImage : List (List Record) → Bool
   isImage ps = imageFrom true 0 0 ps
@@ -57,4 +61,4 @@ module _ (h : ℕ → ℕ) where
   -- records
   unfoldable pub surveyed : List ℕ → (cap : ℕ) → Verdict
   surveyed area cap =
-      onBroken (lowestBroken 0 (pagesFrom h area cap 0)) (Whole (isImage (heldFrom area cap 0)) (length (cat (heldFrom area cap 0) [])))
+      onBroken (lowestBroken 0 (pagesFrom f h area cap 0)) (Whole (isImage (heldFrom f area cap 0)) (length (cat (heldFrom f area cap 0) [])))

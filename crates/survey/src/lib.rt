@@ -2,6 +2,7 @@
 // home.
 use homes::Shape;
 use homes::new_homes::NewHomes;
+use layouts::Layout;
 use pages::Judged;
 ghost use mathlib.Core.Path.{_≡_};
 ghost use mathlib.Core.List.{[]};
@@ -9,6 +10,7 @@ ghost use Prim.Native.Nat.{ℕ, _*_, _≤_};
 ghost use lib.ListN.{length, getD, replicate};
 ghost use lib.Dec.{eqb};
 ghost use Rattle.homes.specs.Homes.{Ready, homeIn};
+ghost use Rattle.layouts.specs.Layout.{slotsOf};
 ghost use Rattle.placing.specs.Image.{cat};
 ghost use Rattle.placing.specs.Rows.{leftOver};
 ghost use Rattle.pages.specs.Page.{inMemory};
@@ -57,9 +59,9 @@ fn unseen() -> Seen
 }
 
 // What has been seen after page a.
-fn look(seen: Seen, judged: Judged, a: usize) -> Seen
+fn look(seen: Seen, judged: Judged, a: usize, layout: Layout) -> Seen
     requires { ⌜ (judged .page .count ≤ 12) × (seen .records ≤ 49152) ⌝ }
-    ensures { λ r. ⌜ r ≡ looked seen a (judged .page .count) (judged .homes) (judged .page .keys) ⌝ }
+    ensures { λ r. ⌜ r ≡ looked layout seen a (judged .page .count) (judged .homes) (judged .page .keys) ⌝ }
 {
     let homes = judged.homes;
     let page = judged.page;
@@ -82,7 +84,7 @@ fn look(seen: Seen, judged: Judged, a: usize) -> Seen
     let image = seen.image & (at_home & rising);
     Seen {
         image,
-        full: count == 12,
+        full: count == layout.slots(),
         any: true,
         home: homes[last],
         key: keys[last],
@@ -133,20 +135,27 @@ fn tally(judged: Judged, count: Count, row: &mut [u32])
 
 // Judges the pages from 0 upward, and stops at the first broken one. Where none is broken, all
 // records are counted whose homes are wanted.
-pub fn survey(area: &[u8], cap: usize, shape: Shape, count: Count, row: &mut [u32]) -> Verdict
+pub fn survey(
+    area: &[u8],
+    cap: usize,
+    layout: Layout,
+    shape: Shape,
+    count: Count,
+    row: &mut [u32],
+) -> Verdict
     requires { ⌜ (cap ≤ 4096) × (length (now area) ≡ 256 * cap) × Ready shape × Countable count (λ k a. homeIn shape k ≡ a) (length (now row)) ⌝ }
-    ensures { λ r. ⌜ r ≡ surveyed (homeIn shape) (now (area .entry)) cap ⌝ }
-    ensures counted { λ r. ⌜ Counts r count (cat (heldFrom (now (area .entry)) cap 0) []) (length (now (row .entry))) (now (row .exit)) ⌝ }
+    ensures { λ r. ⌜ r ≡ surveyed layout (homeIn shape) (now (area .entry)) cap ⌝ }
+    ensures counted { λ r. ⌜ Counts r count (cat (heldFrom layout (now (area .entry)) cap 0) []) (length (now (row .entry))) (now (row .exit)) ⌝ }
 {
     clear(row);
     let mut seen = unseen();
     let mut a = 0;
     while a < cap {
-        let judged = pages::judge_at(area, a, shape);
+        let judged = pages::judge_at(area, a, layout, shape);
         if !judged.good {
             return Verdict::Broken { page: a };
         }
-        seen = look(seen, judged, a);
+        seen = look(seen, judged, a, layout);
         tally(judged, count, row);
         a += 1;
     }
@@ -156,17 +165,18 @@ pub fn survey(area: &[u8], cap: usize, shape: Shape, count: Count, row: &mut [u3
     }
 }
 
-// Whether records of these homes find room, twelve to a page, each at its home or higher: what does
+// Whether records of these homes find room on pages of a layout, each at its home or higher: what does
 // not fit on a page goes on to the next.
-pub fn has_room(row: &[u32]) -> bool
+pub fn has_room(row: &[u32], layout: Layout) -> bool
     requires { ⌜ length (now row) ≤ 4096 ⌝ }
-    ensures { λ r. ⌜ r ≡ eqb (leftOver 12 (now (row .entry)) 0) 0 ⌝ }
+    ensures { λ r. ⌜ r ≡ eqb (leftOver (slotsOf layout) (now (row .entry)) 0) 0 ⌝ }
 {
+    let slots = layout.slots() as u64;
     let mut over: u64 = 0;
     let mut i = 0;
     while i < row.len() {
         let here = over + row[i] as u64;
-        over = if here < 12 { 0 } else { here - 12 };
+        over = if here < slots { 0 } else { here - slots };
         i += 1;
     }
     over == 0

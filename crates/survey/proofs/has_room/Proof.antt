@@ -13,10 +13,18 @@ use Rattle.survey.proofs.has_room.Statement.{statement}
 use Rattle.survey.proofs.has_room.Tie as tie
 
 abbrev Inv-loop : tie.InvT-loop
-Inv-loop row over₀ i₀ over i = (i ≤ length row) × (over ≤ 4294967296 * i) × (leftOver 12 (drop i row) over ≡ leftOver 12 row 0)
+Inv-loop row slots over₀ i₀ over i = (i ≤ length row) × (over ≤ 4294967296 * i) × (leftOver slots (drop i row) over ≡ leftOver slots row 0)
 
 abbrev μ-loop : tie.MeasureT-loop
-μ-loop row over₀ i₀ over i = length row - i
+μ-loop row slots over₀ i₀ over i = length row - i
+
+-- a page takes as many as it has slots, or all where there are fewer
+next : (c : tie.Joined1 Inv-loop μ-loop)
+    → c .if1 .over ≡ c .before .before .before .loop .over + getD (c .before .before .before .before .before .before .args .row .now) (c .before .before .before .loop .i) 0 - c .before .before .before .before .slots .result
+next c = ⊎-elim (λ w. omega arith) (λ w. omega arith) (c .if1 .came)
+
+slots-requires : tie.Need-slots-requires Inv-loop μ-loop
+slots-requires c κs = search needs
 
 loop-holds : tie.Need-loop-holds Inv-loop μ-loop
 loop-holds c = (omega arith, omega arith, refl)
@@ -28,30 +36,26 @@ shared-slice-read-here : tie.Need-shared-slice-read-here Inv-loop μ-loop
 shared-slice-read-here c = search needs
 
 cast-here : tie.Need-cast-here Inv-loop μ-loop
-cast-here c = omega (arith, c .shared-slice-known .given (c .before .before .loop .i))
+cast-here c = omega (arith, c .shared-slice-known2 .given (c .before .before .loop .i))
 
 add-here : tie.Need-add-here Inv-loop μ-loop
-add-here c = omega (arith, c .shared-slice-known .given (c .before .before .loop .i))
+add-here c = omega (arith, c .shared-slice-known2 .given (c .before .before .loop .i))
 
 add-i : tie.Need-add-i Inv-loop μ-loop
 add-i c = search needs
-
--- a page takes twelve, or all where there are fewer
-next : (c : tie.Joined1 Inv-loop μ-loop)
-    → c .if1 .over ≡ c .before .before .before .loop .over + getD (c .before .before .before .before .args .row .now) (c .before .before .before .loop .i) 0 - 12
-next c = ⊎-elim (λ w. omega arith) (λ w. omega arith) (c .if1 .came)
 
 loop-less : tie.Need-loop-less Inv-loop μ-loop
 loop-less c = search needs
 
 loop-again : tie.Need-loop-again Inv-loop μ-loop
 loop-again c =
-    let e = next c in
     let l = c .before .before .before .loop in
-    (omega arith, omega (arith, c .before .shared-slice-known .given (l .i)), over-goes-on _ (l .i) (l .over) _ (omega arith) e ∙ l .inv .2)
+    (omega arith, omega (arith, next c, c .before .shared-slice-known2 .given (l .i)), over-goes-on _ _ (l .i) (l .over) _ (omega arith) (next c) ∙ l .inv .2)
 
 returns : tie.Need-returns Inv-loop μ-loop
-returns c = over-ends (c .before .before .args .row .now) (c .before .loop .i) (c .before .loop .over) (omega arith) (c .before .loop .inv .2)
+returns c =
+    let e = c .before .before .slots .ensures .0 in
+    rw (← e) (over-ends _ (c .before .before .before .before .args .row .now) (c .before .loop .i) (c .before .loop .over) (omega arith) (c .before .loop .inv .2))
 
 pub has-room-spec : {M : Type 1} → statement M
 has-room-spec =
@@ -59,6 +63,7 @@ has-room-spec =
     (tie.spec
     Inv-loop
     μ-loop
+    slots-requires
     loop-holds
     mul-here
     shared-slice-read-here

@@ -13,7 +13,7 @@ add-records c = search needs
 returns : tie.Need-returns
 returns c =
     let a = c .before .before .before .before .before .args in
-    look-none (a .seen) (a .a) (a .judged .page .count) (a .judged .homes) (a .judged .page .keys) (c .if1 .taken)
+    look-none (a .layout) (a .seen) (a .a) (a .judged .page .count) (a .judged .homes) (a .judged .page .keys) (c .if1 .taken)
 
 array-read-at-home : tie.Need-array-read-at-home
 array-read-at-home c = search needs
@@ -30,22 +30,26 @@ before-requires c κs = search needs
 sub-last : tie.Need-sub-last
 sub-last c = search needs
 
-mul-t24 : tie.Need-mul-t24
-mul-t24 c = search needs
+slots-requires : tie.Need-slots-requires
+slots-requires c κs = search needs
 
-array-read-t18 : tie.Need-array-read-t18
-array-read-t18 c = search needs
+mul-t26 : tie.Need-mul-t26
+mul-t26 c = search needs
 
-mul-t27 : tie.Need-mul-t27
-mul-t27 c = search needs
+array-read-t19 : tie.Need-array-read-t19
+array-read-t19 c = search needs
 
-array-read-t15 : tie.Need-array-read-t15
-array-read-t15 c = search needs
+mul-t29 : tie.Need-mul-t29
+mul-t29 c = search needs
+
+array-read-t16 : tie.Need-array-read-t16
+array-read-t16 c = search needs
 
 returns-2 : tie.Need-returns-2
 returns-2 c =
-    let a = c .before .before .before .before .before .before .before .before .before .args in
-    look-some (a .seen) (a .a) (a .judged .page .count) (a .judged .homes) (a .judged .page .keys) _ (c .before .before .before .before .if1 .left) (c .before .before2 .ensures)
+    let a = c .before .before .before .before .before .before .before .before .before .before .args in
+    rw (c .slots .ensures .0)
+    (look-some (a .layout) (a .seen) (a .a) (a .judged .page .count) (a .judged .homes) (a .judged .page .keys) _ (c .before .before .before .before .before .if1 .left) (c .before .before .before2 .ensures))
 
 pub look-spec : {M : Type 1} → statement M
 look-spec =
@@ -59,8 +63,9 @@ look-spec =
     array-read-before-2
     before-requires
     sub-last
-    mul-t24
-    array-read-t18
-    mul-t27
-    array-read-t15
+    slots-requires
+    mul-t26
+    array-read-t19
+    mul-t29
+    array-read-t16
     returns-2)

@@ -13,7 +13,7 @@ use borrow.Author.Needs.{needs}
 use Rattle.homes.specs.Homes.{homeIn}
 use Rattle.pages.specs.Page.{recordsIn, judged}
 use Rattle.pages.specs.Area.{partAt}
-use Rattle.pages.proofs.Read.{held-few, ready}
+use Rattle.pages.proofs.Read.{held-twelve, ready}
 use Rattle.pages.proofs.Memory.{page-records}
 use Rattle.survey.proofs.Looking.{ToSurvey, survey-starts, judged-held, survey-breaks, survey-goes-on, survey-ends}
 use Rattle.survey.proofs.Counting.{ToCount, count-starts, count-goes-on, count-ends, judged-page, page-countable}
@@ -21,10 +21,10 @@ use Rattle.survey.proofs.survey.Statement.{statement}
 use Rattle.survey.proofs.survey.Tie as tie
 
 abbrev Inv-loop : tie.InvT-loop
-Inv-loop area cap shape count row₀ seen₀ a₀ row seen a = ToSurvey (homeIn shape) area cap seen a × ToCount count area cap (length row₀) row a
+Inv-loop area cap layout shape count row₀ seen₀ a₀ row seen a = ToSurvey layout (homeIn shape) area cap seen a × ToCount layout count area cap (length row₀) row a
 
 abbrev μ-loop : tie.MeasureT-loop
-μ-loop area cap shape count row₀ seen₀ a₀ row seen a = cap - a
+μ-loop area cap layout shape count row₀ seen₀ a₀ row seen a = cap - a
 
 clear-requires : tie.Need-clear-requires Inv-loop μ-loop
 clear-requires c κs = search needs
@@ -35,7 +35,7 @@ unseen-requires c κs = search needs
 loop-holds : tie.Need-loop-holds Inv-loop μ-loop
 loop-holds c =
     let a = c .before .before .before .before .before .before .before .args in
-    (survey-starts (homeIn (a .shape)) (now (a .area)) (a .cap) _ (c .unseen .ensures), count-starts _ _ _ (length (now (a .row))) _ (c .before .before .before .clear .ensures))
+    (survey-starts (a .layout) (homeIn (a .shape)) (now (a .area)) (a .cap) _ (c .unseen .ensures), count-starts _ _ _ _ (length (now (a .row))) _ (c .before .before .before .clear .ensures))
 
 -- the row is cleared, and stays as long as it was
 cleared : (c : tie.After-clear Inv-loop μ-loop) → length (c .clear .last .0) ≡ length (now (c .before .before .before .before .args .row))
@@ -54,26 +54,26 @@ returns : tie.Need-returns Inv-loop μ-loop
 returns c =
     let l = c .before .before .before .before .loop in
     let a = c .before .before .before .before .before .before .before .before .before .before .before .before .args in
-    (survey-breaks (homeIn (a .shape)) (now (a .area)) (a .cap) (l .seen) (l .a) (c .before .before .before .loop-test .taken) (l .inv .0) _ (c .before .before .judge-at .ensures) (not-true _ (c .if1 .taken)), tt)
+    (survey-breaks (a .layout) (homeIn (a .shape)) (now (a .area)) (a .cap) (l .seen) (l .a) (c .before .before .before .loop-test .taken) (l .inv .0) _ (c .before .before .judge-at .ensures) (not-true _ (c .if1 .taken)), tt)
 
 -- a good page has the records that stand at its place
 held : (c : tie.Else1 Inv-loop μ-loop)
-    → c .before .before .judge-at .result ≡ judged (homeIn (c .before .before .before .before .before .before .before .before .before .before .before .before .args .shape)) (some (recordsIn (partAt (now (c .before .before .before .before .before .before .before .before .before .before .before .before .args .area)) (c .before .before .before .before .loop .a))))
+    → c .before .before .judge-at .result ≡ judged (homeIn (c .before .before .before .before .before .before .before .before .before .before .before .before .args .shape)) (some (recordsIn (c .before .before .before .before .before .before .before .before .before .before .before .before .args .layout) (partAt (now (c .before .before .before .before .before .before .before .before .before .before .before .before .args .area)) (c .before .before .before .before .loop .a))))
 held c =
     let a = c .before .before .before .before .before .before .before .before .before .before .before .before .args in
-    judged-held (homeIn (a .shape)) (now (a .area)) (a .cap) (c .before .before .before .before .loop .a) _ (c .before .before .judge-at .ensures) (not-false _ (c .if1 .left))
+    judged-held (a .layout) (homeIn (a .shape)) (now (a .area)) (a .cap) (c .before .before .before .before .loop .a) _ (c .before .before .judge-at .ensures) (not-false _ (c .if1 .left))
 
 look-requires : tie.Need-look-requires Inv-loop μ-loop
 look-requires c κs =
     let l = c .before .before .before .before .loop in
-    (ready _ _ (judged-page _ _ _ (held c)) (held-few _) .0, omega (arith, l .inv .0 .3))
+    (ready _ _ (judged-page _ _ _ (held c)) (held-twelve _ _) .0, omega (arith, l .inv .0 .3))
 
 tally-requires : tie.Need-tally-requires Inv-loop μ-loop
 tally-requires c κs =
     let e = c .before .before in
     let l = c .before .before .before .before .before .before in
     let b = c .before .before .before .before .before .before .before .before .before .before .before .before .before .before in
-    let p = ready _ _ (judged-page _ _ _ (held e)) (held-few _) in (
+    let p = ready _ _ (judged-page _ _ _ (held e)) (held-twelve _ _) in (
       (p .0, p .1, λ k. omega (arith, l .loop .inv .1 .small k, c .before .before .before .before .before .loop-test .taken, b .pre .0)),
       page-countable _ _ _ (held e) (b .args .count) _ _ (long l) (b .pre .3),
     )
@@ -90,7 +90,7 @@ loop-again c =
     let t = c .before .before .before .before .before .before .before .before .loop-test .taken in
     let l = c .before .before .before .before .before .before .before .before .before .loop in
     let a = c .before .before .before .before .before .before .before .before .before .before .before .before .before .before .before .before .before .args in (
-      survey-goes-on (homeIn (a .shape)) (now (a .area)) (a .cap) (l .seen) (l .a) t (l .inv .0) _ (e .before .before .judge-at .ensures) (not-false _ (e .if1 .left)) _ (c .before .before .before .before .look .ensures),
+      survey-goes-on (a .layout) (homeIn (a .shape)) (now (a .area)) (a .cap) (l .seen) (l .a) t (l .inv .0) _ (e .before .before .judge-at .ensures) (not-false _ (e .if1 .left)) _ (c .before .before .before .before .look .ensures),
       count-goes-on (l .inv .1) _ (page-records _ _ (judged-page _ _ _ (held e))) t (c .before .before .tally .ensures),
     )
 
@@ -101,7 +101,7 @@ returns-2 : tie.Need-returns-2 Inv-loop μ-loop
 returns-2 c =
     let a = c .before .before .before .before .before .before .before .before .before .args in
     let l = c .before .loop in (
-      survey-ends (homeIn (a .shape)) (now (a .area)) (a .cap) (l .seen) (l .a) (c .loop-test .left) (l .inv .0),
+      survey-ends (a .layout) (homeIn (a .shape)) (now (a .area)) (a .cap) (l .seen) (l .a) (c .loop-test .left) (l .inv .0),
       count-ends (l .inv .1) (c .loop-test .left) _ (cleared (c .before .before .before .before .before)) (l .seen .image) (l .seen .records),
     )
 

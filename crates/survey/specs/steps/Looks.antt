@@ -5,6 +5,8 @@ use mathlib.Core.Bool.{true, false, cond, not, _&&_, _||_}
 use mathlib.Core.List.{List, [], _∷_}
 use lib.ListN.{getD, set}
 use lib.Dec.{leb, ltb, eqb}
+use Rattle.layouts.specs.declared.Layout.{Layout}
+use Rattle.layouts.specs.Layout.{slotsOf}
 use Rattle.placing.specs.Lay.{ranked}
 use Rattle.survey.specs.declared.Seen.{Seen}
 
@@ -13,13 +15,13 @@ abbrev pub unseen : Seen
 unseen = record { image = true; full = true; any = false; home = 0; key = 0; records = 0 }
 
 -- after page a of n records
-abbrev pub looked : Seen → (a n : ℕ) → List ℕ → List ℕ → Seen
-looked s a n hs ks =
+abbrev pub looked : Layout → Seen → (a n : ℕ) → List ℕ → List ℕ → Seen
+looked f s a n hs ks =
     cond (eqb n 0)
     (record { image = s .image; full = false; any = s .any; home = s .home; key = s .key; records = s .records + n })
     (record {
       image = s .image && ((s .full || leb a (getD hs 0 0)) && (not (s .any) || ltb (ranked (s .home) (s .key)) (ranked (getD hs 0 0) (getD ks 0 0))));
-      full = eqb n 12;
+      full = eqb n (slotsOf f);
       any = true;
       home = getD hs (n - 1) 0;
       key = getD ks (n - 1) 0;

@@ -53,13 +53,13 @@ module _ (h : ℕ → ℕ) (k : ℕ) where
   judges-on a n w (Ends b i c r) e = omega arith
   judges-on a n w (mets.AtEnd r) e = omega arith
 
-  meets-judges : (a n : ℕ) (qs : List (Option (List Record))) → Judges a n (length qs) (meets h k a n qs)
+  meets-judges : (a n : ℕ) (qs : List (Option (List Record))) → Judges a n (length qs) (meets 12 h k a n qs)
   meets-judges a n [] = omega arith
   meets-judges a n (none ∷ qs) = omega arith
-  meets-judges a n (some p ∷ qs) = go (heldAt k 0 p) (endsOn h k p) (judges-on a n (length qs) (meets h k (suc a) (suc n) qs) (meets-judges (suc a) (suc n) qs))
+  meets-judges a n (some p ∷ qs) = go (heldAt k 0 p) (endsOn 12 h k p) (judges-on a n (length qs) (meets 12 h k (suc a) (suc n) qs) (meets-judges (suc a) (suc n) qs))
     where
       on : Met
-      on = meets h k (suc a) (suc n) qs
+      on = meets 12 h k (suc a) (suc n) qs
 
       go : (o : Option (ℕ × ℕ)) (u : Bool) → Judges a n (suc (length qs)) on
           → Judges a n (suc (length qs)) (onHeld o (λ i v. Found a i (length p) v (suc n)) (cond u (Ends a (ahead (rankIn key h) (rankOf h k) p) (length p) (suc n)) on))

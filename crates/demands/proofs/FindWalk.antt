@@ -50,7 +50,7 @@ module _ (h : ℕ → ℕ) (k : ℕ) (l : k < 2 ^ 64) where
   r = rankOf h k
 
   -- find at a page, its two tests as one
-  find-page : (p : List Record) (qs : List (List Record)) → find rank 12 r (p ∷ qs) ≡ orElse (seek rank r p) (cond (endsOn h k p) none (find rank 12 r qs))
+  find-page : (p : List Record) (qs : List (List Record)) → find rank 12 r (p ∷ qs) ≡ orElse (seek rank r p) (cond (endsOn 12 h k p) none (find rank 12 r qs))
   find-page p qs = rw (cond-or (ltb (length p) 12) (lastAfter rank r p) none (find rank 12 r qs))
 
   -- pages that a walk passes don't count for find
@@ -68,7 +68,7 @@ module _ (h : ℕ → ℕ) (k : ℕ) (l : k < 2 ^ 64) where
     last-small = all-right (All Small) (t .front) (t .last ∷ t .rest) split .0
 
     -- find comes to that page
-    find-halt : find rank 12 r qs ≡ orElse (seek rank r (t .last)) (cond (endsOn h k (t .last)) none (find rank 12 r (t .rest)))
+    find-halt : find rank 12 r qs ≡ orElse (seek rank r (t .last)) (cond (endsOn 12 h k (t .last)) none (find rank 12 r (t .rest)))
     find-halt =
         rw (t .whole) (find-passed (t .front) (t .last ∷ t .rest) (all-left (All Small) (t .front) (t .last ∷ t .rest) split) (t .passed))
         ∙ find-page (t .last) (t .rest)

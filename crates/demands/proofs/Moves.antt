@@ -49,7 +49,7 @@ module _ (h : ℕ → ℕ) where
   rank = rankIn key h
 
   -- a put's walk counts each time that one is handed on
-  carry-moves : (a n m : ℕ) (x : Record) (qs : List (List Record)) → Moves (m + hops rank 12 x qs) (carry h a n m x (map some qs))
+  carry-moves : (a n m : ℕ) (x : Record) (qs : List (List Record)) → Moves (m + hops rank 12 x qs) (carry 12 h a n m x (map some qs))
   carry-moves a n m x [] = tt
   carry-moves a n m x (p ∷ qs) = go (ltb (length p) 12) (carry-moves (suc a) (suc n) (suc m) y qs)
     where
@@ -60,7 +60,7 @@ module _ (h : ℕ → ℕ) where
       y = getD q 12 x
 
       on : Walked
-      on = carry h (suc a) (suc n) (suc m) y (map some qs)
+      on = carry 12 h (suc a) (suc n) (suc m) y (map some qs)
 
       go : (u : Bool) → Moves (suc m + hops rank 12 y qs) on
           → Moves (m + cond u 0 (suc (hops rank 12 y qs))) (cond u (went ((a, q) ∷ []) (suc n) m) (andPage a (take 12 q) on))
@@ -72,7 +72,7 @@ module _ (h : ℕ → ℕ) where
   -- a remove's walk counts each time that one comes back, where `was` was on page a and p is left
   -- of it
   pulls-moves : (a n m : ℕ) (was p : List Record) (qs : List (List Record)) → All (There key was) p → Distinct key (was ++ cat qs [])
-      → Moves (m + strayed key (was ∷ qs) (pullBack rank (homeOf key h) 12 a p qs)) (pulls h a n m p (map some qs))
+      → Moves (m + strayed key (was ∷ qs) (pullBack rank (homeOf key h) 12 a p qs)) (pulls 12 h a n m p (map some qs))
   pulls-moves a n m was p [] t d = omega (arith, strays-none key was p t)
   pulls-moves a n m was p ([] ∷ qs) t d = omega (arith, strays-none key was p t, strayed-none key ([] ∷ qs))
   pulls-moves a n m was p ((y ∷ q) ∷ qs) t d =
@@ -83,7 +83,7 @@ module _ (h : ℕ → ℕ) where
       back = pullBack rank (homeOf key h) 12 (suc a) q qs
 
       on : Walked
-      on = pulls h (suc a) (suc n) (suc m) q (map some qs)
+      on = pulls 12 h (suc a) (suc n) (suc m) q (map some qs)
 
       -- the first of the next page is new on this one
       new : strays key was (ins rank y p) ≡ 1
@@ -101,7 +101,7 @@ module _ (h : ℕ → ℕ) where
   -- the page that holds the key
   taken-moves : (k i v a n : ℕ) (p : List Record) (qs : List (List Record)) → k < 2 ^ 64 → All Small p → heldAt k 0 p ≡ some (i, v) → Distinct key (p ++ cat qs [])
       → Moves (strayed key (p ∷ qs) (remove rank (homeOf key h) 12 a (rankOf h k) (p ∷ qs)))
-      (cond (ltb (length p) 12) (went ((a, closed i p) ∷ []) n 0) (pulls h a n 0 (closed i p) (map some qs)))
+      (cond (ltb (length p) 12) (went ((a, closed i p) ∷ []) n 0) (pulls 12 h a n 0 (closed i p) (map some qs)))
   taken-moves k i v a n p qs l s e c = rw (here-seek h k p i v l s e, held-del h k i v p l s e) (go (ltb (length p) 12))
     where
       d : List Record
@@ -111,7 +111,7 @@ module _ (h : ℕ → ℕ) where
       left = del-all rank (There key p) (rankOf h k) p (there key p)
 
       go : (u : Bool) → Moves (strayed key (p ∷ qs) (cond u (d ∷ qs) (pullBack rank (homeOf key h) 12 a d qs)))
-          (cond u (went ((a, d) ∷ []) n 0) (pulls h a n 0 d (map some qs)))
+          (cond u (went ((a, d) ∷ []) n 0) (pulls 12 h a n 0 d (map some qs)))
       go true = omega (arith, strays-none key p d left, strayed-none key qs)
       go false =
           let z : 0 + strayed key (p ∷ qs) (pullBack rank (homeOf key h) 12 a d qs) ≡ strayed key (p ∷ qs) (pullBack rank (homeOf key h) 12 a d qs) = omega arith in
@@ -139,7 +139,7 @@ module _ {h : ℕ → ℕ} {n : ℕ} {ps : List (List Record)} (c : Clean h n ps
       go (Ends b i w r) s = tt
       go (mets.AtEnd r) s = tt
 
-  module _ (x : Record) (l : key x < 2 ^ 64) (g : h (key x) ≤ n) {b : ℕ} (t : Halt h (key x) (h (key x)) b (drop (h (key x)) ps)) (e : endsOn h (key x) (t .last) ≡ true) where
+  module _ (x : Record) (l : key x < 2 ^ 64) (g : h (key x) ≤ n) {b : ℕ} (t : Halt h (key x) (h (key x)) b (drop (h (key x)) ps)) (e : endsOn 12 h (key x) (t .last) ≡ true) where
     abbrev front : List (List Record)
     front = before c (key x) l g t
 
@@ -185,7 +185,7 @@ module _ {h : ℕ → ℕ} {n : ℕ} {ps : List (List Record)} (c : Clean h n ps
           ∙ strayed-after key front (carried (rankIn key h) 12 x after .0) after
           ∙ hops-strayed key (rankIn key h) 12 (omega arith) x after few ending (sorted-right (rankIn key h) (cat front []) (cat after []) (rw whole-cat at sorted)) here
 
-      ends-moves : (r : ℕ) → Moves (strayed key (putIn key h 12 x ps .0) ps) (carry h b r 0 x (pagesFrom h (areaFrom 0 ps) (n - b) b))
+      ends-moves : (r : ℕ) → Moves (strayed key (putIn key h 12 x ps .0) ps) (carry 12 h b r 0 x (pagesFrom h (areaFrom 0 ps) (n - b) b))
       ends-moves r =
           let z : 0 + hops (rankIn key h) 12 x after ≡ strayed key (putIn key h 12 x ps .0) ps = omega (arith, put-strayed) in
           rw from-read (rw z at (carry-moves h b r 0 x after))

@@ -52,7 +52,7 @@ module _ (h : ℕ → ℕ) where
 
   -- a record is carried alike on bytes and on pages
   carry-goes : (front : List (List Record)) (a n m : ℕ) → length front ≡ a → (x : Record) (qs : List (List Record))
-      → Poured (front ++ qs) (front ++ carried rank 12 x qs .0) (carried rank 12 x qs .1) (carry h a n m x (map some qs))
+      → Poured (front ++ qs) (front ++ carried rank 12 x qs .0) (carried rank 12 x qs .1) (carry 12 h a n m x (map some qs))
   carry-goes front a n m at x [] = (n, refl)
   carry-goes front a n m at x (p ∷ qs) =
       go (ltb (length p) 12) (carry-goes (front ++ (kept ∷ [])) (suc a) (suc n) (suc m) (omega (arith, length-append front (kept ∷ []))) y qs)
@@ -70,7 +70,7 @@ module _ (h : ℕ → ℕ) where
       on = carried rank 12 y qs
 
       walked : Walked
-      walked = carry h (suc a) (suc n) (suc m) y (map some qs)
+      walked = carry 12 h (suc a) (suc n) (suc m) y (map some qs)
 
       came : Bool → List (List Record) × List Record
       came u = cond u (q ∷ qs, []) (kept ∷ on .0, on .1)
@@ -84,7 +84,7 @@ module _ (h : ℕ → ℕ) where
   module _ (x : Record) where
     -- put at a page, its two tests as one
     pub put-page : (p : List Record) (qs : List (List Record))
-        → put rank 12 x (p ∷ qs) ≡ cond (endsOn h (key x) p) (carried rank 12 x (p ∷ qs)) (p ∷ put rank 12 x qs .0, put rank 12 x qs .1)
+        → put rank 12 x (p ∷ qs) ≡ cond (endsOn 12 h (key x) p) (carried rank 12 x (p ∷ qs)) (p ∷ put rank 12 x qs .0, put rank 12 x qs .1)
     put-page p qs = cond-or (ltb (length p) 12) (lastAfter rank (rank x) p) (carried rank 12 x (p ∷ qs)) (p ∷ put rank 12 x qs .0, put rank 12 x qs .1)
 
     -- pages that the walk passes stay
@@ -100,7 +100,7 @@ module _ (h : ℕ → ℕ) where
 
       -- from the ending page on the record is carried
       put-ends : (front way : List (List Record)) (last : List Record) (rest : List (List Record)) (b i c r : ℕ) → length (front ++ way) ≡ b
-          → Clean h n (front ++ way ++ (last ∷ rest)) → All (Passed h (key x)) way → endsOn h (key x) last ≡ true → Goes front (way ++ (last ∷ rest)) (Ends b i c r)
+          → Clean h n (front ++ way ++ (last ∷ rest)) → All (Passed h (key x)) way → endsOn 12 h (key x) last ≡ true → Goes front (way ++ (last ∷ rest)) (Ends b i c r)
       put-ends front way last rest b i c r at clean t e =
           rw (put-passed way (last ∷ rest) t, put-page last rest, e, ← append-assoc front way (last ∷ rest))
           (rw (← append-assoc front way (carried rank 12 x (last ∷ rest) .0), clean-after (front ++ way) (last ∷ rest) b at clean)

@@ -63,7 +63,7 @@ held-del h k i v p l s e =
 module _ (h : ℕ → ℕ) where
   -- where page a was full, the records that come back are those of the list walk
   pulls-went : (front : List (List Record)) (a n m : ℕ) → length front ≡ a → (was p : List Record) (qs : List (List Record))
-      → Went (front ++ (was ∷ qs)) (front ++ pullBack (rankIn key h) (homeOf key h) 12 a p qs) (pulls h a n m p (map some qs))
+      → Went (front ++ (was ∷ qs)) (front ++ pullBack (rankIn key h) (homeOf key h) 12 a p qs) (pulls 12 h a n m p (map some qs))
   pulls-went front a n m at was p [] = one-went front a at was p [] n m
   pulls-went front a n m at was p ([] ∷ qs) = one-went front a at was p ([] ∷ qs) (suc n) m
   pulls-went front a n m at was p ((y ∷ q) ∷ qs) =
@@ -83,7 +83,7 @@ module _ (h : ℕ → ℕ) where
       back = pullBack (rankIn key h) (homeOf key h) 12 (suc a) q qs
 
       on : Walked
-      on = pulls h (suc a) (suc n) (suc m) q (map some qs)
+      on = pulls 12 h (suc a) (suc n) (suc m) q (map some qs)
 
       -- the next page after its first has gone
       Next : Bool → Type 0
@@ -103,14 +103,14 @@ module _ (h : ℕ → ℕ) where
   taken-went : (k i v a n : ℕ) (front : List (List Record)) (p : List Record) (qs : List (List Record)) → k < 2 ^ 64 → All Small p → length front ≡ a
       → heldAt k 0 p ≡ some (i, v)
       → Went (front ++ (p ∷ qs)) (front ++ remove (rankIn key h) (homeOf key h) 12 a (rankOf h k) (p ∷ qs))
-      (cond (ltb (length p) 12) (went ((a, closed i p) ∷ []) n 0) (pulls h a n 0 (closed i p) (map some qs)))
+      (cond (ltb (length p) 12) (went ((a, closed i p) ∷ []) n 0) (pulls 12 h a n 0 (closed i p) (map some qs)))
   taken-went k i v a n front p qs l s at e = rw (here-seek h k p i v l s e, held-del h k i v p l s e) (go (ltb (length p) 12))
     where
       d : List Record
       d = del (rankIn key h) (rankOf h k) p
 
       go : (u : Bool) → Went (front ++ (p ∷ qs)) (front ++ cond u (d ∷ qs) (pullBack (rankIn key h) (homeOf key h) 12 a d qs))
-          (cond u (went ((a, d) ∷ []) n 0) (pulls h a n 0 d (map some qs)))
+          (cond u (went ((a, d) ∷ []) n 0) (pulls 12 h a n 0 d (map some qs)))
       go true = one-went front a at p d qs n 0
       go false = pulls-went front a n 0 at p d qs
 

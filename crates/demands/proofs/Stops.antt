@@ -44,7 +44,7 @@ module _ (h : ℕ → ℕ) (k : ℕ) where
   -- a page that the walk passes: it neither holds the key nor ends the walk
   pub record Passed (p : List Record) : Type 0 where
     pub away : heldAt k 0 p ≡ none
-    pub on : endsOn h k p ≡ false
+    pub on : endsOn 12 h k p ≡ false
 
   -- a walk from page a on that ends at page b
   pub record Halt (a b : ℕ) (qs : List (List Record)) : Type 0 where
@@ -62,7 +62,7 @@ module _ (h : ℕ → ℕ) (k : ℕ) where
   pub record EndsAt (a b : ℕ) (qs : List (List Record)) : Type 0 where
     pub halt : Halt a b qs
     pub away : heldAt k 0 (halt .last) ≡ none
-    pub ends : endsOn h k (halt .last) ≡ true
+    pub ends : endsOn 12 h k (halt .last) ≡ true
 
   -- where the walk ends, on the pages from a on
   abbrev pub Stops : (a : ℕ) → List (List Record) → Met → Type 0
@@ -92,14 +92,14 @@ module _ (h : ℕ → ℕ) (k : ℕ) where
   on-stops a p qs (mets.AtEnd r) s t = (s, t)
 
   -- no good page is broken
-  pub meets-stops : (a n : ℕ) (qs : List (List Record)) → Stops a qs (meets h k a n (map some qs))
+  pub meets-stops : (a n : ℕ) (qs : List (List Record)) → Stops a qs (meets 12 h k a n (map some qs))
   meets-stops a n [] = tt
-  meets-stops a n (p ∷ qs) = go (heldAt k 0 p) (endsOn h k p) refl refl (meets-stops (suc a) (suc n) qs)
+  meets-stops a n (p ∷ qs) = go (heldAt k 0 p) (endsOn 12 h k p) refl refl (meets-stops (suc a) (suc n) qs)
     where
       on : Met
-      on = meets h k (suc a) (suc n) (map some qs)
+      on = meets 12 h k (suc a) (suc n) (map some qs)
 
-      go : (o : Option (ℕ × ℕ)) (u : Bool) → heldAt k 0 p ≡ o → endsOn h k p ≡ u → Stops (suc a) qs on
+      go : (o : Option (ℕ × ℕ)) (u : Bool) → heldAt k 0 p ≡ o → endsOn 12 h k p ≡ u → Stops (suc a) qs on
           → Stops a (p ∷ qs) (onHeld o (λ i v. Found a i (length p) v (suc n)) (cond u (Ends a (ahead (rankIn key h) (rankOf h k) p) (length p) (suc n)) on))
       go (some w) u e d t = record { halt = here-first a p qs; here = e }
       go none true e d t = record { halt = here-first a p qs; away = e; ends = d }

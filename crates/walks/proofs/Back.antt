@@ -34,37 +34,37 @@ module _ (h : ℕ → ℕ) (a : ℕ) where
       let n : eqb (suc (length q)) 0 ≡ false = ne-eqb (suc (length q)) 0 (λ e. omega arith) in
       le-leb (h (key y)) a (ltb-false a (h (key y)) (rw n at t))
 
-module _ (h : ℕ → ℕ) (f at a n : ℕ) (ps : List (Option (List Record))) where
-  on-broken : (o : Option (List Record)) → judged h o .good ≡ false → reachedBack h f at a n (o ∷ ps) ≡ Stop (Broken (suc a) (suc n))
+module _ (b : ℕ) (h : ℕ → ℕ) (f at a n : ℕ) (ps : List (Option (List Record))) where
+  on-broken : (o : Option (List Record)) → judged h o .good ≡ false → reachedBack b h f at a n (o ∷ ps) ≡ Stop (Broken (suc a) (suc n))
   unfolding judged
   on-broken none g = refl
   on-broken (some rs) g = absurd (differ g)
 
   on-apart : (o : Option (List Record)) → judged h o .good ≡ true → apart a (judged h o) ≡ true
-      → reachedBack h f at a n (o ∷ ps) ≡ Go f at a (suc n)
+      → reachedBack b h f at a n (o ∷ ps) ≡ Go f at a (suc n)
   unfolding judged
   on-apart none g t = absurd (differ (sym g))
   on-apart (some []) g t = refl
   on-apart (some (y ∷ q)) g t = rw (first-apart h a true y q t)
 
-  on-short : (o : Option (List Record)) → judged h o .good ≡ true → apart a (judged h o) ≡ false → judged h o .page .count < 12
-      → reachedBack h f at a n (o ∷ ps) ≡ Go f at (suc a) (suc n)
+  on-short : (o : Option (List Record)) → judged h o .good ≡ true → apart a (judged h o) ≡ false → judged h o .page .count < b
+      → reachedBack b h f at a n (o ∷ ps) ≡ Go f at (suc a) (suc n)
   unfolding judged inMemory
   on-short none g t l = absurd (differ (sym g))
   on-short (some []) g t l = absurd (differ t)
-  on-short (some (y ∷ q)) g t l = rw (first-apart h a false y q t, lt-ltb (suc (length q)) 12 l)
+  on-short (some (y ∷ q)) g t l = rw (first-apart h a false y q t, lt-ltb (suc (length q)) b l)
 
-  on-full : (o : Option (List Record)) → judged h o .good ≡ true → apart a (judged h o) ≡ false → 12 ≤ judged h o .page .count
-      → reachedBack h f at a n (o ∷ ps) ≡ reachedBack h f at (suc a) (suc n) ps
+  on-full : (o : Option (List Record)) → judged h o .good ≡ true → apart a (judged h o) ≡ false → b ≤ judged h o .page .count
+      → reachedBack b h f at a n (o ∷ ps) ≡ reachedBack b h f at (suc a) (suc n) ps
   unfolding judged inMemory
   on-full none g t l = absurd (differ (sym g))
   on-full (some []) g t l = absurd (differ t)
-  on-full (some (y ∷ q)) g t l = rw (first-apart h a false y q t, le-ltb (suc (length q)) 12 l)
+  on-full (some (y ∷ q)) g t l = rw (first-apart h a false y q t, le-ltb (suc (length q)) b l)
 
 module _ (h : ℕ → ℕ) (area : List ℕ) (cap f at : ℕ) where
   -- the plan from page a on
   abbrev pub planFrom : (a n : ℕ) → Plan
-  planFrom a n = reachedBack h f at a n (pagesFrom h area (cap - suc a) (suc a))
+  planFrom a n = reachedBack 12 h f at a n (pagesFrom h area (cap - suc a) (suc a))
 
   pub plan-ends : (a n : ℕ) → cap ≤ a + 1 → Go f at a n ≡ planFrom a n
   plan-ends a n l = let z : cap - suc a ≡ 0 = omega arith in rw z
@@ -79,22 +79,22 @@ module _ (h : ℕ → ℕ) (area : List ℕ) (cap f at : ℕ) where
     next-judged : j ≡ judged h next
     next-judged = rw add-one at e
 
-    next-first : planFrom a n ≡ reachedBack h f at a n (next ∷ rest)
+    next-first : planFrom a n ≡ reachedBack 12 h f at a n (next ∷ rest)
     next-first = let m : cap - suc a ≡ suc (cap - suc (suc a)) = omega arith in rw m
 
     pub plan-broken : not (j .good) ≡ true → Stop (Broken (a + 1) (n + 1)) ≡ planFrom a n
-    plan-broken g = rw (add-one a, add-one n) (sym (next-first ∙ on-broken h f at a n rest next (rw next-judged at (not-true (j .good) g))))
+    plan-broken g = rw (add-one a, add-one n) (sym (next-first ∙ on-broken 12 h f at a n rest next (rw next-judged at (not-true (j .good) g))))
 
     pub plan-apart : not (j .good) ≡ false → apart a j ≡ true → Go f at a (n + 1) ≡ planFrom a n
     plan-apart g t =
-        rw (add-one n) (sym (next-first ∙ on-apart h f at a n rest next (rw next-judged at (not-false (j .good) g)) (rw next-judged at t)))
+        rw (add-one n) (sym (next-first ∙ on-apart 12 h f at a n rest next (rw next-judged at (not-false (j .good) g)) (rw next-judged at t)))
 
     pub plan-short : not (j .good) ≡ false → apart a j ≡ false → j .page .count < 12 → Go f at (a + 1) (n + 1) ≡ planFrom a n
     plan-short g t c =
         rw (add-one a, add-one n)
-        (sym (next-first ∙ on-short h f at a n rest next (rw next-judged at (not-false (j .good) g)) (rw next-judged at t) (rw next-judged at c)))
+        (sym (next-first ∙ on-short 12 h f at a n rest next (rw next-judged at (not-false (j .good) g)) (rw next-judged at t) (rw next-judged at c)))
 
     pub plan-full : not (j .good) ≡ false → apart a j ≡ false → 12 ≤ j .page .count → planFrom (a + 1) (n + 1) ≡ planFrom a n
     plan-full g t c =
         rw (add-one a, add-one n)
-        (sym (next-first ∙ on-full h f at a n rest next (rw next-judged at (not-false (j .good) g)) (rw next-judged at t) (rw next-judged at c)))
+        (sym (next-first ∙ on-full 12 h f at a n rest next (rw next-judged at (not-false (j .good) g)) (rw next-judged at t) (rw next-judged at c)))

@@ -45,11 +45,11 @@ pub shut-kept : (p q : Page) (slot : ℕ) → Kept p → q ≡ inMemory (closed 
 shut-kept p q slot k e =
     ready q (closed slot (recordsOf p)) e (omega (arith, closed-few slot (recordsOf p), page-count p (recordsOf p) (k .1)))
 
-pub full-kept : (h : ℕ → ℕ) (next shut full : Page) → full ≡ inMemory (backed h (firstOf (recordsOf next)) (recordsOf shut)) → Kept full
+pub full-kept : (h : ℕ → ℕ) (next shut full : Page) → full ≡ inMemory (backed 12 h (firstOf (recordsOf next)) (recordsOf shut)) → Kept full
 full-kept h next shut full e =
     let y : Record = firstOf (recordsOf next) in
     let s : List Record = recordsOf shut in
-    ready full (backed h y s) e (omega (arith, length-take 12 (opened (upToBack (rankIn key h) (rankIn key h y) vacant s (length s)) y s)))
+    ready full (backed 12 h y s) e (omega (arith, length-take 12 (opened (upToBack (rankIn key h) (rankIn key h y) vacant s (length s)) y s)))
 
 -- a place from the back is one among the records
 back-le : {R : Type 0} (rank : R → ℕ) (r : ℕ) (d : R) (s : List R) (n : ℕ) → upToBack rank r d s n ≤ n
@@ -77,7 +77,7 @@ module _ (h : ℕ → ℕ) (p next : Page) (home place : ℕ) where
 
   pub pushed-back : (q : Pushed) → home ≡ h (getD (next .keys) 0 0) → place ≡ sought → p ≡ inMemory (recordsOf p) → next ≡ inMemory (recordsOf next)
       → q ≡ pushed place (recordWith (getD (next .keys) 0 0) (getD (next .values) 0 0)) (recordsOf p)
-      → q .page ≡ inMemory (backed h (firstOf (recordsOf next)) (recordsOf p))
+      → q .page ≡ inMemory (backed 12 h (firstOf (recordsOf next)) (recordsOf p))
   pushed-back q d g e f k =
       let z : firstOf (recordsOf next) ≡ recordWith (getD (next .keys) 0 0) (getD (next .values) 0 0) = sym (first-rows (recordsOf next)) ∙ rw (← f) in
       let n : p .count ≡ length (recordsOf p) = page-count p (recordsOf p) e in
@@ -95,14 +95,14 @@ module _ (area new : List ℕ) (a : ℕ) (p : List Record) (e : new ≡ withPage
 module _ (h : ℕ → ℕ) (entry area : List ℕ) (last a slot : ℕ) (same : (b : ℕ) → a ≤ b → partAt area b ≡ partAt entry b) where
   pub draw-turn : (page next shut full : Page) (new : List ℕ) → new ≡ withPage area a (recordsOf full)
       → page ≡ inMemory (held area a) → next ≡ inMemory (held area (a + 1)) → shut ≡ inMemory (closed slot (recordsOf page))
-      → full ≡ inMemory (backed h (firstOf (recordsOf next)) (recordsOf shut)) → a < last
+      → full ≡ inMemory (backed 12 h (firstOf (recordsOf next)) (recordsOf shut)) → a < last
       → writes new (drawn h entry (last - (a + 1)) (a + 1) 0) ≡ writes area (drawn h entry (last - a) a slot)
   draw-turn page next shut full new d e f g k l =
       let n : last - a ≡ suc (last - (a + 1)) = omega arith in
       let m : a + 1 ≡ suc a = omega arith in
       rw (
         d,
-        page-records full (backed h (firstOf (recordsOf next)) (recordsOf shut)) k,
+        page-records full (backed 12 h (firstOf (recordsOf next)) (recordsOf shut)) k,
         page-records shut (closed slot (recordsOf page)) g,
         page-records page (held area a) e,
         page-records next (held area (a + 1)) f,

@@ -101,19 +101,19 @@ held-seek k i (x ∷ rs) e = go (eqb (key x) k) e (held-seek k (suc i) rs)
     go false q ih = ih q
 
 -- where it is not found, a page ends the walk exactly where the key's place is in it
-ends-test : (h : ℕ → ℕ) (k : ℕ) (rs : List Record) → length rs ≤ 12 → Sorted (rankIn key h) rs → seek (rankIn key h) (rankOf h k) rs ≡ none
-    → endsOn h k rs ≡ ltb (ahead (rankIn key h) (rankOf h k) rs) 12
-ends-test h k rs few up e = go (ltb (length rs) 12) refl
+ends-test : (b : ℕ) (h : ℕ → ℕ) (k : ℕ) (rs : List Record) → length rs ≤ b → Sorted (rankIn key h) rs → seek (rankIn key h) (rankOf h k) rs ≡ none
+    → endsOn b h k rs ≡ ltb (ahead (rankIn key h) (rankOf h k) rs) b
+ends-test b h k rs few up e = go (ltb (length rs) b) refl
   where
-    go : (u : Bool) → ltb (length rs) 12 ≡ u → (u || lastAfter (rankIn key h) (rankOf h k) rs) ≡ ltb (ahead (rankIn key h) (rankOf h k) rs) 12
-    go true t = sym (lt-ltb (ahead (rankIn key h) (rankOf h k) rs) 12 (omega (arith, ltb-true (length rs) 12 t, ahead-le (rankIn key h) (rankOf h k) rs)))
+    go : (u : Bool) → ltb (length rs) b ≡ u → (u || lastAfter (rankIn key h) (rankOf h k) rs) ≡ ltb (ahead (rankIn key h) (rankOf h k) rs) b
+    go true t = sym (lt-ltb (ahead (rankIn key h) (rankOf h k) rs) b (omega (arith, ltb-true (length rs) b t, ahead-le (rankIn key h) (rankOf h k) rs)))
     go false t =
-        let n : length rs ≡ 12 = omega (arith, ltb-false (length rs) 12 t) in
+        let n : length rs ≡ b = omega (arith, ltb-false (length rs) b t) in
         rw n at (sym (ahead-all (rankIn key h) (rankOf h k) rs up e))
 
 -- what is left of the walk from page a on, where n pages were read
 abbrev pub walkLeft : (ℕ → ℕ) → List ℕ → (cap k a n : ℕ) → Met
-walkLeft h area cap k a n = meets h k a n (pagesFrom h area (cap - a) a)
+walkLeft h area cap k a n = meets 12 h k a n (pagesFrom h area (cap - a) a)
 
 module _ (h : ℕ → ℕ) (area : List ℕ) (cap k a n : ℕ) where
   -- at the home the whole of it is left
@@ -139,7 +139,7 @@ module _ {h : ℕ → ℕ} {area : List ℕ} {cap a : ℕ} {j : Judged} (seen : 
     -- the walk at a good page
     at-page : walkLeft h area cap k a n
         ≡ onHeld (heldAt k 0 rs) (λ i v. Found a i (j .page .count) v (n + 1))
-        (cond (endsOn h k rs) (Ends a (ahead (rankIn key h) (rankOf h k) rs) (j .page .count) (n + 1)) (walkLeft h area cap k (a + 1) (n + 1)))
+        (cond (endsOn 12 h k rs) (Ends a (ahead (rankIn key h) (rankOf h k) rs) (j .page .count) (n + 1)) (walkLeft h area cap k (a + 1) (n + 1)))
     at-page = rw (pages-next seen, page-read seen g, records-count (j .page), add-one n, add-one a)
 
     -- a slot that holds the key ends it
@@ -151,10 +151,10 @@ module _ {h : ℕ → ℕ} {area : List ℕ} {cap a : ℕ} {j : Judged} (seen : 
       place-is : at ≡ ahead (rankIn key h) (rankOf h k) rs
       place-is = left-place h k w f
 
-      ends : endsOn h k rs ≡ ltb at 12
+      ends : endsOn 12 h k rs ≡ ltb at 12
       ends =
           let sought : seek (rankIn key h) (rankOf h k) rs ≡ none = seek-key key h k rs small (rows .small) ∙ held-seek k 0 rs (left-away h k w f) in
-          rw place-is (ends-test h k rs (page-known seen g .few) (rows .rising) sought)
+          rw place-is (ends-test 12 h k rs (page-known seen g .few) (rows .rising) sought)
 
       -- a page with the place ends the walk
       pub walk-ends : at < 12 → Ends a at (j .page .count) (n + 1) ≡ walkLeft h area cap k a n

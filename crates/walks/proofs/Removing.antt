@@ -28,26 +28,26 @@ CountKnown h area (mets.Broken a n) = Unit {0}
 CountKnown h area (Ends a i c n) = Unit {0}
 CountKnown h area (mets.AtEnd n) = Unit {0}
 
-counted : (h : ℕ → ℕ) (area : List ℕ) (c k a n : ℕ) → CountKnown h area (meets h k a n (pagesFrom h area c a))
+counted : (h : ℕ → ℕ) (area : List ℕ) (c k a n : ℕ) → CountKnown h area (meets 12 h k a n (pagesFrom h area c a))
 counted h area zero k a n = tt
 counted h area (suc c) k a n = go (readPage h a (partAt area a)) refl (counted h area c k (suc a) (suc n))
   where
     ps : List (Option (List Record))
     ps = pagesFrom h area c (suc a)
 
-    ends : (u : Bool) (p : List Record) → CountKnown h area (meets h k (suc a) (suc n) ps)
-        → CountKnown h area (cond u (Ends a (ahead (rankIn key h) (rankOf h k) p) (length p) (suc n)) (meets h k (suc a) (suc n) ps))
+    ends : (u : Bool) (p : List Record) → CountKnown h area (meets 12 h k (suc a) (suc n) ps)
+        → CountKnown h area (cond u (Ends a (ahead (rankIn key h) (rankOf h k) p) (length p) (suc n)) (meets 12 h k (suc a) (suc n) ps))
     ends true p ih = tt
     ends false p ih = ih
 
-    holds : (o : Option (ℕ × ℕ)) (p : List Record) → Good h a (partAt area a) p → CountKnown h area (meets h k (suc a) (suc n) ps)
+    holds : (o : Option (ℕ × ℕ)) (p : List Record) → Good h a (partAt area a) p → CountKnown h area (meets 12 h k (suc a) (suc n) ps)
         → CountKnown h area (onHeld o (λ i v. Found a i (length p) v (suc n))
-        (cond (endsOn h k p) (Ends a (ahead (rankIn key h) (rankOf h k) p) (length p) (suc n)) (meets h k (suc a) (suc n) ps)))
-    holds none p g ih = ends (endsOn h k p) p ih
+        (cond (endsOn 12 h k p) (Ends a (ahead (rankIn key h) (rankOf h k) p) (length p) (suc n)) (meets 12 h k (suc a) (suc n) ps)))
+    holds none p g ih = ends (endsOn 12 h k p) p ih
     holds (some w) p g ih = (rw (← g .records) (g .rising), ap length (g .records))
 
-    go : (o : Option (List Record)) → readPage h a (partAt area a) ≡ o → CountKnown h area (meets h k (suc a) (suc n) ps)
-        → CountKnown h area (meets h k a n (o ∷ ps))
+    go : (o : Option (List Record)) → readPage h a (partAt area a) ≡ o → CountKnown h area (meets 12 h k (suc a) (suc n) ps)
+        → CountKnown h area (meets 12 h k a n (o ∷ ps))
     go none e ih = tt
     go (some p) e ih = holds (heldAt k 0 p) p (read-good h a (partAt area a) p e) ih
 
@@ -76,7 +76,7 @@ module _ (h : ℕ → ℕ) (area : List ℕ) (cap k : ℕ) (met : Met) (is : met
         rw z (rw (lt-ltb (length (held area a)) 12 (omega (arith, found-counted))) at (remove-met (Found a i c v n) e))
 
     -- a full page is the first of the plan
-    pub remove-full : (p : Plan) → 12 ≤ c → c ≤ 12 → i < c → p ≡ reachedBack h a i a n (pagesFrom h area (cap - suc a) (suc a))
+    pub remove-full : (p : Plan) → 12 ≤ c → c ≤ 12 → i < c → p ≡ reachedBack 12 h a i a n (pagesFrom h area (cap - suc a) (suc a))
         → planned (drawn h area) p ≡ removeWalk h area cap k
     remove-full p l m j q =
         ap (planned (drawn h area)) q

@@ -7,7 +7,7 @@ use mathlib.Core.List.{List, [], _∷_, append-nil, Permᴰ·refl}
 use Prim.Native.Nat.{ℕ, suc, _+_, _-_, _^_, _≤_, _<_}
 use native.Mathlib.Omega.{arith}
 use lib.ListN.{length, drop}
-use Rattle.placing.specs.Image.{All, page}
+use Rattle.placing.specs.Image.{All, page, RecordSet}
 use Rattle.placing.specs.Lay.{rankOf, rankIn}
 use Rattle.placing.specs.Walks.{seek, findIn, putIn}
 use Rattle.placing.proofs.Images.{one-image, find-image}
@@ -28,15 +28,16 @@ use Rattle.walks.specs.Walks.{heldAt, onHeld, endsOn, meets, walk, findAnswer}
 use Rattle.register.specs.Files.{put, File, Left, numbersOf}
 use Rattle.demands.specs.Histories.{Kept, stateOf, commitOf, holding}
 use Rattle.demands.specs.ReadMoved.{HeldOn, readTo}
-use Rattle.demands.proofs.Clean.{clean-part}
-use Rattle.demands.proofs.OnImage.{on-clean, home-low, on-sorted, on-once, on-slots}
-use Rattle.demands.proofs.Stops.{Passed, EndsAt, Stops, held-record}
-use Rattle.demands.proofs.FindWalk.{recordOf, find-stops, walk-stops, small-from}
-use Rattle.demands.proofs.PutWalk.{put-passed}
-use Rattle.demands.proofs.RemoveWalk.{lies, last-read}
-use Rattle.demands.proofs.Sets.{seek-some}
-use Rattle.demands.proofs.Moves.{put-holds}
-use Rattle.demands.proofs.Standing.{Stands, fileOf, Accepts, misses, find-leaves, with-new, new-once}
+use Rattle.walks.proofs.Clean.{clean-part}
+use Rattle.register.proofs.OnImage.{on-clean, home-low, on-sorted, on-once, on-slots}
+use Rattle.walks.proofs.Stops.{Passed, EndsAt, Stops, held-record}
+use Rattle.walks.proofs.FindWalk.{recordOf, find-stops, walk-stops, small-from}
+use Rattle.walks.proofs.PutWalk.{put-passed}
+use Rattle.walks.proofs.RemoveWalk.{lies, last-read}
+use Rattle.demands.proofs.Sets.{seek-some, seek-none}
+use Rattle.walks.proofs.Moves.{put-holds}
+use Rattle.register.proofs.ImageCalls.{find-leaves, with-new, new-once}
+use Rattle.demands.proofs.Standing.{Stands, fileOf, Accepts, misses}
 
 -- a walk from page a on that has judged n, with so many pages before it: those up to the one where
 -- it ends
@@ -133,15 +134,18 @@ module _ {m : Kept} {ps : List (List Record)} (s : Stands m ps) where
         go (past-all t n q) = absurd (clash (sym (misses-pages b q) ∙ on-page k b v w))
 
 module _ {m : Kept} {ps : List (List Record)} (s : Stands m ps) (x : Record) (l : key x < 2 ^ 64) (e : commitOf (key x) (m .held) ≡ none) (a : Accepts m (holding m (x ∷ m .held)) ps (put x) 0 []) where
+  new : RecordSet key (x ∷ m .held)
+  new = with-new s x l (seek-none (key x) (m .held) e)
+
   -- nothing comes past the end where a put is accepted
   fits : putIn key (homes (stateOf m)) 12 x ps .1 ≡ []
-  fits = put-room key (homes (stateOf m)) 12 x (with-new s x l e) (s .image) .1 (a .pages, a .stands .image .arranged)
+  fits = put-room key (homes (stateOf m)) 12 x new (s .image) .1 (a .pages, a .stands .image .arranged)
 
   -- and the pages that it leaves are those of its walk
   walked : a .pages ≡ putIn key (homes (stateOf m)) 12 x ps .0
   walked =
-      one-image key (homes (stateOf m)) 12 (with-new s x l e) (Permᴰ·refl (x ∷ m .held)) (a .stands .image)
-      (put-image key (homes (stateOf m)) 12 x (with-new s x l e) (s .image) fits)
+      one-image key (homes (stateOf m)) 12 new (Permᴰ·refl (x ∷ m .held)) (a .stands .image)
+      (put-image key (homes (stateOf m)) 12 x new (s .image) fits)
 
   -- so the page that holds the request after it is the one where the walk of a find ended
   pub read-new : (b w : ℕ) → HeldOn (fileOf (holding m (x ∷ m .held)) (a .pages)) b (key x) w → readTo (fileOf m ps) (key x) ≡ b + 1
@@ -151,7 +155,7 @@ module _ {m : Kept} {ps : List (List Record)} (s : Stands m ps) (x : Record) (l 
       go (held-on c u low n q) = absurd (clash (sym (misses-pages s (key x) l c (misses s (key x) l e)) ∙ q))
       go (ends-on c u n q) =
           let here : seek key (key x) (page (a .pages) c) ≡ some x =
-          rw walked (put-holds (on-clean s) x l (home-low s (key x)) (u .halt) (u .ends) (on-slots s) (on-sorted s) (new-once s x l e)) in
+          rw walked (put-holds (on-clean s) x l (home-low s (key x)) (u .halt) (u .ends) (on-slots s) (on-sorted s) (new-once s x l (seek-none (key x) (m .held) e))) in
           omega (arith, one-page key (key x) x (recordWith (key x) w) (a .pages) c b (on-once (a .stands)) here (on-page (a .stands) (key x) b w t))
       go (past-all u n q) =
           let full = rw append-nil at (put-passed (homes (stateOf m)) x (drop (homes (stateOf m) (key x)) ps) [] u) in

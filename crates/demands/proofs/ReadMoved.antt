@@ -11,8 +11,8 @@ use Rattle.state.specs.Answer.{numbers}
 use Rattle.register.specs.Files.{Call, format, find, put, remove, grow, check, due, Left, left, numbersOf}
 use Rattle.demands.specs.Histories.{Kept}
 use Rattle.demands.specs.ReadMoved.{moved, readTo, ReadHeld, ReadAbsent, ReadWithin, pagesOf, differ, Moved}
-use Rattle.demands.proofs.Clean.{clean-held}
-use Rattle.demands.proofs.OnImage.{on-clean}
+use Rattle.walks.proofs.Clean.{clean-held}
+use Rattle.register.proofs.OnImage.{on-clean}
 use Rattle.demands.proofs.Standing.{Stands, fileOf}
 use Rattle.demands.proofs.FindReads.{read-held, read-within, read-new}
 use Rattle.demands.proofs.Steps.{Plain, Step, refused, accepted, said, Puts, repeats, clashes, turned-away, joined, put-comes, step}

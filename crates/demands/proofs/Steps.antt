@@ -19,13 +19,12 @@ use Rattle.state.specs.declared.Answer.{Answer}
 use Rattle.state.specs.declared.Answer.the-variants.{Accepted, OutOfRange, WrongArea, WrongRow, Broken, Absent, Held, NoRoom, AtCap, NotImage, Clash}
 use Rattle.state.specs.State.{homes, grown}
 use Rattle.state.specs.Answer.{numbers, again}
-use Rattle.state.proofs.Ranges.{ranged, grown-range}
+use Rattle.state.proofs.Ranges.{ranged}
 use Rattle.state.proofs.Answers.{again-same, again-other}
 use Rattle.changes.specs.Changes.{done}
-use Rattle.register.specs.Calls.{Growth, grew}
-use Rattle.register.specs.Files.{Call, format, find, put, remove, grow, check, due, File, says, Left, leaves, ofGrowth, left, numbersOf, after}
+use Rattle.register.specs.Files.{Call, format, find, put, remove, grow, check, due, File, says, Left, leaves, left, numbersOf, after}
 use Rattle.demands.specs.Histories.{Fits, refusal, Kept, stateOf, without, commitOf, begun, holding, paged, makes, kept}
-use Rattle.demands.proofs.GrownImage.{grownPages, grownRow, accepts, refuses, check-yes, grow-refused-row, grow-at-cap, grow-room, grow-full, grown-image}
+use Rattle.register.proofs.GrownImage.{grownRow, check-yes, grow-other-row, grow-no-page, grow-no-room, grow-with-room}
 use Rattle.demands.proofs.Standing.{Stands, fileOf, Refused, Accepts, find-held, find-absent, remove-absent, remove-held, put-held, put-full, put-new}
 use Rattle.demands.proofs.Sets.{set-put}
 use Rattle.demands.proofs.Fresh.{Begins, began, outside, elsewhere, format-begins}
@@ -87,36 +86,6 @@ room-told h n rs f = go (ℕ-discrete (taken (homeFor h) 12 rs n) (length rs))
     go (no e) = no (λ r. e (room-taken key h 12 n rs f .0 r))
 
 module _ {m : Kept} {ps : List (List Record)} (s : Stands m ps) where
-  grow-leaves : (row : List ℕ) (g : Growth) → grew (stateOf m) (areaFrom 0 ps) row ≡ g → left (fileOf m ps) (grow row) ≡ ofGrowth g
-  unfolding left
-  grow-leaves row g e = rw e
-
-  -- a row of another length, and no page to grow to
-  grow-other-row : (row : List ℕ) → (length row ≡ m .cap → ⊥) → Refused m ps (grow row) WrongRow row
-  grow-other-row row f = grow-leaves row (refuses (stateOf m) ps row WrongRow) (grow-refused-row s row f)
-
-  grow-no-page : (row : List ℕ) → length row ≡ m .cap → m .p ≡ m .cap → Refused m ps (grow row) AtCap row
-  grow-no-page row l e = grow-leaves row (refuses (stateOf m) ps row AtCap) (grow-at-cap s row l e)
-
-  module _ (row : List ℕ) (l : length row ≡ m .cap) (low : m .p < m .cap) where
-    pub grow-no-room : (Room key (homes (grown (stateOf m))) 12 (m .cap) (m .held) → ⊥) → Refused m ps (grow row) (NoRoom (m .cap)) (grownRow (stateOf m) (m .held))
-    grow-no-room f = grow-leaves row (refuses (stateOf m) ps (grownRow (stateOf m) (m .held)) (NoRoom (m .cap))) (grow-full s row l low f)
-
-    pub grow-with-room : Room key (homes (grown (stateOf m))) 12 (m .cap) (m .held) → Accepts m (paged m) ps (grow row) 0 (grownRow (stateOf m) (m .held))
-    grow-with-room r =
-        record {
-          read = m .cap;
-          moved = _;
-          pages = grownPages (stateOf m) ps;
-          left = grow-leaves row (accepts (stateOf m) (m .held) ps) (grow-room s row l low r);
-          stands = record { range = grown-range (stateOf m) (s .range) low; set = s .set; values = s .values; count = refl; image = grown-image s r };
-          moves = refl;
-        }
-
-  pub check-stands : Accepts m m ps check 0 []
-  unfolding left
-  check-stands = record { read = m .cap; moved = 0; pages = ps; left = rw (check-yes s); stands = s; moves = refl }
-
   -- due asks for the load alone
   pub due-stands : left (fileOf m ps) due ≡ record { said = says (ltb (48 * m .p) (5 * length (m .held))); file = fileOf m ps; row = [] }
   unfolding left
@@ -127,10 +96,10 @@ module _ {m : Kept} {ps : List (List Record)} (s : Stands m ps) where
   grow-comes row = go (ℕ-discrete (length row) (m .cap)) (decLt (m .p) (m .cap)) (room-told (homes (grown (stateOf m))) (m .cap) (m .held) (s .set))
     where
       go : Dec (length row ≡ m .cap) → Dec (m .p < m .cap) → Dec (Room key (homes (grown (stateOf m))) 12 (m .cap) (m .held)) → Grows m ps row
-      go (no f) d r = other-row (grow-other-row row f)
-      go (yes l) (no f) r = at-cap (grow-no-page row l (omega (arith, ranged (stateOf m) (s .range) .p-high)))
-      go (yes l) (yes low) (no f) = crowded (grow-no-room row l low f)
-      go (yes l) (yes low) (yes r) = larger (grow-with-room row l low r)
+      go (no f) d r = other-row (grow-other-row s row f)
+      go (yes l) (no f) r = at-cap (grow-no-page s row l (omega (arith, ranged (stateOf m) (s .range) .p-high)))
+      go (yes l) (yes low) (no f) = crowded (grow-no-room s row l low f)
+      go (yes l) (yes low) (yes r) = larger (grow-with-room s row l low r)
 
   grow-step : (row : List ℕ) → Grows m ps row → Step m ps (grow row)
   grow-step row (other-row a) = refused WrongRow row tt a
@@ -189,7 +158,7 @@ module _ {m : Kept} {ps : List (List Record)} (s : Stands m ps) where
   step (put x) f = put-step x (put-comes x f)
   step (remove k) f = remove-step k f
   step (grow row) f = grow-step row (grow-comes row)
-  step check f = accepted m 0 [] refl check-stands
+  step check f = accepted m 0 [] refl (check-yes s)
   step due f = said (ltb (48 * m .p) (5 * length (m .held))) refl due-stands
 
 -- what is kept is what stands

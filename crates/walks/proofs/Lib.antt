@@ -6,3 +6,10 @@ pub mod Back
 pub mod RemovePlan
 pub mod Removing
 pub mod Draw
+pub mod Clean
+pub mod Stops
+pub mod Went
+pub mod FindWalk
+pub mod PutWalk
+pub mod RemoveWalk
+pub mod Moves

@@ -20,15 +20,15 @@ use Rattle.placing.proofs.Strays.{cat-append, distinct-left, distinct-right, ap
 use Rattle.pages.specs.Page.{Record, key}
 use Rattle.pages.specs.Places.{closed}
 use Rattle.pages.specs.Area.{pagesFrom, areaFrom}
 use Rattle.walks.specs.declared.Met.{Met}
 use Rattle.walks.specs.declared.Met.the-variants.{Found, Ends}
 use Rattle.walks.specs.declared.Met.the-variants as mets
 use Rattle.walks.specs.Walks.{Walked, went, stopped, andPage, heldAt, endsOn, walk, carry, putMet, putWalk, pullBack as pulls, removeMet, removeWalk}
-use Rattle.demands.proofs.Clean.{Clean, clean-from}
-use Rattle.demands.proofs.Stops.{Small, Halt, Stops, here-seek}
-use Rattle.demands.proofs.FindWalk.{walk-stops}
-use Rattle.demands.proofs.PutWalk.{put-page, put-passed}
-use Rattle.demands.proofs.RemoveWalk.{held-del, before, whole-file, before-length, lies, last-keys, remove-halt, last-read, rest-read}
+use Rattle.walks.proofs.Clean.{Clean, clean-from}
+use Rattle.walks.proofs.Stops.{Small, Halt, Stops, here-seek}
+use Rattle.walks.proofs.FindWalk.{walk-stops}
+use Rattle.walks.proofs.PutWalk.{put-page, put-passed}
+use Rattle.walks.proofs.RemoveWalk.{held-del, before, whole-file, before-length, lies, last-keys, remove-halt, last-read, rest-read}
 
 -- a walk that went well tells n records moved
 abbrev pub Moves : ℕ → Walked → Type 0

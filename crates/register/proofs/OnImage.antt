@@ -1,4 +1,4 @@
--- A file that is the image of its records.
+-- A file that is the image of its records, and what it is for a call to refuse it or to accept.
 use mathlib.Core.Path.{_≡_, ap, _∙_}
 use mathlib.Core.Bool.{true}
 use mathlib.Core.List.{List, [], Permᴰ·symm}
@@ -16,12 +16,16 @@ use Rattle.pages.specs.Page.{Record, key, value}
 use Rattle.pages.specs.Area.{areaFrom}
 use Rattle.pages.proofs.Areas.{area-length}
 use Rattle.state.specs.declared.State.{State}
+use Rattle.state.specs.declared.Answer.{Answer}
+use Rattle.state.specs.declared.Answer.the-variants.{Accepted}
 use Rattle.state.specs.State.{inRange, homes}
 use Rattle.state.proofs.Ranges.{ranged, in-shape}
 use Rattle.gates.specs.declared.Gate.the-variants.{Open}
 use Rattle.gates.specs.Gates.{gateOf}
 use Rattle.gates.proofs.Gating.{gate-open}
-use Rattle.demands.proofs.Clean.{Clean, image-clean}
+use Rattle.changes.specs.Changes.{done}
+use Rattle.walks.proofs.Clean.{Clean, image-clean}
+use Rattle.register.specs.Files.{Call, leaves, fileOf, left}
 
 -- a state in range, and pages that are the image of as many records as it tells
 pub record OnImage (s : State) (rs : List Record) (ps : List (List Record)) : Type 0 where
@@ -57,3 +61,17 @@ module _ {s : State} {rs : List Record} {ps : List (List Record)} (w : OnImage s
 
   pub on-slots : All (λ p. length p ≤ 12) ps
   on-slots = all-pages (λ p. length p ≤ 12) ps (w .image .arranged .slots)
+
+-- a call is refused and leaves the file, with some row
+abbrev pub Refused : State → List (List Record) → Call → Answer → (row : List ℕ) → Type 0
+Refused s ps c why row = left (fileOf s (areaFrom 0 ps)) c ≡ leaves (done s why) (areaFrom 0 ps) row
+
+-- a call is accepted with this value, and leaves a file that is the image of the records rs; `far`
+-- tells how many of a file's records lie on another page than before
+pub record Accepts (s : State) (ps : List (List Record)) (c : Call) (v : ℕ) (row : List ℕ) (new : State) (rs : List Record) (far : List (List Record) → ℕ) : Type 0 where
+  pub read : ℕ
+  pub moved : ℕ
+  pub pages : List (List Record)
+  pub left : left (fileOf s (areaFrom 0 ps)) c ≡ leaves (done new (Accepted v read moved)) (areaFrom 0 pages) row
+  pub stands : OnImage new rs pages
+  pub moves : moved ≡ far pages

@@ -19,14 +19,14 @@ use Rattle.pages.specs.Page.{Record, key, value, recordsIn}
 use Rattle.pages.specs.Places.{closed}
 use Rattle.pages.specs.Area.{partAt, pagesFrom, areaFrom}
 use Rattle.state.specs.declared.Answer.the-variants.{Absent}
 use Rattle.walks.specs.declared.Met.{Met}
 use Rattle.walks.specs.declared.Met.the-variants.{Found, Ends}
 use Rattle.walks.specs.declared.Met.the-variants as mets
 use Rattle.walks.specs.Walks.{Walked, went, stopped, andPage, heldAt, walk, removeMet, removeWalk, pullBack as pulls}
-use Rattle.demands.proofs.Clean.{Clean, clean-from, clean-part}
-use Rattle.demands.proofs.Stops.{Small, Passed, Halt, Stops, away-seek, here-seek}
-use Rattle.demands.proofs.Went.{Went, wrote-went, one-went}
-use Rattle.demands.proofs.FindWalk.{cond-or, small-from, recordOf, find-stops, walk-stops}
+use Rattle.walks.proofs.Clean.{Clean, clean-from, clean-part}
+use Rattle.walks.proofs.Stops.{Small, Passed, Halt, Stops, away-seek, here-seek}
+use Rattle.walks.proofs.Went.{Went, wrote-went, one-went}
+use Rattle.walks.proofs.FindWalk.{cond-or, small-from, recordOf, find-stops, walk-stops}
 
 -- pages that the walk passes stay
 remove-passed : (h : ℕ → ℕ) (k a : ℕ) → k < 2 ^ 64 → (front qs : List (List Record)) → All (All Small) front → All (Passed h k) front

@@ -15,14 +15,14 @@ use Rattle.pages.specs.Page.{Record, key, value}
 use Rattle.pages.specs.Area.{pagesFrom, areaFrom}
 use Rattle.state.specs.declared.Answer.the-variants.{NoRoom}
 use Rattle.state.specs.Answer.{again}
 use Rattle.walks.specs.declared.Met.{Met}
 use Rattle.walks.specs.declared.Met.the-variants.{Found, Ends}
 use Rattle.walks.specs.declared.Met.the-variants as mets
 use Rattle.walks.specs.Walks.{Walked, went, stopped, andPage, endsOn, walk, carry, putMet, putWalk}
-use Rattle.demands.proofs.Clean.{Clean, clean-from}
-use Rattle.demands.proofs.Stops.{Passed, Stops}
-use Rattle.demands.proofs.Went.{Went, wrote-went, one-went}
-use Rattle.demands.proofs.FindWalk.{cond-or, small-from, recordOf, find-stops, walk-stops}
+use Rattle.walks.proofs.Clean.{Clean, clean-from}
+use Rattle.walks.proofs.Stops.{Passed, Stops}
+use Rattle.walks.proofs.Went.{Went, wrote-went, one-went}
+use Rattle.walks.proofs.FindWalk.{cond-or, small-from, recordOf, find-stops, walk-stops}
 
 -- a walk with a record at hand makes of the pages ps the pages qs where no record is left over, and
 -- else finds no room

@@ -14,12 +14,12 @@ use Rattle.pages.specs.Page.{Record, key, value, recordWith}
 use Rattle.pages.specs.Area.{areaFrom}
 use Rattle.state.specs.declared.Answer.{Answer}
 use Rattle.state.specs.declared.Answer.the-variants.{Accepted, Absent}
 use Rattle.walks.specs.declared.Met.{Met}
 use Rattle.walks.specs.declared.Met.the-variants.{Found, Ends}
 use Rattle.walks.specs.declared.Met.the-variants as mets
 use Rattle.walks.specs.Walks.{endsOn, walk, findAnswer}
-use Rattle.demands.proofs.Clean.{Clean, clean-from}
-use Rattle.demands.proofs.Stops.{Small, Passed, Halt, Stops, meets-stops, away-seek, here-seek}
+use Rattle.walks.proofs.Clean.{Clean, clean-from}
+use Rattle.walks.proofs.Stops.{Small, Passed, Halt, Stops, meets-stops, away-seek, here-seek}
 
 -- two tests with one way out are one
 pub cond-or : {A : Type 0} (u v : Bool) (x y : A) → cond u x (cond v x y) ≡ cond (u || v) x y

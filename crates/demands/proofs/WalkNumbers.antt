@@ -10,6 +10,7 @@ use native.Mathlib.Omega.{arith}
 use lib.Dec.{leb, ltb, eqb}
 use lib.ListN.{length, take, getD}
 use Rattle.placing.specs.Lay.{rankOf, rankIn, ins}
+use Rattle.placing.specs.Walks.{endsOn}
 use Rattle.pages.specs.Page.{Record, vacant, key, value, recordsIn, readPage}
 use Rattle.pages.specs.Places.{closed, ahead}
 use Rattle.pages.specs.Area.{partAt, pagesFrom}
@@ -20,7 +21,7 @@ use Rattle.state.specs.State.{homes}
 use Rattle.walks.specs.declared.Met.{Met}
 use Rattle.walks.specs.declared.Met.the-variants.{Found, Ends}
 use Rattle.walks.specs.declared.Met.the-variants as mets
-use Rattle.walks.specs.Walks.{heldAt, onHeld, endsOn, meets, walk, Walked, went, stopped, andPage, carry, putMet, putWalk, pullBack, removeMet, removeWalk}
+use Rattle.walks.specs.Walks.{heldAt, onHeld, meets, walk, Walked, went, stopped, andPage, carry, putMet, putWalk, pullBack, removeMet, removeWalk}
 use Rattle.register.specs.Files.{put, remove, File}
 use Rattle.demands.specs.Refusals.{BrokenAt, OneOf, gives}
 use Rattle.demands.proofs.InOrder.{listed, one-of, none-of, each-of}
@@ -58,7 +59,7 @@ module _ (f : File) where
 
       go : (o : Option (List Record)) → readPage h a (partAt (f .area) a) ≡ o → MetBroken on → MetBroken (meets 12 h k a n (o ∷ from m (suc a)))
       go none q t = (omega arith, q)
-      go (some p) q t = held p (heldAt k 0 p) (endsOn 12 h k p) t
+      go (some p) q t = held p (heldAt k 0 p) (endsOn (rankIn key h) 12 (rankOf h k) p) t
 
   pub walk-broken : (k : ℕ) → MetBroken (walk h (f .area) cap k)
   unfolding walk

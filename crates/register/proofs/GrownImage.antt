@@ -61,7 +61,7 @@ module _ {s : State} {rs : List Record} {ps : List (List Record)} (w : OnImage s
       }))
 
   -- so check says yes
-  pub check-yes : Accepts s ps check 0 [] s rs (λ new. 0)
+  pub check-yes : Accepts s ps check 0 [] s rs (λ qs. 0)
   unfolding left
   check-yes = record { read = s .cap; moved = 0; pages = ps; left = rw (← on-gate w, image-open); stands = w; moves = refl }
 
@@ -104,7 +104,7 @@ module _ {s : State} {rs : List Record} {ps : List (List Record)} (w : OnImage s
             )
 
         -- with room the file is made anew
-        pub grow-with-room : Room key (homes (grown s)) 12 (s .cap) rs → Accepts s ps (grow row) 0 (grownRow s rs) (grown s) rs (λ new. strayed key ps new)
+        pub grow-with-room : Room key (homes (grown s)) 12 (s .cap) rs → Accepts s ps (grow row) 0 (grownRow s rs) (grown s) rs (λ qs. strayed key ps qs)
         grow-with-room r =
             record {
               read = s .cap;

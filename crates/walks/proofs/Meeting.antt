@@ -3,23 +3,22 @@
 use mathlib.Core.Path.{_≡_, refl, sym, ap, _∙_}
 use mathlib.Core.Bool.{Bool, true, false, cond, _||_}
 use mathlib.Core.Option.{Option, none, some}
-use mathlib.Core.List.{List, [], _∷_}
+use mathlib.Core.List.{List, _∷_}
 use Prim.Native.Nat.{ℕ, suc, _+_, _*_, _-_, _^_, _≤_, _<_}
 use native.Mathlib.Numerals.{add-one}
 use native.Mathlib.Omega.{arith}
 use borrow.Author.Tests.{ltb-true, ltb-false, lt-ltb, le-ltb}
-use lib.Dec.{eqb, ltb}
+use lib.Dec.{ltb}
 use lib.ListN.{length, drop, getD}
 use Rattle.homes.specs.declared.Shape.{Shape}
 use Rattle.homes.specs.Homes.{Ready, homeIn}
 use Rattle.homes.proofs.Homes.{home-below}
 use Rattle.placing.specs.Lay.{rankOf, rankIn}
-use Rattle.placing.specs.Walks.{seek, lastAfter}
+use Rattle.placing.specs.Walks.{seek, lastAfter, endsOn}
 use Rattle.placing.proofs.Order.{Sorted}
 use Rattle.placing.proofs.Rank.{seek-key}
-use Rattle.placing.proofs.Seek.{clash}
 use Rattle.pages.specs.declared.Judged.{Judged}
-use Rattle.pages.specs.Page.{Record, key, value, readPage, judged}
+use Rattle.pages.specs.Page.{Record, key, readPage, judged}
 use Rattle.pages.specs.Places.{ahead}
 use Rattle.pages.specs.steps.Slots.{recordsOf}
 use Rattle.pages.specs.Area.{partAt, pagesFrom}
@@ -32,7 +31,8 @@ use Rattle.pages.proofs.Bounds.{keys-small}
 use Rattle.walks.specs.declared.Met.{Met}
 use Rattle.walks.specs.declared.Met.the-variants.{Found, Ends}
 use Rattle.walks.specs.declared.Met.the-variants as mets
-use Rattle.walks.specs.Walks.{heldAt, onHeld, endsOn, meets, walk}
+use Rattle.walks.specs.Walks.{heldAt, onHeld, meets, walk}
+use Rattle.walks.proofs.Holds.{away}
 use Rattle.walks.proofs.Scanning.{differ, records-count, After, ToScan, left-away, left-place, Rows}
 
 -- a home lies in the area
@@ -90,19 +90,9 @@ module _ {h : ℕ → ℕ} {area : List ℕ} {cap a : ℕ} {j : Judged} (seen : 
     rising = rises-sorted h (recordsOf (j .page)) (page-known g .rising);
   }
 
--- a key that no slot holds is not found
-pub held-seek : (k i : ℕ) (rs : List Record) → heldAt k i rs ≡ none → seek key k rs ≡ none
-held-seek k i [] e = refl
-held-seek k i (x ∷ rs) e = go (eqb (key x) k) e (held-seek k (suc i) rs)
-  where
-    go : (u : Bool) → cond u (some (i, value x)) (heldAt k (suc i) rs) ≡ none → (heldAt k (suc i) rs ≡ none → seek key k rs ≡ none)
-        → cond u (some x) (seek key k rs) ≡ none
-    go true q ih = absurd (clash (sym q))
-    go false q ih = ih q
-
 -- where it is not found, a page ends the walk exactly where the key's place is in it
 ends-test : (b : ℕ) (h : ℕ → ℕ) (k : ℕ) (rs : List Record) → length rs ≤ b → Sorted (rankIn key h) rs → seek (rankIn key h) (rankOf h k) rs ≡ none
-    → endsOn b h k rs ≡ ltb (ahead (rankIn key h) (rankOf h k) rs) b
+    → endsOn (rankIn key h) b (rankOf h k) rs ≡ ltb (ahead (rankIn key h) (rankOf h k) rs) b
 ends-test b h k rs few up e = go (ltb (length rs) b) refl
   where
     go : (u : Bool) → ltb (length rs) b ≡ u → (u || lastAfter (rankIn key h) (rankOf h k) rs) ≡ ltb (ahead (rankIn key h) (rankOf h k) rs) b
@@ -139,7 +129,7 @@ module _ {h : ℕ → ℕ} {area : List ℕ} {cap a : ℕ} {j : Judged} (seen : 
     -- the walk at a good page
     at-page : walkLeft h area cap k a n
         ≡ onHeld (heldAt k 0 rs) (λ i v. Found a i (j .page .count) v (n + 1))
-        (cond (endsOn 12 h k rs) (Ends a (ahead (rankIn key h) (rankOf h k) rs) (j .page .count) (n + 1)) (walkLeft h area cap k (a + 1) (n + 1)))
+        (cond (endsOn (rankIn key h) 12 (rankOf h k) rs) (Ends a (ahead (rankIn key h) (rankOf h k) rs) (j .page .count) (n + 1)) (walkLeft h area cap k (a + 1) (n + 1)))
     at-page = rw (pages-next seen, page-read seen g, records-count (j .page), add-one n, add-one a)
 
     -- a slot that holds the key ends it
@@ -151,9 +141,9 @@ module _ {h : ℕ → ℕ} {area : List ℕ} {cap a : ℕ} {j : Judged} (seen : 
       place-is : at ≡ ahead (rankIn key h) (rankOf h k) rs
       place-is = left-place h k w f
 
-      ends : endsOn 12 h k rs ≡ ltb at 12
+      ends : endsOn (rankIn key h) 12 (rankOf h k) rs ≡ ltb at 12
       ends =
-          let sought : seek (rankIn key h) (rankOf h k) rs ≡ none = seek-key key h k rs small (rows .small) ∙ held-seek k 0 rs (left-away h k w f) in
+          let sought : seek (rankIn key h) (rankOf h k) rs ≡ none = seek-key key h k rs small (rows .small) ∙ away k rs (left-away h k w f) in
           rw place-is (ends-test 12 h k rs (page-known seen g .few) (rows .rising) sought)
 
       -- a page with the place ends the walk

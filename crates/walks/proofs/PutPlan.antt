@@ -12,6 +12,7 @@ use lib.Dec.{ltb}
 use lib.ListN.{length, take, getD}
 use lib.Seq.{take-all}
 use Rattle.placing.specs.Lay.{rankOf, rankIn, ins}
+use Rattle.placing.specs.Walks.{endsOn}
 use Rattle.placing.proofs.Order.{ins-length}
 use Rattle.pages.specs.declared.Judged.{Judged}
 use Rattle.pages.specs.Page.{Record, key, value, readPage}
@@ -25,7 +26,7 @@ use Rattle.walks.specs.declared.Met.the-variants.{Found, Ends}
 use Rattle.walks.specs.declared.Met.the-variants as mets
 use Rattle.walks.specs.declared.Plan.{Plan}
 use Rattle.walks.specs.declared.Plan.the-variants.{Go, Stop}
-use Rattle.walks.specs.Walks.{Pages, went, stopped, andPage, heldAt, onHeld, endsOn, meets, walk, carry, putMet, putWalk}
+use Rattle.walks.specs.Walks.{Pages, went, stopped, andPage, heldAt, onHeld, meets, walk, carry, putMet, putWalk}
 use Rattle.walks.specs.steps.Plans.{held, poured, reached, planned, placedIn}
 use Rattle.walks.proofs.Scanning.{records-count}
 use Rattle.walks.proofs.Meeting.{Seen, pages-next, page-broken, page-read}
@@ -172,7 +173,7 @@ module _ (h : ℕ → ℕ) (area : List ℕ) (x : Record) where
       go : (o : Option (List Record)) → readPage h b (partAt area b) ≡ o → meets 12 h k b r (o ∷ ps) ≡ Ends a i c n
           → (meets 12 h k (suc b) (suc r) ps ≡ Ends a i c n → EndsAt a i c) → EndsAt a i c
       go none q e ih = absurd (let z : _≡_ {A = ℕ} 0 1 = cc in omega arith)
-      go (some p) q e ih = good p q (heldAt k 0 p) (endsOn 12 h k p) e ih
+      go (some p) q e ih = good p q (heldAt k 0 p) (endsOn (rankIn key h) 12 (rankOf h k) p) e ih
 
   -- each page that a put meets, and what it then does
   module _ (cap : ℕ) (m : Met) (is : m ≡ walk h area cap k) where

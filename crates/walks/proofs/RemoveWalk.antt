@@ -1,77 +1,50 @@
--- Remove's walk on good bytes is the walk on the pages that they are.
-use mathlib.Core.Path.{_≡_, refl, sym, ap, _∙_}
+-- Remove on good bytes: it makes of them what the walk on the pages makes.
+use mathlib.Core.Path.{_≡_, refl}
 use mathlib.Core.Bool.{Bool, true, false, cond}
 use mathlib.Core.Option.{Option, none, some}
-use mathlib.Core.List.{List, [], _∷_, _++_, map, append-assoc}
-use Prim.Native.Nat.{ℕ, suc, _+_, _-_, _^_, _≤_, _<_}
-use native.Mathlib.Nat.{add-zero}
+use mathlib.Core.List.{List, [], _∷_, _++_, map}
+use Prim.Native.Nat.{ℕ, suc, _+_, _^_, _≤_, _<_}
 use native.Mathlib.Omega.{arith}
-use lib.Dec.{leb, ltb, eqb}
+use lib.Dec.{leb, ltb}
 use lib.ListN.{length, take, drop, length-append, take-append-drop}
-use lib.Seq.{append-snoc, length-take-le, drop-append-add, getD-at}
-use Rattle.placing.specs.Image.{All, page, homeOf}
+use lib.Seq.{append-snoc, length-take-le}
+use Rattle.placing.specs.Image.{All, cat, homeOf, Distinct}
 use Rattle.placing.specs.Lay.{rankOf, rankIn, ins}
-use Rattle.placing.specs.Walks.{del, remove, findIn, removeIn, pullBack}
-use Rattle.placing.proofs.Lists.{all-left, all-right}
-use Rattle.placing.proofs.Seek.{clash}
-use Rattle.placing.proofs.Rank.{del-key}
-use Rattle.pages.specs.Page.{Record, key, value, recordsIn}
-use Rattle.pages.specs.Places.{closed}
-use Rattle.pages.specs.Area.{partAt, pagesFrom, areaFrom}
+use Rattle.placing.specs.Rows.{strays, strayed}
+use Rattle.placing.specs.Walks.{endsOn, del, find, remove, findIn, removeIn, pullBack}
+use Rattle.placing.proofs.Lists.{all-left}
+use Rattle.placing.proofs.Seek.{del-all}
+use Rattle.placing.proofs.Strays.{distinct-right, apart, There, there, strays-none, strayed-none, strayed-after, strays-ins}
+use Rattle.pages.specs.Page.{Record, key}
+use Rattle.pages.specs.Places.{closed, ahead}
+use Rattle.pages.specs.Area.{areaFrom}
 use Rattle.state.specs.declared.Answer.the-variants.{Absent}
 use Rattle.walks.specs.declared.Met.{Met}
 use Rattle.walks.specs.declared.Met.the-variants.{Found, Ends}
-use Rattle.walks.specs.declared.Met.the-variants as mets
-use Rattle.walks.specs.Walks.{Walked, went, stopped, andPage, heldAt, walk, removeMet, removeWalk, pullBack as pulls}
-use Rattle.walks.proofs.Clean.{Clean, clean-from, clean-part}
-use Rattle.walks.proofs.Stops.{Small, Passed, Halt, Stops, away-seek, here-seek}
+use Rattle.walks.specs.Walks.{heldAt, onHeld, meets, walk, Walked, went, stopped, andPage, removeMet, removeWalk, pullBack as pulls}
+use Rattle.walks.proofs.Holds.{Small, away-rank, here-rank, here-del}
+use Rattle.walks.proofs.Clean.{Clean, clean-from, clean-here, clean-next, InOrder, order-next, order-from}
 use Rattle.walks.proofs.Went.{Went, wrote-went, one-went}
-use Rattle.walks.proofs.FindWalk.{cond-or, small-from, recordOf, find-stops, walk-stops}
 
--- pages that the walk passes stay
-remove-passed : (h : ℕ → ℕ) (k a : ℕ) → k < 2 ^ 64 → (front qs : List (List Record)) → All (All Small) front → All (Passed h k) front
-    → remove (rankIn key h) (homeOf key h) 12 a (rankOf h k) (front ++ qs) ≡ front ++ remove (rankIn key h) (homeOf key h) 12 (a + length front) (rankOf h k) qs
-remove-passed h k a l [] qs s f = rw add-zero
-remove-passed h k a l (p ∷ front) qs s f =
-    let e = away-seek h k p l (s .0) (f .0 .away) in
-    let n : a + suc (length front) ≡ suc a + length front = omega arith in
-    rw (e, cond-or, f .0 .on, n) (ap (λ (t : List (List Record)). p ∷ t) (remove-passed h k (suc a) l front qs (s .1) (f .1)))
+module _ (b : ℕ) (h : ℕ → ℕ) where
+  abbrev rank : Record → ℕ
+  rank = rankIn key h
 
--- the slots closed up over the one that holds the key are those with the key taken out
-held-closed : (k i j v : ℕ) (p : List Record) → heldAt k i p ≡ some (j, v) → (m : ℕ) × (j ≡ i + m) × (del key k p ≡ closed m p)
-unfolding closed
-held-closed k i j v [] e = absurd (clash e)
-held-closed k i j v (x ∷ p) e = go (eqb (key x) k) e (held-closed k (suc i) j v p)
-  where
-    go : (u : Bool) → cond u (some (i, value x)) (heldAt k (suc i) p) ≡ some (j, v)
-        → (heldAt k (suc i) p ≡ some (j, v) → (m : ℕ) × (j ≡ suc i + m) × (del key k p ≡ closed m p))
-        → (m : ℕ) × (j ≡ i + m) × (cond u p (x ∷ del key k p) ≡ closed m (x ∷ p))
-    go true g ih =
-        let t : _≡_ {A = ℕ × ℕ} (i, value x) (j, v) = cc in
-        (0, omega (arith, ap (λ (y : ℕ × ℕ). y .0) t), refl)
-    go false g ih =
-        let t = ih g in
-        (suc (t .0), omega (arith, t .1), ap (λ (s : List Record). x ∷ s) (t .2))
-
--- or with its rank taken out
-pub held-del : (h : ℕ → ℕ) (k i v : ℕ) (p : List Record) → k < 2 ^ 64 → All Small p → heldAt k 0 p ≡ some (i, v) → closed i p ≡ del (rankIn key h) (rankOf h k) p
-held-del h k i v p l s e =
-    let t = held-closed k 0 i v p e in
-    let n : i ≡ t .0 = omega (arith, t .1) in
-    rw n (sym (t .2)) ∙ sym (del-key key h k p l s)
-
-module _ (h : ℕ → ℕ) where
-  -- where page a was full, the records that come back are those of the list walk
-  pulls-went : (front : List (List Record)) (a n m : ℕ) → length front ≡ a → (was p : List Record) (qs : List (List Record))
-      → Went (front ++ (was ∷ qs)) (front ++ pullBack (rankIn key h) (homeOf key h) 12 a p qs) (pulls 12 h a n m p (map some qs))
-  pulls-went front a n m at was p [] = one-went front a at was p [] n m
-  pulls-went front a n m at was p ([] ∷ qs) = one-went front a at was p ([] ∷ qs) (suc n) m
-  pulls-went front a n m at was p ((y ∷ q) ∷ qs) =
-      go (leb (h (key y)) a) (inner (ltb (suc (length q)) 12) (pulls-went front′ (suc a) (suc n) (suc m) at′ (y ∷ q) q qs))
+  -- where page a was full, with these records, and p is left of it: the records that come back are
+  -- those of the walk on the pages, and each counts
+  pulls-went : (front : List (List Record)) (a n m t : ℕ) → length front ≡ a → (was p : List Record) (qs : List (List Record)) → All (There key was) p
+      → Distinct key (was ++ cat qs []) → m + strayed key (was ∷ qs) (pullBack rank (homeOf key h) b a p qs) ≡ t
+      → Went (front ++ (was ∷ qs)) (front ++ pullBack rank (homeOf key h) b a p qs) t (pulls b h a n m p (map some qs))
+  pulls-went front a n m t at was p [] s d e = one-went front a at was p [] n m (omega (arith, strays-none key was p s))
+  pulls-went front a n m t at was p ([] ∷ qs) s d e =
+      one-went front a at was p ([] ∷ qs) (suc n) m (omega (arith, strays-none key was p s, strayed-none key ([] ∷ qs)))
+  pulls-went front a n m t at was p ((y ∷ q) ∷ qs) s d e =
+      go (leb (h (key y)) a) (ltb (suc (length q)) b) e
+      (pulls-went front′ (suc a) (suc n) (suc m) t at′ (y ∷ q) q qs (there key (y ∷ q) .1) (distinct-right key was ((y ∷ q) ++ cat qs []) d))
     where
       -- this page with the first of the next
       p′ : List Record
-      p′ = ins (rankIn key h) y p
+      p′ = ins rank y p
 
       front′ : List (List Record)
       front′ = front ++ (p′ ∷ [])
@@ -80,99 +53,89 @@ module _ (h : ℕ → ℕ) where
       at′ = omega (arith, length-append front (p′ ∷ []))
 
       back : List (List Record)
-      back = pullBack (rankIn key h) (homeOf key h) 12 (suc a) q qs
+      back = pullBack rank (homeOf key h) b (suc a) q qs
 
       on : Walked
-      on = pulls 12 h (suc a) (suc n) (suc m) q (map some qs)
+      on = pulls b h (suc a) (suc n) (suc m) q (map some qs)
 
-      -- the next page after its first has gone
-      Next : Bool → Type 0
-      Next v = Went (front ++ (p′ ∷ ((y ∷ q) ∷ qs))) (front ++ (p′ ∷ cond v (q ∷ qs) back)) (cond v (went ((suc a, q) ∷ []) (suc n) (suc m)) on)
+      -- which is new there
+      new : strays key was p′ ≡ 1
+      new = strays-ins key rank was y p (apart key was y (q ++ cat qs []) d) s
 
-      inner : (v : Bool) → Went (front′ ++ ((y ∷ q) ∷ qs)) (front′ ++ back) on → Next v
-      inner true ih = simp append-snoc at (one-went front′ (suc a) at′ (y ∷ q) q qs (suc n) (suc m))
-      inner false ih = simp append-snoc at ih
+      go : (u v : Bool) → m + strayed key (was ∷ ((y ∷ q) ∷ qs)) (cond u (p′ ∷ cond v (q ∷ qs) back) (p ∷ ((y ∷ q) ∷ qs))) ≡ t
+          → (suc m + strayed key ((y ∷ q) ∷ qs) back ≡ t → Went (front′ ++ ((y ∷ q) ∷ qs)) (front′ ++ back) t on)
+          → Went (front ++ (was ∷ ((y ∷ q) ∷ qs))) (front ++ cond u (p′ ∷ cond v (q ∷ qs) back) (p ∷ ((y ∷ q) ∷ qs))) t
+          (cond u (andPage a p′ (cond v (went ((suc a, q) ∷ []) (suc n) (suc m)) on)) (went ((a, p) ∷ []) (suc n) m))
+      go true true e ih =
+          let k : suc m ≡ t = omega (arith, e, new, strays-none key (y ∷ q) q (there key (y ∷ q) .1), strayed-none key qs) in
+          wrote-went front a at was p′ ((y ∷ q) ∷ qs) (simp append-snoc at (one-went front′ (suc a) at′ (y ∷ q) q qs (suc n) (suc m) k))
+      go true false e ih = wrote-went front a at was p′ ((y ∷ q) ∷ qs) (simp append-snoc at (ih (omega (arith, e, new))))
+      go false v e ih = one-went front a at was p ((y ∷ q) ∷ qs) (suc n) m (omega (arith, e, strays-none key was p s, strayed-none key ((y ∷ q) ∷ qs)))
 
-      go : (u : Bool) → Next (ltb (suc (length q)) 12)
-          → Went (front ++ (was ∷ ((y ∷ q) ∷ qs))) (front ++ cond u (p′ ∷ cond (ltb (suc (length q)) 12) (q ∷ qs) back) (p ∷ ((y ∷ q) ∷ qs)))
-          (cond u (andPage a p′ (cond (ltb (suc (length q)) 12) (went ((suc a, q) ∷ []) (suc n) (suc m)) on)) (went ((a, p) ∷ []) (suc n) m))
-      go true g = wrote-went front a at was p′ ((y ∷ q) ∷ qs) g
-      go false g = one-went front a at was p ((y ∷ q) ∷ qs) (suc n) m
-
-  -- the page that holds the key, at address a after those of `front`
-  taken-went : (k i v a n : ℕ) (front : List (List Record)) (p : List Record) (qs : List (List Record)) → k < 2 ^ 64 → All Small p → length front ≡ a
+  -- the page a that holds the key, after those in front
+  taken-went : (k i v a n : ℕ) (front : List (List Record)) (p : List Record) (qs : List (List Record)) → k < 2 ^ 64 → length front ≡ a → InOrder b h (p ∷ qs)
       → heldAt k 0 p ≡ some (i, v)
-      → Went (front ++ (p ∷ qs)) (front ++ remove (rankIn key h) (homeOf key h) 12 a (rankOf h k) (p ∷ qs))
-      (cond (ltb (length p) 12) (went ((a, closed i p) ∷ []) n 0) (pulls 12 h a n 0 (closed i p) (map some qs)))
-  taken-went k i v a n front p qs l s at e = rw (here-seek h k p i v l s e, held-del h k i v p l s e) (go (ltb (length p) 12))
+      → Went (front ++ (p ∷ qs)) (front ++ remove rank (homeOf key h) b a (rankOf h k) (p ∷ qs)) (strayed key (front ++ (p ∷ qs)) (front ++ remove rank (homeOf key h) b a (rankOf h k) (p ∷ qs)))
+      (cond (ltb (length p) b) (went ((a, closed i p) ∷ []) n 0) (pulls b h a n 0 (closed i p) (map some qs)))
+  taken-went k i v a n front p qs l at o e = rw (here-rank k h p l small e, here-del k h p l small e) (go (ltb (length p) b))
     where
+      small : All Small p
+      small = all-left Small p (cat qs []) (o .small)
+
       d : List Record
-      d = del (rankIn key h) (rankOf h k) p
+      d = del rank (rankOf h k) p
 
-      go : (u : Bool) → Went (front ++ (p ∷ qs)) (front ++ cond u (d ∷ qs) (pullBack (rankIn key h) (homeOf key h) 12 a d qs))
-          (cond u (went ((a, d) ∷ []) n 0) (pulls 12 h a n 0 d (map some qs)))
-      go true = one-went front a at p d qs n 0
-      go false = pulls-went front a n 0 at p d qs
+      left : All (There key p) d
+      left = del-all rank (There key p) (rankOf h k) p (there key p)
 
--- what a remove comes to, by what find finds: it leaves the pages qs, or the key is not held
+      go : (u : Bool) → Went (front ++ (p ∷ qs)) (front ++ cond u (d ∷ qs) (pullBack rank (homeOf key h) b a d qs))
+          (strayed key (front ++ (p ∷ qs)) (front ++ cond u (d ∷ qs) (pullBack rank (homeOf key h) b a d qs)))
+          (cond u (went ((a, d) ∷ []) n 0) (pulls b h a n 0 d (map some qs)))
+      go true = one-went front a at p d qs n 0 (omega (arith, strayed-after key front (p ∷ qs) (d ∷ qs), strays-none key p d left, strayed-none key qs))
+      go false =
+          pulls-went front a n 0 _ at p d qs left (o .once)
+          (omega (arith, strayed-after key front (p ∷ qs) (pullBack rank (homeOf key h) b a d qs)))
+
+-- what a remove comes to, by what find finds: it leaves the pages qs and tells as many records as
+-- lie on another page there, or the key is not held
 abbrev pub RemoveGoes : List (List Record) → Option Record → List (List Record) → Walked → Type 0
-RemoveGoes ps (some y) qs w = Went ps qs w
+RemoveGoes ps (some y) qs w = Went ps qs (strayed key ps qs) w
 RemoveGoes ps none qs w = (n : ℕ) × (w ≡ stopped (Absent n))
 
-module _ {h : ℕ → ℕ} {n : ℕ} {ps : List (List Record)} (c : Clean h n ps) (k : ℕ) (l : k < 2 ^ 64) (m : h k ≤ n) where
-  -- where the walk halts at page b, with these pages before it
-  module _ {b : ℕ} (t : Halt h k (h k) b (drop (h k) ps)) where
-    abbrev pub before : List (List Record)
-    before = take (h k) ps ++ t .front
+module _ (h : ℕ → ℕ) (n k : ℕ) (l : k < 2 ^ 64) where
+  -- how a remove goes from page a on, which comes after those in front
+  abbrev Goes : (front qs new : List (List Record)) → Met → Type 0
+  Goes front qs new m = RemoveGoes (front ++ qs) (find (rankIn key h) 12 (rankOf h k) qs) (front ++ new) (removeMet h (areaFrom 0 (front ++ qs)) n m)
 
-    -- they stand before it in the whole file
-    pub whole-file : ps ≡ before ++ (t .last ∷ t .rest)
-    whole-file =
-        sym (take-append-drop (h k) ps)
-        ∙ ap (λ (s : List (List Record)). take (h k) ps ++ s) (t .whole)
-        ∙ sym (append-assoc (take (h k) ps) (t .front) (t .last ∷ t .rest))
+  remove-goes : (front qs : List (List Record)) (a j : ℕ) → length front ≡ a → Clean h n (front ++ qs) → InOrder 12 h qs
+      → Goes front qs (remove (rankIn key h) (homeOf key h) 12 a (rankOf h k) qs) (meets 12 h k a j (map some qs))
+  remove-goes front [] a j at c i = (j, refl)
+  remove-goes front (p ∷ qs) a j at c i =
+      go (heldAt k 0 p) (endsOn (rankIn key h) 12 (rankOf h k) p) refl refl
+      (remove-goes (front ++ (p ∷ [])) qs (suc a) (suc j) (omega (arith, length-append front (p ∷ []))) (rw (append-snoc front p qs) c) (order-next i))
+    where
+      small : All Small p
+      small = all-left Small p (cat qs []) (i .small)
 
-    pub before-length : length before ≡ b
-    before-length = omega (arith, length-append (take (h k) ps) (t .front), length-take-le (h k) ps (omega (arith, c .many)), t .at)
+      new : List (List Record)
+      new = remove (rankIn key h) (homeOf key h) 12 (suc a) (rankOf h k) qs
 
-    pub lies : b < n
-    lies = omega (arith, c .many, before-length, length-append before (t .last ∷ t .rest), ap length whole-file)
+      on : Met
+      on = meets 12 h k (suc a) (suc j) (map some qs)
 
-    halt-keys : All (All Small) (t .front ++ (t .last ∷ t .rest))
-    halt-keys = rw (t .whole) at (small-from c (h k))
+      go : (o : Option (ℕ × ℕ)) (u : Bool) → heldAt k 0 p ≡ o → endsOn (rankIn key h) 12 (rankOf h k) p ≡ u → Goes (front ++ (p ∷ [])) qs new on
+          → Goes front (p ∷ qs) (remove (rankIn key h) (homeOf key h) 12 a (rankOf h k) (p ∷ qs))
+          (onHeld o (λ i v. Found a i (length p) v (suc j)) (cond u (Ends a (ahead (rankIn key h) (rankOf h k) p) (length p) (suc j)) on))
+      go (some w) u e d ih =
+          let t = taken-went 12 h k (w .0) (w .1) a (suc j) front p qs l at i e in
+          rw (here-rank k h p l small e, clean-here front a at p qs c, clean-next front a at p qs c) (rw (here-rank k h p l small e) at t)
+      go none true e d ih = rw (away-rank k h p l small e, d) (suc j, refl)
+      go none false e d ih = rw (away-rank k h p l small e, d) (simp append-snoc at ih)
 
-    pub last-keys : All Small (t .last)
-    last-keys = all-right (All Small) (t .front) (t .last ∷ t .rest) halt-keys .0
-
-    -- remove goes as from this page on
-    pub remove-halt : removeIn key h 12 k ps ≡ before ++ remove (rankIn key h) (homeOf key h) 12 b (rankOf h k) (t .last ∷ t .rest)
-    remove-halt =
-        rw (t .whole, t .at, remove-passed h k (h k) l (t .front) (t .last ∷ t .rest) (all-left (All Small) (t .front) (t .last ∷ t .rest) halt-keys) (t .passed)) (sym (append-assoc (take (h k) ps) (t .front) _))
-
-    -- this page and those after it are read again
-    pub last-read : recordsIn (partAt (areaFrom 0 ps) b) ≡ t .last
-    last-read = clean-part c b lies ∙ ap (λ (s : List (List Record)). page s b) whole-file ∙ getD-at before (t .last) (t .rest) [] b before-length
-
-    pub rest-read : pagesFrom h (areaFrom 0 ps) (n - suc b) (suc b) ≡ map some (t .rest)
-    rest-read =
-        let e : suc b ≡ length before + 1 = omega (arith, before-length) in
-        clean-from c (suc b) lies ∙ ap (λ (s : List (List Record)). map some (drop (suc b) s)) whole-file ∙ rw (e, drop-append-add before)
-
-  -- what a remove comes to where the walk met this: a key that was met is taken out
-  met-goes : (met : Met) → Stops h k (h k) (drop (h k) ps) met → RemoveGoes ps (recordOf k met) (removeIn key h 12 k ps) (removeMet h (areaFrom 0 ps) n met)
-  met-goes (Found b i w v r) s =
-      let t = s .halt in
-      rw (remove-halt t, last-read t, rest-read t)
-      (rw (← whole-file t) at (taken-went h k i v b r (before t) (t .last) (t .rest) l (last-keys t) (before-length t) (s .here)))
-  met-goes (mets.Broken b r) s = absurd s
-  met-goes (Ends b i w r) s = (r, refl)
-  met-goes (mets.AtEnd r) s = (r, refl)
-
--- remove makes of good bytes what the walk on the pages makes
-pub remove-clean : {h : ℕ → ℕ} {n : ℕ} {ps : List (List Record)} → Clean h n ps → (k : ℕ) → k < 2 ^ 64 → h k ≤ n
-    → RemoveGoes ps (findIn key h 12 k ps) (removeIn key h 12 k ps) (removeWalk h (areaFrom 0 ps) n k)
-unfolding removeWalk
-remove-clean {h} {n} {ps} c k l g =
-    let m = walk h (areaFrom 0 ps) n k in
-    let t = walk-stops c k g in
-    rw (find-stops h k l (h k) (drop (h k) ps) m (small-from c (h k)) t) (met-goes c k l g m t)
+  pub remove-clean : {ps : List (List Record)} → Clean h n ps → InOrder 12 h ps → h k ≤ n
+      → RemoveGoes ps (findIn key h 12 k ps) (removeIn key h 12 k ps) (removeWalk h (areaFrom 0 ps) n k)
+  unfolding removeWalk walk
+  remove-clean {ps} c i g =
+      let at : length (take (h k) ps) ≡ h k = length-take-le (h k) ps (omega (arith, c .many)) in
+      rw (clean-from c (h k) g)
+      (rw (take-append-drop (h k) ps) at (remove-goes (take (h k) ps) (drop (h k) ps) (h k) 0 at (rw take-append-drop c) (order-from (h k) ps i)))

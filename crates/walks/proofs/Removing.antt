@@ -8,6 +8,7 @@ use native.Mathlib.Omega.{arith}
 use lib.ListN.{length}
 use borrow.Author.Tests.{lt-ltb, le-ltb}
 use Rattle.placing.specs.Lay.{rankOf, rankIn}
+use Rattle.placing.specs.Walks.{endsOn}
 use Rattle.pages.specs.Page.{Record, key, rises, readPage}
 use Rattle.pages.specs.Places.{ahead}
 use Rattle.pages.specs.Area.{partAt, pagesFrom}
@@ -17,7 +18,7 @@ use Rattle.walks.specs.declared.Met.the-variants.{Found, Ends}
 use Rattle.walks.specs.declared.Met.the-variants as mets
 use Rattle.walks.specs.declared.Plan.{Plan}
 use Rattle.walks.specs.declared.Plan.the-variants.{Go}
-use Rattle.walks.specs.Walks.{heldAt, onHeld, endsOn, meets, walk, removeMet, removeWalk}
+use Rattle.walks.specs.Walks.{heldAt, onHeld, meets, walk, removeMet, removeWalk}
 use Rattle.walks.specs.steps.Plans.{held, drawn, reachedBack, planned, metIn}
 use Rattle.walks.proofs.RemovePlan.{remove-plan}
 
@@ -42,8 +43,8 @@ counted h area (suc c) k a n = go (readPage h a (partAt area a)) refl (counted h
 
     holds : (o : Option (ℕ × ℕ)) (p : List Record) → Good h a (partAt area a) p → CountKnown h area (meets 12 h k (suc a) (suc n) ps)
         → CountKnown h area (onHeld o (λ i v. Found a i (length p) v (suc n))
-        (cond (endsOn 12 h k p) (Ends a (ahead (rankIn key h) (rankOf h k) p) (length p) (suc n)) (meets 12 h k (suc a) (suc n) ps)))
-    holds none p g ih = ends (endsOn 12 h k p) p ih
+        (cond (endsOn (rankIn key h) 12 (rankOf h k) p) (Ends a (ahead (rankIn key h) (rankOf h k) p) (length p) (suc n)) (meets 12 h k (suc a) (suc n) ps)))
+    holds none p g ih = ends (endsOn (rankIn key h) 12 (rankOf h k) p) p ih
     holds (some w) p g ih = (rw (← g .records) (g .rising), ap length (g .records))
 
     go : (o : Option (List Record)) → readPage h a (partAt area a) ≡ o → CountKnown h area (meets 12 h k (suc a) (suc n) ps)

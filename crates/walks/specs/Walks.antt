@@ -2,13 +2,13 @@
 -- is none where it is broken; b is the slots of a page; h is the home of a key; n counts the pages
 -- read.
 use Prim.Native.Nat.{ℕ, suc, _-_}
-use mathlib.Core.Bool.{Bool, cond, _||_}
+use mathlib.Core.Bool.{cond}
 use mathlib.Core.Option.{Option, none, some}
 use mathlib.Core.List.{List, [], _∷_}
 use lib.ListN.{length, take, getD}
 use lib.Dec.{leb, ltb, eqb}
 use Rattle.placing.specs.Lay.{rankOf, rankIn, ins}
-use Rattle.placing.specs.Walks.{lastAfter}
+use Rattle.placing.specs.Walks.{endsOn}
 use Rattle.pages.specs.Page.{Record, key, value, recordsIn}
 use Rattle.pages.specs.Places.{closed, ahead}
 use Rattle.pages.specs.Area.{partAt, pagesFrom, withPage}
@@ -29,10 +29,6 @@ onHeld (some w) found missed = found (w .0) (w .1)
 onHeld none found missed = missed
 
 module _ (b : ℕ) (h : ℕ → ℕ) where
-  -- "a page that isn't full, or whose last record stands after the sought (home, key)"
-  abbrev pub endsOn : ℕ → List Record → Bool
-  endsOn k p = ltb (length p) b || lastAfter (rankIn key h) (rankOf h k) p
-
   -- The walk to a key: "A broken page ends it (4). A page that holds the key ends it with the
   -- value. Otherwise a page that isn't full, or whose last record stands after the sought (home,
   -- key), ends it .. ; so does the end of the area." An ending page is told with the place of the
@@ -43,7 +39,7 @@ module _ (b : ℕ) (h : ℕ → ℕ) where
   meets k a n (some p ∷ ps) =
       let on = meets k (suc a) (suc n) ps in
       onHeld (heldAt k 0 p) (λ i v. Found a i (length p) v (suc n))
-      (cond (endsOn k p) (Ends a (ahead (rankIn key h) (rankOf h k) p) (length p) (suc n)) on)
+      (cond (endsOn (rankIn key h) b (rankOf h k) p) (Ends a (ahead (rankIn key h) (rankOf h k) p) (length p) (suc n)) on)
 
 -- "Find starts at the home.": the walk in an area of cap pages
 unfoldable pub walk : (ℕ → ℕ) → List ℕ → (cap k : ℕ) → Met

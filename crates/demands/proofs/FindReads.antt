@@ -21,10 +21,10 @@ use Rattle.walks.proofs.Clean.{clean-part}
 use Rattle.walks.proofs.FindReads.{JudgesTo, find-judges}
 use Rattle.register.specs.Files.{put, Left, numbersOf}
 use Rattle.register.proofs.OnImage.{on-clean, on-order, home-low}
-use Rattle.register.proofs.ImageCalls.{find-leaves, others, with-new}
+use Rattle.register.proofs.ImageCalls.{find-leaves, others}
 use Rattle.demands.specs.Histories.{Kept, stateOf, commitOf, holding}
 use Rattle.demands.specs.ReadMoved.{HeldOn, readTo}
-use Rattle.demands.proofs.Sets.{seek-some, seek-none}
+use Rattle.demands.proofs.Sets.{seek-some, set-put}
 use Rattle.demands.proofs.Standing.{Stands, fileOf, Accepts, misses}
 
 module _ {m : Kept} {ps : List (List Record)} (s : Stands m ps) where
@@ -62,7 +62,7 @@ module _ {m : Kept} {ps : List (List Record)} (s : Stands m ps) where
 
 module _ {m : Kept} {ps : List (List Record)} (s : Stands m ps) (x : Record) (l : key x < 2 ^ 64) (e : commitOf (key x) (m .held) ≡ none) (a : Accepts m (holding m (x ∷ m .held)) ps (put x) 0 []) where
   new : RecordSet key (x ∷ m .held)
-  new = with-new s x l (seek-none (key x) (m .held) e)
+  new = set-put x (s .set) l e
 
   -- nothing comes past the end where a put is accepted
   fits : putIn key (homes (stateOf m)) 12 x ps .1 ≡ []

@@ -130,7 +130,7 @@ module _ {s : State} {rs : List Record} {ps : List (List Record)} (w : OnImage s
         (t .0, put-stopped x (again (value x) (value y) (t .0)) (t .1))
 
     module _ (e : seek key (key x) rs ≡ none) where
-      pub with-new : RecordSet key (x ∷ rs)
+      with-new : RecordSet key (x ∷ rs)
       with-new = record { keys = (l, w .set .keys); once = (seek-ne key (key x) rs e, w .set .once) }
 
       abbrev new : List (List Record)

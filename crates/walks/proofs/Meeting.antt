@@ -1,10 +1,10 @@
 -- The walk to a key: what is known of a page that was judged, its slots one by one, and each way
 -- out.
-use mathlib.Core.Path.{_≡_, refl, sym, ap, _∙_}
+use mathlib.Core.Path.{_≡_, refl, sym, ap, subst, _∙_}
 use mathlib.Core.Bool.{Bool, true, false, cond, _||_}
 use mathlib.Core.Option.{Option, none, some}
 use mathlib.Core.List.{List, _∷_}
-use Prim.Native.Nat.{ℕ, suc, _+_, _*_, _-_, _^_, _≤_, _<_}
+use Prim.Native.Nat.{ℕ, zero, suc, _+_, _*_, _-_, _^_, _≤_, _<_}
 use native.Mathlib.Numerals.{add-one}
 use native.Mathlib.Omega.{arith}
 use borrow.Author.Tests.{ltb-true, ltb-false, lt-ltb, le-ltb}
@@ -32,6 +32,7 @@ use Rattle.walks.specs.declared.Met.{Met}
 use Rattle.walks.specs.declared.Met.the-variants.{Found, Ends}
 use Rattle.walks.specs.declared.Met.the-variants as mets
 use Rattle.walks.specs.Walks.{heldAt, onHeld, meets, walk}
+use Rattle.walks.specs.steps.Plans.{held}
 use Rattle.walks.proofs.Holds.{away}
 use Rattle.walks.proofs.Scanning.{differ, records-count, After, ToScan, left-away, left-place, Rows}
 
@@ -153,3 +154,39 @@ module _ {h : ℕ → ℕ} {area : List ℕ} {cap a : ℕ} {j : Judged} (seen : 
       -- else it goes on
       pub walk-on : 12 ≤ at → walkLeft h area cap k (a + 1) (n + 1) ≡ walkLeft h area cap k a n
       walk-on l = sym (at-page ∙ rw (left-away h k w f, ends, le-ltb at 12 l))
+
+-- a page that is good, and counted
+pub record Counted (h : ℕ → ℕ) (area : List ℕ) (a c : ℕ) : Type 0 where
+  pub read : readPage h a (partAt area a) ≡ some (held area a)
+  pub count : c ≡ length (held area a)
+
+module _ (h : ℕ → ℕ) (area : List ℕ) (k : ℕ) where
+  -- so is the page where a walk ends, and it tells the key's place there
+  abbrev pub Known : Met → Type 0
+  Known (Found a i c v n) = Counted h area a c
+  Known (mets.Broken a n) = Unit {0}
+  Known (Ends a i c n) = Counted h area a c × (i ≡ ahead (rankIn key h) (rankOf h k) (held area a))
+  Known (mets.AtEnd n) = Unit {0}
+
+  meets-known : (m a n : ℕ) → Known (meets 12 h k a n (pagesFrom h area m a))
+  meets-known zero a n = tt
+  meets-known (suc m) a n = go (readPage h a (partAt area a)) refl (meets-known m (suc a) (suc n))
+    where
+      on : Met
+      on = meets 12 h k (suc a) (suc n) (pagesFrom h area m (suc a))
+
+      good : (p : List Record) → Counted h area a (length p) → p ≡ held area a → (o : Option (ℕ × ℕ)) (u : Bool) → Known on
+          → Known (onHeld o (λ i v. Found a i (length p) v (suc n)) (cond u (Ends a (ahead (rankIn key h) (rankOf h k) p) (length p) (suc n)) on))
+      good p w e (some s) u t = w
+      good p w e none true t = (w, ap (ahead (rankIn key h) (rankOf h k)) e)
+      good p w e none false t = t
+
+      go : (o : Option (List Record)) → readPage h a (partAt area a) ≡ o → Known on → Known (meets 12 h k a n (o ∷ pagesFrom h area m (suc a)))
+      go none e t = tt
+      go (some p) e t =
+          let s : p ≡ held area a = read-good h a (partAt area a) p e .records in
+          good p (record { read = rw s at e; count = ap length s }) s (heldAt k 0 p) (endsOn (rankIn key h) 12 (rankOf h k) p) t
+
+  pub walk-known : (cap : ℕ) {m : Met} (e : Met) → m ≡ walk h area cap k → m ≡ e → Known e
+  unfolding walk
+  walk-known cap e is q = subst Known (sym is ∙ q) (meets-known (cap - h k) (h k) 0)

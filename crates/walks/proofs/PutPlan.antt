@@ -11,12 +11,10 @@ use borrow.Author.Tests.{ltb-true, lt-ltb, le-ltb}
 use lib.Dec.{ltb}
 use lib.ListN.{length, take, getD}
 use lib.Seq.{take-all}
-use Rattle.placing.specs.Lay.{rankOf, rankIn, ins}
-use Rattle.placing.specs.Walks.{endsOn}
+use Rattle.placing.specs.Lay.{rankIn, ins}
 use Rattle.placing.proofs.Order.{ins-length}
 use Rattle.pages.specs.declared.Judged.{Judged}
 use Rattle.pages.specs.Page.{Record, key, value, readPage}
-use Rattle.pages.specs.Places.{ahead}
 use Rattle.pages.specs.Area.{partAt, pagesFrom}
 use Rattle.pages.proofs.RoundTrip.{read-good}
 use Rattle.state.specs.declared.Answer.the-variants.{Broken, NoRoom}
@@ -26,10 +24,10 @@ use Rattle.walks.specs.declared.Met.the-variants.{Found, Ends}
 use Rattle.walks.specs.declared.Met.the-variants as mets
 use Rattle.walks.specs.declared.Plan.{Plan}
 use Rattle.walks.specs.declared.Plan.the-variants.{Go, Stop}
-use Rattle.walks.specs.Walks.{Pages, went, stopped, andPage, heldAt, onHeld, meets, walk, carry, putMet, putWalk}
+use Rattle.walks.specs.Walks.{Pages, went, stopped, andPage, walk, carry, putMet, putWalk}
 use Rattle.walks.specs.steps.Plans.{held, poured, reached, planned, placedIn}
 use Rattle.walks.proofs.Scanning.{records-count}
-use Rattle.walks.proofs.Meeting.{Seen, pages-next, page-broken, page-read}
+use Rattle.walks.proofs.Meeting.{Seen, pages-next, page-broken, page-read, Known, walk-known}
 
 -- what is left of the way to the first page with room, from page a on, where n pages were read
 abbrev pub reachLeft : (ℕ → ℕ) → List ℕ → (cap f at a n : ℕ) → Plan
@@ -139,42 +137,6 @@ module _ (h : ℕ → ℕ) (area : List ℕ) (x : Record) where
   abbrev k : ℕ
   k = key x
 
-  -- page a is good and has c records, and the key's place there is i
-  pub record EndsAt (a i c : ℕ) : Type 0 where
-    pub read : readPage h a (partAt area a) ≡ some (held area a)
-    pub count : c ≡ length (held area a)
-    pub place : i ≡ ahead (rankIn key h) (rankOf h k) (held area a)
-
-  -- a walk that ends on a page does so at the key's place there
-  meets-ends : (m b r a i c n : ℕ) → meets 12 h k b r (pagesFrom h area m b) ≡ Ends a i c n → EndsAt a i c
-  meets-ends zero b r a i c n e = absurd (let z : _≡_ {A = ℕ} 0 1 = cc in omega arith)
-  meets-ends (suc m) b r a i c n e = go (readPage h b (partAt area b)) refl e (meets-ends m (suc b) (suc r) a i c n)
-    where
-      ps : List (Option (List Record))
-      ps = pagesFrom h area m (suc b)
-
-      here : (p : List Record) → readPage h b (partAt area b) ≡ some p
-          → Ends b (ahead (rankIn key h) (rankOf h k) p) (length p) (suc r) ≡ Ends a i c n → EndsAt a i c
-      here p q e =
-          let s : p ≡ held area b = read-good h b (partAt area b) p q .records in
-          let t : b ≡ a = cc in
-          let u : ahead (rankIn key h) (rankOf h k) p ≡ i = cc in
-          let w : length p ≡ c = cc in
-          rw (← t) (record { read = rw s at q; count = rw s at (sym w); place = rw s at (sym u) })
-
-      good : (p : List Record) → readPage h b (partAt area b) ≡ some p → (o : Option (ℕ × ℕ)) (u : Bool)
-          → onHeld o (λ j v. Found b j (length p) v (suc r))
-          (cond u (Ends b (ahead (rankIn key h) (rankOf h k) p) (length p) (suc r)) (meets 12 h k (suc b) (suc r) ps)) ≡ Ends a i c n
-          → (meets 12 h k (suc b) (suc r) ps ≡ Ends a i c n → EndsAt a i c) → EndsAt a i c
-      good p q (some w) u e ih = absurd (let z : _≡_ {A = ℕ} 0 1 = cc in omega arith)
-      good p q none true e ih = here p q e
-      good p q none false e ih = ih e
-
-      go : (o : Option (List Record)) → readPage h b (partAt area b) ≡ o → meets 12 h k b r (o ∷ ps) ≡ Ends a i c n
-          → (meets 12 h k (suc b) (suc r) ps ≡ Ends a i c n → EndsAt a i c) → EndsAt a i c
-      go none q e ih = absurd (let z : _≡_ {A = ℕ} 0 1 = cc in omega arith)
-      go (some p) q e ih = good p q (heldAt k 0 p) (endsOn (rankIn key h) 12 (rankOf h k) p) e ih
-
   -- each page that a put meets, and what it then does
   module _ (cap : ℕ) (m : Met) (is : m ≡ walk h area cap k) where
     put-met : (met : Met) → m ≡ met → putMet h area cap x met ≡ putWalk h area cap x
@@ -191,15 +153,15 @@ module _ (h : ℕ → ℕ) (area : List ℕ) (x : Record) where
     put-past n e = put-met (mets.AtEnd n) e
 
     module _ (a i c n : ℕ) (e : m ≡ Ends a i c n) where
-      pub put-at : EndsAt a i c
-      unfolding walk
-      put-at = meets-ends (cap - h k) (h k) 0 a i c n (sym is ∙ e)
+      -- what is known of the ending page
+      pub put-at : Known h area k (Ends a i c n)
+      put-at = walk-known h area k cap (Ends a i c n) is e
 
       put-ends : a < cap → 1 ≤ n
           → planned (λ n a i. poured h area (suc n) a x) (cond (ltb c 12) (Go a i a n) (reachLeft h area cap a i (suc a) n)) ≡ putWalk h area cap x
       put-ends l s =
-          let w : c ≡ length (held area a) = put-at .count in
-          rw w (put-planned h area a i cap n x (held area a) l s (put-at .read)) ∙ put-met (Ends a i c n) e
+          let w : c ≡ length (held area a) = put-at .0 .count in
+          rw w (put-planned h area a i cap n x (held area a) l s (put-at .0 .read)) ∙ put-met (Ends a i c n) e
 
       -- with room the ending page is the last
       pub put-here : a < cap → 1 ≤ n → c < 12 → planned (λ n a i. poured h area (suc n) a x) (Go a i a n) ≡ putWalk h area cap x
@@ -211,7 +173,7 @@ module _ (h : ℕ → ℕ) (area : List ℕ) (x : Record) where
       put-on l s t p q = rw q (rw (le-ltb c 12 t) at (put-ends l s))
 
       placed : (b : ℕ) (p : Plan) → LastFrom a i b p → placedIn h area k p
-      placed b (Go f at last read) l = l .1 ∙ put-at .place ∙ rw (l .0)
+      placed b (Go f at last read) l = l .1 ∙ put-at .1 ∙ rw (l .0)
       placed b (Stop why) l = tt
 
       -- with the key's place on the first page of the plan

@@ -18,6 +18,7 @@ use Rattle.demands.specs.Demands.{Fresh, Tells, Row, Found, PutTold, Ret
 use Rattle.demands.specs.Refusals.{OneOf}
 use Rattle.demands.specs.ReadMoved.{ReadHeld, ReadAbsent, ReadWithin, Moved}
 use Rattle.demands.proofs.InOrder.{none-of}
+use Rattle.walks.proofs.Clean.{clean-pass}
 use Rattle.register.proofs.OnImage.{on-clean}
 use Rattle.register.proofs.GrownImage.{check-yes, grow-no-room, grow-with-room}
 use Rattle.demands.proofs.Sets.{set-put, same-records}
@@ -120,7 +121,7 @@ module _ (m : Kept) (ps : List (List Record)) (s : Stands m ps) where
       go c (said u k e) = (λ z. omega (arith, number e), λ z. omega (arith, number e))
 
   image-stands : TheImage m f
-  image-stands = record { set = s .set; image = record { pages = ps; bytes = refl; pass = on-clean s .pass; image = s .image } }
+  image-stands = record { set = s .set; image = record { pages = ps; bytes = refl; pass = clean-pass (on-clean s); image = s .image } }
 
   room-put-stands : RoomPut m f
   room-put-stands x fits e =

@@ -34,7 +34,7 @@ use Rattle.register.specs.Files.{grow, check, fileOf, ofGrowth, left}
 use Rattle.gates.proofs.Gating.{row-shut, cap-shut, pages-decide}
 use Rattle.gates.proofs.Judging.{good-open}
 use Rattle.register.proofs.CheckImage.{image-good}
-use Rattle.walks.proofs.Clean.{clean-held}
+use Rattle.walks.proofs.Clean.{clean-pass, clean-held}
 use Rattle.register.proofs.OnImage.{OnImage, on-clean, on-length, on-gate, Refused, Accepts}
 
 -- the pages and the row at one page more
@@ -57,7 +57,7 @@ module _ {s : State} {rs : List Record} {ps : List (List Record)} (w : OnImage s
         records = rs;
         set = w .set;
         count = w .count;
-        is = record { pages = ps; bytes = refl; pass = on-clean w .pass; image = w .image };
+        is = record { pages = ps; bytes = refl; pass = clean-pass (on-clean w); image = w .image };
       }))
 
   -- so check says yes

@@ -24,7 +24,7 @@ use Rattle.walks.proofs.Holds.{Small}
 -- n pages that are read back from their bytes
 pub record Clean (h : ℕ → ℕ) (n : ℕ) (ps : List (List Record)) : Type 0 where
   pub many : length ps ≡ n
-  pub pass : pagesFrom h (areaFrom 0 ps) n 0 ≡ map some ps
+  pub each : (a : ℕ) → a < n → readPage h a (partAt (areaFrom 0 ps) a) ≡ some (page ps a)
 
 -- what is read page by page is what stands there
 pub read-held : (h : ℕ → ℕ) (area : List ℕ) (n a : ℕ) (ps : List (List Record)) → pagesFrom h area n a ≡ map some ps → heldFrom area n a ≡ ps
@@ -37,28 +37,23 @@ read-held h area (suc n) a (p ∷ ps) e =
     rw (← read-good h a (partAt area a) p here .records, read-held h area n (suc a) ps rest)
 
 module _ {h : ℕ → ℕ} {n : ℕ} {ps : List (List Record)} (c : Clean h n ps) where
-  -- the pages stand where they are read
-  pub clean-held : heldFrom (areaFrom 0 ps) n 0 ≡ ps
-  clean-held = read-held h (areaFrom 0 ps) n 0 ps (c .pass)
+  reads : (k a : ℕ) → a + k ≡ n → pagesFrom h (areaFrom 0 ps) k a ≡ map some (drop a ps)
+  reads zero a e = rw (drop-of-length-le ps {i = a} (omega (arith, c .many)))
+  reads (suc k) a e = rw (c .each a (omega arith), reads k (suc a) (omega arith), drop-cons ps a [] (omega (arith, c .many)))
 
-  -- page a and those after it, where they are read
-  cut : (a : ℕ) → a < n → pagesFrom h (areaFrom 0 ps) (n - a) a ≡ map some (drop a ps)
-      → pagesFrom h (areaFrom 0 ps) (suc (n - suc a)) a ≡ map some (page ps a ∷ drop (suc a) ps)
-  cut a l e =
-      let m : n - a ≡ suc (n - suc a) = omega arith in
-      rw (m, drop-cons ps a [] (omega (arith, c .many))) at e
+  -- all of them are read back, and those from any page on
+  pub clean-pass : pagesFrom h (areaFrom 0 ps) n 0 ≡ map some ps
+  clean-pass = reads n 0 (omega arith)
 
-  -- from any page on they are read back
   pub clean-from : (a : ℕ) → a ≤ n → pagesFrom h (areaFrom 0 ps) (n - a) a ≡ map some (drop a ps)
-  clean-from zero l = let m : n - 0 ≡ n = omega arith in rw m (c .pass)
-  clean-from (suc a) l = let t = cut a l (clean-from a (omega arith)) in cc
+  clean-from a l = reads (n - a) a (omega arith)
 
-  -- each stands at its address
+  -- they stand where they are read, each at its address
+  pub clean-held : heldFrom (areaFrom 0 ps) n 0 ≡ ps
+  clean-held = read-held h (areaFrom 0 ps) n 0 ps clean-pass
+
   pub clean-part : (a : ℕ) → a < n → recordsIn (partAt (areaFrom 0 ps) a) ≡ page ps a
-  clean-part a l =
-      let t = cut a l (clean-from a (omega arith)) in
-      let here : readPage h a (partAt (areaFrom 0 ps) a) ≡ some (page ps a) = cc in
-      sym (read-good h a (partAt (areaFrom 0 ps) a) (page ps a) here .records)
+  clean-part a l = sym (read-good h a (partAt (areaFrom 0 ps) a) (page ps a) (c .each a l) .records)
 
 -- and those after some in front
 module _ {h : ℕ → ℕ} {n : ℕ} (front : List (List Record)) (a : ℕ) (at : length front ≡ a) where
@@ -74,12 +69,6 @@ module _ {h : ℕ → ℕ} {n : ℕ} (front : List (List Record)) (a : ℕ) (at 
         let m : n - a ≡ suc (n - suc a) = omega (arith, c .many, length-append front (p ∷ qs)) in
         let t = rw m at (clean-after (p ∷ qs) c) in
         cc
-
--- pages that are read back one by one are read back
-each-read : (h : ℕ → ℕ) (area : List ℕ) (n : ℕ) (ps : List (List Record)) → length ps ≡ n → ((a : ℕ) → a < n → readPage h a (partAt area a) ≡ some (page ps a))
-    → (k a : ℕ) → a + k ≡ n → pagesFrom h area k a ≡ map some (drop a ps)
-each-read h area n ps m f zero a e = rw (drop-of-length-le ps {i = a} (omega arith))
-each-read h area n ps m f (suc k) a e = rw (f a (omega arith), each-read h area n ps m f k (suc a) (omega arith), drop-cons ps a [] (omega arith))
 
 -- each page of sorted ones is sorted
 sorted-page : (rank : Record → ℕ) (ps : List (List Record)) (a : ℕ) → Sorted rank (cat ps []) → Sorted rank (page ps a)
@@ -127,17 +116,14 @@ module _ {h : ℕ → ℕ} {n : ℕ} {s : List Record} {ps : List (List Record)}
       }
 
   pub image-clean : n ≤ 4096 → All (λ x. value x < 2 ^ 64) s → Image key h 12 n s ps → Clean h n ps
-  image-clean l v i = record { many = m; pass = each-read h (areaFrom 0 ps) n ps m read n 0 (omega arith) }
+  image-clean l v i = record { many = i .arranged .many; each = read }
     where
-      m : length ps ≡ n
-      m = i .arranged .many
-
       both : All Formed (cat ps [])
       both = perm-all Formed (Permᴰ·symm (i .arranged .holds)) (all-map₂ Small (λ x. value x < 2 ^ 64) Formed (λ x k w. (k, w)) s (f .keys) v)
 
       read : (a : ℕ) → a < n → readPage h a (partAt (areaFrom 0 ps) a) ≡ some (page ps a)
       read a k =
-          rw (part-area a ps (omega (arith, m)))
+          rw (part-area a ps (omega (arith, i .arranged .many)))
           (bytes-read a (page ps a) (i .arranged .slots a) (all-page Formed ps a both) h (omega arith)
           (all-homes h a (page ps a) (i .arranged .lies a))
           (sorted-rises h (page ps a) (sorted-page (rankIn key h) ps a (image-order i .sorted))))

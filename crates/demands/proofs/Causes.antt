@@ -35,7 +35,7 @@ use Rattle.gates.proofs.Gating.{range-shut, area-shut, gate-open, row-shut, cap
 use Rattle.gates.proofs.Judging.{good-open}
 use Rattle.register.proofs.CheckImage.{image-good, check-image}
 use Rattle.demands.specs.Refusals.{RightArea, SomeBroken, LowestBroken}
-use Rattle.demands.proofs.Clean.{read-held}
+use Rattle.walks.proofs.Clean.{read-held}
 
 -- what every call that has a gate finds first
 pub data Enters (s : State) (area : List ℕ) : Type 0 where

@@ -18,11 +18,13 @@ use Rattle.demands.specs.Demands.{Fresh, Tells, Row, Found, PutTold, Ret
 use Rattle.demands.specs.Refusals.{OneOf}
 use Rattle.demands.specs.ReadMoved.{ReadHeld, ReadAbsent, ReadWithin, Moved}
 use Rattle.demands.proofs.InOrder.{none-of}
-use Rattle.demands.proofs.OnImage.{on-clean}
+use Rattle.walks.proofs.Clean.{clean-pass}
+use Rattle.register.proofs.OnImage.{on-clean}
+use Rattle.register.proofs.GrownImage.{check-yes, grow-no-room, grow-with-room}
 use Rattle.demands.proofs.Sets.{set-put, same-records}
 use Rattle.demands.proofs.Standing.{Stands, fileOf, find-held, find-absent, remove-absent, remove-held, put-full, put-new}
 use Rattle.demands.proofs.Unchanged.{total}
-use Rattle.demands.proofs.Steps.{Step, refused, accepted, said, plain-number, Puts, repeats, clashes, turned-away, joined, Grows, other-row, at-cap, crowded, larger, room-told, grow-no-room, grow-with-room, put-comes, grow-comes, check-stands, due-stands, step, history}
+use Rattle.demands.proofs.Steps.{Step, refused, accepted, said, plain-number, Puts, repeats, clashes, turned-away, joined, Grows, other-row, at-cap, crowded, larger, room-told, put-comes, grow-comes, due-stands, step, history}
 use Rattle.demands.proofs.ReadMoved.{read-held-stands, read-absent-stands, read-within-stands, moved-stands}
 
 -- after a fresh history the file is the image of what is kept
@@ -109,7 +111,7 @@ module _ (m : Kept) (ps : List (List Record)) (s : Stands m ps) where
           ((λ z. absurd (omega arith), λ q. absurd (q e)), (λ z. e, λ z. n))
 
   sound-stands : Sound m f
-  sound-stands = (λ c fits. go c (step s c fits), number (check-stands s .left))
+  sound-stands = (λ c fits. go c (step s c fits), number (check-yes s .left))
     where
       go : (c : Call) → Step m ps c → (refusal f c ≡ 4 → ⊥) × (refusal f c ≡ 9 → ⊥)
       go c (refused why row p e) =
@@ -119,7 +121,7 @@ module _ (m : Kept) (ps : List (List Record)) (s : Stands m ps) where
       go c (said u k e) = (λ z. omega (arith, number e), λ z. omega (arith, number e))
 
   image-stands : TheImage m f
-  image-stands = record { set = s .set; image = record { pages = ps; bytes = refl; pass = on-clean s .pass; image = s .image } }
+  image-stands = record { set = s .set; image = record { pages = ps; bytes = refl; pass = clean-pass (on-clean s); image = s .image } }
 
   room-put-stands : RoomPut m f
   room-put-stands x fits e =

@@ -1,12 +1,3 @@
-pub mod Clean
-pub mod OnImage
-pub mod Stops
-pub mod Went
-pub mod FindWalk
-pub mod PutWalk
-pub mod RemoveWalk
-pub mod Moves
-pub mod GrownImage
 pub mod Sets
 pub mod Standing
 pub mod Unchanged

@@ -5,31 +5,14 @@ use Prim.Native.Nat.{_+_}
 use native.Mathlib.Omega.{arith}
 use Rattle.placing.proofs.Strays.{strayed-none}
 use Rattle.pages.specs.Page.{Record, key}
-use Rattle.state.specs.declared.Answer.{Answer}
-use Rattle.state.specs.declared.Answer.the-variants.{Accepted, OutOfRange, WrongArea, WrongRow, Broken, Absent, Held, NoRoom, AtCap, NotImage, Clash}
-use Rattle.state.specs.Answer.{numbers}
 use Rattle.register.specs.Files.{Call, format, find, put, remove, grow, check, due, Left, left, numbersOf}
 use Rattle.demands.specs.Histories.{Kept}
 use Rattle.demands.specs.ReadMoved.{moved, readTo, ReadHeld, ReadAbsent, ReadWithin, pagesOf, differ, Moved}
-use Rattle.demands.proofs.Clean.{clean-held}
-use Rattle.demands.proofs.OnImage.{on-clean}
+use Rattle.walks.proofs.Clean.{clean-held}
+use Rattle.register.proofs.OnImage.{on-clean}
 use Rattle.demands.proofs.Standing.{Stands, fileOf}
 use Rattle.demands.proofs.FindReads.{read-held, read-within, read-new}
-use Rattle.demands.proofs.Steps.{Plain, Step, refused, accepted, said, Puts, repeats, clashes, turned-away, joined, put-comes, step}
-
--- no refusal moves a record
-plain-moved : (why : Answer) → Plain why → numbers why .moved ≡ 0
-plain-moved (Accepted value read moved) p = absurd p
-plain-moved OutOfRange p = refl
-plain-moved WrongArea p = refl
-plain-moved WrongRow p = refl
-plain-moved (Broken page read) p = refl
-plain-moved (Absent read) p = refl
-plain-moved (Held value read) p = refl
-plain-moved (NoRoom read) p = refl
-plain-moved AtCap p = refl
-plain-moved (NotImage read) p = refl
-plain-moved (Clash value read) p = refl
+use Rattle.demands.proofs.Steps.{Step, refused, accepted, said, Puts, repeats, clashes, turned-away, joined, put-comes, step}
 
 -- where nothing was written nothing differs
 none-differ : (c : Call) (ps : List (List Record)) → differ c ps ps ≡ 0
@@ -69,6 +52,6 @@ module _ (m : Kept) (ps : List (List Record)) (s : Stands m ps) where
       told e t = rw (clean-held (on-clean s)) (subst (λ (o : Left). numbersOf (o .said) .moved ≡ differ c ps (pagesOf (o .file))) (sym e) t)
 
       go : Step m ps c → moved (fileOf m ps) c ≡ differ c (pagesOf (fileOf m ps)) (pagesOf (left (fileOf m ps) c .file))
-      go (refused why row p e) = told e (rw (clean-held (on-clean s)) (plain-moved why p ∙ sym (none-differ c ps)))
+      go (refused why row p e) = told e (rw (clean-held (on-clean s)) (p .1 ∙ sym (none-differ c ps)))
       go (accepted new v row k a) = told (a .left) (rw (clean-held (on-clean (a .stands))) (a .moves))
       go (said u k e) = told e (rw (clean-held (on-clean s)) (sym (none-differ c ps)))

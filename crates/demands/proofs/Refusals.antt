@@ -5,16 +5,13 @@ use mathlib.Core.Logic.{_↔_, inl}
 use mathlib.Core.List.{[], _∷_}
 use Prim.Native.Nat.{ℕ, _*_, _<_}
 use native.Mathlib.Omega.{arith}
-use lib.Dec.{ltb}
-use borrow.Author.Tests.{ltb-true, lt-ltb}
 use Rattle.state.specs.Promises.{Ranged}
 use Rattle.state.proofs.Promises.{state-promises}
 use Rattle.numbers.specs.Little.{Bytes}
-use Rattle.numbers.proofs.Records.{and-left, and-right}
 use Rattle.state.specs.declared.Answer.{Answer}
 use Rattle.state.specs.declared.Answer.the-variants.{Accepted, OutOfRange, WrongArea, WrongRow, Broken, Absent, Held, NoRoom, AtCap, NotImage, Clash}
 use Rattle.state.specs.Answer.{told, numbers}
-use Rattle.state.specs.State.{inRange, isDue}
+use Rattle.state.specs.State.{isDue}
 use Rattle.register.specs.Files.{Call, format, find, put, remove, grow, check, due, File, Said, answers, says, left, numbersOf}
 use Rattle.demands.specs.Refusals.{order, tells, Plain, Refusals}
 use Rattle.demands.proofs.InOrder.{ranks, differ, listed, one-of, none-of, in-order}

@@ -73,7 +73,7 @@ module _ (f : File) (x : Record) where
   met (Found a i c v n) = held v n (ℕ-discrete (value x) v)
   met (mets.Broken a n) = away _ _ refl refl
   met (Ends a i c n) =
-      neither (carried (eqb (s .r) (12 * s .cap)) (carry (homes s) a (n - 1) 0 x (pagesFrom (homes s) area (s .cap - a) a)) (carry-stops f (s .cap - a) a (n - 1) 0 x (omega arith)))
+      neither (carried (eqb (s .r) (12 * s .cap)) (carry 12 (homes s) a (n - 1) 0 x (pagesFrom (homes s) area (s .cap - a) a)) (carry-stops f (s .cap - a) a (n - 1) 0 x (omega arith)))
       (λ e. omega arith)
   met (mets.AtEnd n) = away _ _ refl refl
 

@@ -1,6 +1,7 @@
 -- What any call comes to on a file that stands, and so what every file after a fresh history is.
 use mathlib.Core.Path.{_≡_, refl}
 use mathlib.Core.Bool.{Bool, true, false, cond}
+use mathlib.Core.Logic.{inl, inr}
 use mathlib.Core.Option.{Option, none, some}
 use mathlib.Core.List.{List, [], _∷_}
 use Prim.Native.Nat.{ℕ, _*_, _^_, _<_}
@@ -16,46 +17,28 @@ use Rattle.placing.proofs.Images.{room-taken}
 use Rattle.pages.specs.Page.{Record, key, value, homeFor}
 use Rattle.pages.specs.Area.{areaFrom}
 use Rattle.state.specs.declared.Answer.{Answer}
-use Rattle.state.specs.declared.Answer.the-variants.{Accepted, OutOfRange, WrongArea, WrongRow, Broken, Absent, Held, NoRoom, AtCap, NotImage, Clash}
+use Rattle.state.specs.declared.Answer.the-variants.{Accepted, OutOfRange, WrongArea, WrongRow, Absent, Held, NoRoom, AtCap, Clash}
 use Rattle.state.specs.State.{homes, grown}
 use Rattle.state.specs.Answer.{numbers, again}
-use Rattle.state.proofs.Ranges.{ranged, grown-range}
+use Rattle.state.proofs.Ranges.{ranged}
 use Rattle.state.proofs.Answers.{again-same, again-other}
 use Rattle.changes.specs.Changes.{done}
-use Rattle.register.specs.Calls.{Growth, grew}
-use Rattle.register.specs.Files.{Call, format, find, put, remove, grow, check, due, File, says, Left, leaves, ofGrowth, left, numbersOf, after}
+use Rattle.register.specs.Files.{Call, format, find, put, remove, grow, check, due, File, says, Left, leaves, left, numbersOf, after}
 use Rattle.demands.specs.Histories.{Fits, refusal, Kept, stateOf, without, commitOf, begun, holding, paged, makes, kept}
-use Rattle.demands.proofs.GrownImage.{grownPages, grownRow, accepts, refuses, check-yes, grow-refused-row, grow-at-cap, grow-room, grow-full, grown-image}
+use Rattle.register.proofs.GrownImage.{grownRow, check-yes, grow-other-row, grow-no-page, grow-no-room, grow-with-room}
 use Rattle.demands.proofs.Standing.{Stands, fileOf, Refused, Accepts, find-held, find-absent, remove-absent, remove-held, put-held, put-full, put-new}
+use Rattle.demands.proofs.InOrder.{listed, none-of}
 use Rattle.demands.proofs.Sets.{set-put}
 use Rattle.demands.proofs.Fresh.{Begins, began, outside, elsewhere, format-begins}
 
--- the refusals that a file which stands can meet: all but 4 and 9
+-- the refusals that a file which stands can meet: all but 4 and 9; they move no record
 abbrev pub Plain : Answer → Type 0
-Plain (Accepted value read moved) = ⊥
-Plain OutOfRange = Unit {0}
-Plain WrongArea = Unit {0}
-Plain WrongRow = Unit {0}
-Plain (Broken page read) = ⊥
-Plain (Absent read) = Unit {0}
-Plain (Held value read) = Unit {0}
-Plain (NoRoom read) = Unit {0}
-Plain AtCap = Unit {0}
-Plain (NotImage read) = ⊥
-Plain (Clash value read) = Unit {0}
+Plain why = (listed (numbers why .refusal) (0 ∷ 4 ∷ 9 ∷ []) ≡ false) × (numbers why .moved ≡ 0)
 
 pub plain-number : (why : Answer) → Plain why → (numbers why .refusal ≡ 0 → ⊥) × (numbers why .refusal ≡ 4 → ⊥) × (numbers why .refusal ≡ 9 → ⊥)
-plain-number (Accepted value read moved) p = absurd p
-plain-number OutOfRange p = (λ e. omega arith, λ e. omega arith, λ e. omega arith)
-plain-number WrongArea p = (λ e. omega arith, λ e. omega arith, λ e. omega arith)
-plain-number WrongRow p = (λ e. omega arith, λ e. omega arith, λ e. omega arith)
-plain-number (Broken page read) p = absurd p
-plain-number (Absent read) p = (λ e. omega arith, λ e. omega arith, λ e. omega arith)
-plain-number (Held value read) p = (λ e. omega arith, λ e. omega arith, λ e. omega arith)
-plain-number (NoRoom read) p = (λ e. omega arith, λ e. omega arith, λ e. omega arith)
-plain-number AtCap p = (λ e. omega arith, λ e. omega arith, λ e. omega arith)
-plain-number (NotImage read) p = absurd p
-plain-number (Clash value read) p = (λ e. omega arith, λ e. omega arith, λ e. omega arith)
+plain-number why p =
+    let n = none-of (numbers why .refusal) (0 ∷ 4 ∷ 9 ∷ []) (p .0) in
+    (λ e. n (inl e), λ e. n (inr (inl e)), λ e. n (inr (inr (inl e))))
 
 -- what a call comes to on a file that stands
 pub data Step (m : Kept) (ps : List (List Record)) (c : Call) : Type 0 where
@@ -87,36 +70,6 @@ room-told h n rs f = go (ℕ-discrete (taken (homeFor h) 12 rs n) (length rs))
     go (no e) = no (λ r. e (room-taken key h 12 n rs f .0 r))
 
 module _ {m : Kept} {ps : List (List Record)} (s : Stands m ps) where
-  grow-leaves : (row : List ℕ) (g : Growth) → grew (stateOf m) (areaFrom 0 ps) row ≡ g → left (fileOf m ps) (grow row) ≡ ofGrowth g
-  unfolding left
-  grow-leaves row g e = rw e
-
-  -- a row of another length, and no page to grow to
-  grow-other-row : (row : List ℕ) → (length row ≡ m .cap → ⊥) → Refused m ps (grow row) WrongRow row
-  grow-other-row row f = grow-leaves row (refuses (stateOf m) ps row WrongRow) (grow-refused-row s row f)
-
-  grow-no-page : (row : List ℕ) → length row ≡ m .cap → m .p ≡ m .cap → Refused m ps (grow row) AtCap row
-  grow-no-page row l e = grow-leaves row (refuses (stateOf m) ps row AtCap) (grow-at-cap s row l e)
-
-  module _ (row : List ℕ) (l : length row ≡ m .cap) (low : m .p < m .cap) where
-    pub grow-no-room : (Room key (homes (grown (stateOf m))) 12 (m .cap) (m .held) → ⊥) → Refused m ps (grow row) (NoRoom (m .cap)) (grownRow (stateOf m) (m .held))
-    grow-no-room f = grow-leaves row (refuses (stateOf m) ps (grownRow (stateOf m) (m .held)) (NoRoom (m .cap))) (grow-full s row l low f)
-
-    pub grow-with-room : Room key (homes (grown (stateOf m))) 12 (m .cap) (m .held) → Accepts m (paged m) ps (grow row) 0 (grownRow (stateOf m) (m .held))
-    grow-with-room r =
-        record {
-          read = m .cap;
-          moved = _;
-          pages = grownPages (stateOf m) ps;
-          left = grow-leaves row (accepts (stateOf m) (m .held) ps) (grow-room s row l low r);
-          stands = record { range = grown-range (stateOf m) (s .range) low; set = s .set; values = s .values; count = refl; image = grown-image s r };
-          moves = refl;
-        }
-
-  pub check-stands : Accepts m m ps check 0 []
-  unfolding left
-  check-stands = record { read = m .cap; moved = 0; pages = ps; left = rw (check-yes s); stands = s; moves = refl }
-
   -- due asks for the load alone
   pub due-stands : left (fileOf m ps) due ≡ record { said = says (ltb (48 * m .p) (5 * length (m .held))); file = fileOf m ps; row = [] }
   unfolding left
@@ -127,15 +80,15 @@ module _ {m : Kept} {ps : List (List Record)} (s : Stands m ps) where
   grow-comes row = go (ℕ-discrete (length row) (m .cap)) (decLt (m .p) (m .cap)) (room-told (homes (grown (stateOf m))) (m .cap) (m .held) (s .set))
     where
       go : Dec (length row ≡ m .cap) → Dec (m .p < m .cap) → Dec (Room key (homes (grown (stateOf m))) 12 (m .cap) (m .held)) → Grows m ps row
-      go (no f) d r = other-row (grow-other-row row f)
-      go (yes l) (no f) r = at-cap (grow-no-page row l (omega (arith, ranged (stateOf m) (s .range) .p-high)))
-      go (yes l) (yes low) (no f) = crowded (grow-no-room row l low f)
-      go (yes l) (yes low) (yes r) = larger (grow-with-room row l low r)
+      go (no f) d r = other-row (grow-other-row s row f)
+      go (yes l) (no f) r = at-cap (grow-no-page s row l (omega (arith, ranged (stateOf m) (s .range) .p-high)))
+      go (yes l) (yes low) (no f) = crowded (grow-no-room s row l low f)
+      go (yes l) (yes low) (yes r) = larger (grow-with-room s row l low r)
 
   grow-step : (row : List ℕ) → Grows m ps row → Step m ps (grow row)
-  grow-step row (other-row a) = refused WrongRow row tt a
-  grow-step row (at-cap a) = refused AtCap row tt a
-  grow-step row (crowded a) = refused (NoRoom (m .cap)) (grownRow (stateOf m) (m .held)) tt a
+  grow-step row (other-row a) = refused WrongRow row (refl, refl) a
+  grow-step row (at-cap a) = refused AtCap row (refl, refl) a
+  grow-step row (crowded a) = refused (NoRoom (m .cap)) (grownRow (stateOf m) (m .held)) (refl, refl) a
   grow-step row (larger a) = accepted (paged m) 0 (grownRow (stateOf m) (m .held)) refl a
 
   find-step : (k : ℕ) → k < 2 ^ 64 → Step m ps (find k)
@@ -143,14 +96,14 @@ module _ {m : Kept} {ps : List (List Record)} (s : Stands m ps) where
     where
       go : (o : Option ℕ) → commitOf k (m .held) ≡ o → Step m ps (find k)
       go (some v) e = accepted m v [] refl (find-held s k l v e)
-      go none e = let w = find-absent s k l e in refused (Absent (w .0)) [] tt (w .1)
+      go none e = let w = find-absent s k l e in refused (Absent (w .0)) [] (refl, refl) (w .1)
 
   remove-step : (k : ℕ) → k < 2 ^ 64 → Step m ps (remove k)
   remove-step k l = go (commitOf k (m .held)) refl
     where
       go : (o : Option ℕ) → commitOf k (m .held) ≡ o → Step m ps (remove k)
       go (some v) e = accepted (holding m (without k (m .held))) 0 [] refl (remove-held s k l v e)
-      go none e = let w = remove-absent s k l e in refused (Absent (w .0)) [] tt (w .1)
+      go none e = let w = remove-absent s k l e in refused (Absent (w .0)) [] (refl, refl) (w .1)
 
   -- a put, by what is held and by what there is room for
   pub put-comes : (x : Record) → Fits (put x) → Puts m ps x
@@ -169,9 +122,9 @@ module _ {m : Kept} {ps : List (List Record)} (s : Stands m ps) where
       go none e = room e (room-told (homes (stateOf m)) (m .cap) (x ∷ m .held) (set-put x (s .set) (f .0) e))
 
   put-step : (x : Record) → Puts m ps x → Step m ps (put x)
-  put-step x (repeats w n e q a) = refused (Held w n) [] tt a
-  put-step x (clashes w n e q a) = refused (Clash w n) [] tt a
-  put-step x (turned-away n e a) = refused (NoRoom n) [] tt a
+  put-step x (repeats w n e q a) = refused (Held w n) [] (refl, refl) a
+  put-step x (clashes w n e q a) = refused (Clash w n) [] (refl, refl) a
+  put-step x (turned-away n e a) = refused (NoRoom n) [] (refl, refl) a
   put-step x (joined e a) = accepted (holding m (x ∷ m .held)) 0 [] refl a
 
   format-step : (q : Params) (cap : ℕ) → Step m ps (format q cap)
@@ -179,8 +132,8 @@ module _ {m : Kept} {ps : List (List Record)} (s : Stands m ps) where
     where
       go : Begins (fileOf m ps) q cap (left (fileOf m ps) (format q cap)) → Step m ps (format q cap)
       go (began e t) = accepted (begun q cap) 0 [] refl (record { read = 0; moved = 0; pages = replicate cap []; left = e; stands = t; moves = refl })
-      go (outside e) = refused OutOfRange [] tt e
-      go (elsewhere e) = refused WrongArea [] tt e
+      go (outside e) = refused OutOfRange [] (refl, refl) e
+      go (elsewhere e) = refused WrongArea [] (refl, refl) e
 
   -- any call
   pub step : (c : Call) → Fits c → Step m ps c
@@ -189,7 +142,7 @@ module _ {m : Kept} {ps : List (List Record)} (s : Stands m ps) where
   step (put x) f = put-step x (put-comes x f)
   step (remove k) f = remove-step k f
   step (grow row) f = grow-step row (grow-comes row)
-  step check f = accepted m 0 [] refl check-stands
+  step check f = accepted m 0 [] refl (check-yes s)
   step due f = said (ltb (48 * m .p) (5 * length (m .held))) refl due-stands
 
 -- what is kept is what stands

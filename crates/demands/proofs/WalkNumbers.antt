@@ -10,6 +10,7 @@ use native.Mathlib.Omega.{arith}
 use lib.Dec.{leb, ltb, eqb}
 use lib.ListN.{length, take, getD}
 use Rattle.placing.specs.Lay.{rankOf, rankIn, ins}
+use Rattle.placing.specs.Walks.{endsOn}
 use Rattle.pages.specs.Page.{Record, vacant, key, value, recordsIn, readPage}
 use Rattle.pages.specs.Places.{closed, ahead}
 use Rattle.pages.specs.Area.{partAt, pagesFrom}
@@ -20,7 +21,7 @@ use Rattle.state.specs.State.{homes}
 use Rattle.walks.specs.declared.Met.{Met}
 use Rattle.walks.specs.declared.Met.the-variants.{Found, Ends}
 use Rattle.walks.specs.declared.Met.the-variants as mets
-use Rattle.walks.specs.Walks.{heldAt, onHeld, endsOn, meets, walk, Walked, went, stopped, andPage, carry, putMet, putWalk, pullBack, removeMet, removeWalk}
+use Rattle.walks.specs.Walks.{heldAt, onHeld, meets, walk, Walked, went, stopped, andPage, carry, putMet, putWalk, pullBack, removeMet, removeWalk}
 use Rattle.register.specs.Files.{put, remove, File}
 use Rattle.demands.specs.Refusals.{BrokenAt, OneOf, gives}
 use Rattle.demands.proofs.InOrder.{listed, one-of, none-of, each-of}
@@ -43,12 +44,12 @@ module _ (f : File) where
   MetBroken (Ends a i c n) = Unit {0}
   MetBroken (mets.AtEnd n) = Unit {0}
 
-  meets-broken : (k m a n : ℕ) → m ≤ cap - a → MetBroken (meets h k a n (from m a))
+  meets-broken : (k m a n : ℕ) → m ≤ cap - a → MetBroken (meets 12 h k a n (from m a))
   meets-broken k zero a n l = tt
   meets-broken k (suc m) a n l = go (readPage h a (partAt (f .area) a)) refl (meets-broken k m (suc a) (suc n) (omega arith))
     where
       on : Met
-      on = meets h k (suc a) (suc n) (from m (suc a))
+      on = meets 12 h k (suc a) (suc n) (from m (suc a))
 
       held : (p : List Record) (o : Option (ℕ × ℕ)) (u : Bool) → MetBroken on
           → MetBroken (onHeld o (λ i v. Found a i (length p) v (suc n)) (cond u (Ends a (ahead (rankIn key h) (rankOf h k) p) (length p) (suc n)) on))
@@ -56,9 +57,9 @@ module _ (f : File) where
       held p none true t = tt
       held p none false t = t
 
-      go : (o : Option (List Record)) → readPage h a (partAt (f .area) a) ≡ o → MetBroken on → MetBroken (meets h k a n (o ∷ from m (suc a)))
+      go : (o : Option (List Record)) → readPage h a (partAt (f .area) a) ≡ o → MetBroken on → MetBroken (meets 12 h k a n (o ∷ from m (suc a)))
       go none q t = (omega arith, q)
-      go (some p) q t = held p (heldAt k 0 p) (endsOn h k p) t
+      go (some p) q t = held p (heldAt k 0 p) (endsOn (rankIn key h) 12 (rankOf h k) p) t
 
   pub walk-broken : (k : ℕ) → MetBroken (walk h (f .area) cap k)
   unfolding walk
@@ -92,7 +93,7 @@ module _ (f : File) where
   abbrev carryStops : List ℕ
   carryStops = 4 ∷ 7 ∷ []
 
-  pub carry-stops : (m a n c : ℕ) (x : Record) → m ≤ cap - a → StopsWith carryStops (carry h a n c x (from m a))
+  pub carry-stops : (m a n c : ℕ) (x : Record) → m ≤ cap - a → StopsWith carryStops (carry 12 h a n c x (from m a))
   carry-stops zero a n c x l = stop carryStops 7 0 n refl refl
   carry-stops (suc m) a n c x l = go (readPage h a (partAt (f .area) a)) refl (λ y. carry-stops m (suc a) (suc n) (suc c) y (omega arith))
     where
@@ -100,13 +101,13 @@ module _ (f : File) where
       room q true on t = tt
       room q false on t = wrote-stops carryStops a (take 12 q) on t
 
-      go : (o : Option (List Record)) → readPage h a (partAt (f .area) a) ≡ o → ((y : Record) → StopsWith carryStops (carry h (suc a) (suc n) (suc c) y (from m (suc a))))
-          → StopsWith carryStops (carry h a n c x (o ∷ from m (suc a)))
+      go : (o : Option (List Record)) → readPage h a (partAt (f .area) a) ≡ o → ((y : Record) → StopsWith carryStops (carry 12 h (suc a) (suc n) (suc c) y (from m (suc a))))
+          → StopsWith carryStops (carry 12 h a n c x (o ∷ from m (suc a)))
       go none q on = stop-broken carryStops a (suc n) refl (omega arith, q)
       go (some p) q on =
           let r = ins (rankIn key h) x p in
           let y = getD r 12 x in
-          room r (ltb (length p) 12) (carry h (suc a) (suc n) (suc c) y (from m (suc a))) (on y)
+          room r (ltb (length p) 12) (carry 12 h (suc a) (suc n) (suc c) y (from m (suc a))) (on y)
 
   -- the numbers of any put
   abbrev putStops : List ℕ
@@ -132,14 +133,14 @@ module _ (f : File) where
       go : (m : Met) → MetBroken m → StopsWith putStops (putMet h (f .area) cap x m)
       go (Found a i c v n) t = held (eqb (value x) v) v n
       go (mets.Broken a n) t = stop-broken putStops a n refl t
-      go (Ends a i c n) t = carry-put (carry h a (n - 1) 0 x (from (cap - a) a)) (carry-stops (cap - a) a (n - 1) 0 x (omega arith))
+      go (Ends a i c n) t = carry-put (carry 12 h a (n - 1) 0 x (from (cap - a) a)) (carry-stops (cap - a) a (n - 1) 0 x (omega arith))
       go (mets.AtEnd n) t = stop putStops 7 0 n refl refl
 
   -- and of any removal
   abbrev removeStops : List ℕ
   removeStops = gives (remove 0)
 
-  back-stops : (m a n c : ℕ) (p : List Record) → m ≤ cap - suc a → StopsWith removeStops (pullBack h a n c p (from m (suc a)))
+  back-stops : (m a n c : ℕ) (p : List Record) → m ≤ cap - suc a → StopsWith removeStops (pullBack 12 h a n c p (from m (suc a)))
   back-stops zero a n c p l = tt
   back-stops (suc m) a n c p l = go (readPage h (suc a) (partAt (f .area) (suc a))) refl (λ q. back-stops m (suc a) (suc n) (suc c) q (omega arith))
     where
@@ -150,17 +151,17 @@ module _ (f : File) where
       next y q false v on t = tt
 
       go : (o : Option (List Record)) → readPage h (suc a) (partAt (f .area) (suc a)) ≡ o
-          → ((q : List Record) → StopsWith removeStops (pullBack h (suc a) (suc n) (suc c) q (from m (suc (suc a)))))
-          → StopsWith removeStops (pullBack h a n c p (o ∷ from m (suc (suc a))))
+          → ((q : List Record) → StopsWith removeStops (pullBack 12 h (suc a) (suc n) (suc c) q (from m (suc (suc a)))))
+          → StopsWith removeStops (pullBack 12 h a n c p (o ∷ from m (suc (suc a))))
       go none q on = stop-broken removeStops (suc a) (suc n) refl (omega arith, q)
       go (some []) q on = tt
-      go (some (y ∷ r)) q on = next y r (leb (h (key y)) a) (ltb (suc (length r)) 12) (pullBack h (suc a) (suc n) (suc c) r (from m (suc (suc a)))) (on r)
+      go (some (y ∷ r)) q on = next y r (leb (h (key y)) a) (ltb (suc (length r)) 12) (pullBack 12 h (suc a) (suc n) (suc c) r (from m (suc (suc a)))) (on r)
 
   pub remove-stops : (k : ℕ) → StopsWith removeStops (removeWalk h (f .area) cap k)
   unfolding removeWalk
   remove-stops k = go (walk h (f .area) cap k) (walk-broken k)
     where
-      full : (u : Bool) (a i n : ℕ) (p : List Record) → StopsWith removeStops (cond u (went ((a, closed i p) ∷ []) n 0) (pullBack h a n 0 (closed i p) (from (cap - suc a) (suc a))))
+      full : (u : Bool) (a i n : ℕ) (p : List Record) → StopsWith removeStops (cond u (went ((a, closed i p) ∷ []) n 0) (pullBack 12 h a n 0 (closed i p) (from (cap - suc a) (suc a))))
       full true a i n p = tt
       full false a i n p = back-stops (cap - suc a) a n 0 (closed i p) (omega arith)
 

@@ -39,13 +39,13 @@ and-low cap a p (went ws n m) l k = (l, k)
 and-low cap a p (stopped why) l k = tt
 
 -- what is carried on from a page lies below the lent size
-carry-low : (h : ℕ → ℕ) (area : List ℕ) (cap more a n m : ℕ) (x : Record) → more ≡ cap - a → Low cap (carry h a n m x (pagesFrom h area more a))
+carry-low : (h : ℕ → ℕ) (area : List ℕ) (cap more a n m : ℕ) (x : Record) → more ≡ cap - a → Low cap (carry 12 h a n m x (pagesFrom h area more a))
 carry-low h area cap zero a n m x e = tt
 carry-low h area cap (suc more) a n m x e =
     onPage (readPage h a (partAt area a)) (λ y. carry-low h area cap more (suc a) (suc n) (suc m) y (omega arith))
   where
-    onPage : (o : Option (List Record)) → ((y : Record) → Low cap (carry h (suc a) (suc n) (suc m) y (pagesFrom h area more (suc a))))
-        → Low cap (carry h a n m x (o ∷ pagesFrom h area more (suc a)))
+    onPage : (o : Option (List Record)) → ((y : Record) → Low cap (carry 12 h (suc a) (suc n) (suc m) y (pagesFrom h area more (suc a))))
+        → Low cap (carry 12 h a n m x (o ∷ pagesFrom h area more (suc a)))
     onPage none k = tt
     onPage (some p) k = fits (ltb (length p) 12)
       where
@@ -53,7 +53,7 @@ carry-low h area cap (suc more) a n m x e =
         q = ins (rankIn key h) x p
 
         on : Walked
-        on = carry h (suc a) (suc n) (suc m) (getD q 12 x) (pagesFrom h area more (suc a))
+        on = carry 12 h (suc a) (suc n) (suc m) (getD q 12 x) (pagesFrom h area more (suc a))
 
         fits : (u : Bool) → Low cap (cond u (went ((a, q) ∷ []) (suc n) m) (andPage a (take 12 q) on))
         fits true = (omega arith, tt)

@@ -1,7 +1,7 @@
 -- Records that lie on another page than before: none where a page is left as it is, and one for
 -- each time that a put's walk hands one on.
 use mathlib.Core.Path.{_≡_, refl, sym, ap, _∙_}
-use mathlib.Core.Bool.{Bool, true, false, cond, not}
+use mathlib.Core.Bool.{Bool, true, false, cond, not, _||_}
 use mathlib.Core.Option.{Option, none, some}
 use mathlib.Core.List.{List, [], _∷_, _++_, append-assoc, Permᴰ·symm}
 use Prim.Native.Nat.{ℕ, zero, suc, _+_, _≤_, _<_}
@@ -13,7 +13,7 @@ use borrow.Author.Tests.{ltb-true, ltb-false, lt-ltb, eqb-true}
 use Rattle.placing.specs.Image.{All, cat, page, Distinct}
 use Rattle.placing.specs.Lay.{ins}
 use Rattle.placing.specs.Rows.{isThere, strays, strayed}
-use Rattle.placing.specs.Walks.{seek, lastAfter, carry}
+use Rattle.placing.specs.Walks.{seek, lastAfter, endsOn, carry}
 use Rattle.placing.proofs.Lists.{all-map, all-left, all-right, all-page}
 use Rattle.placing.proofs.Order.{Sorted, sorted-right, ins-length, ins-front}
 use Rattle.placing.proofs.Seek.{clash, seek-ne, ne-seek, seek-here}
@@ -24,11 +24,6 @@ module _ {R : Type 0} where
   pub all-pages : (P : List R → Type 0) (ps : List (List R)) → ((a : ℕ) → P (page ps a)) → All P ps
   all-pages P [] h = tt
   all-pages P (p ∷ ps) h = (h 0, all-pages P ps (λ a. h (suc a)))
-
-  -- the records of the pages in front stand first
-  pub cat-append : (ps qs : List (List R)) → cat (ps ++ qs) [] ≡ cat ps [] ++ cat qs []
-  cat-append [] qs = refl
-  cat-append (p ∷ ps) qs = rw (cat-append ps qs) (sym (append-assoc p (cat ps []) (cat qs [])))
 
 module _ {R : Type 0} (key : R → ℕ) where
   pub distinct-left : (s t : List R) → Distinct key (s ++ t) → Distinct key s
@@ -173,13 +168,17 @@ module _ {R : Type 0} (rank : R → ℕ) (b : ℕ) where
   -- what is of rank r does not go past the first page
   abbrev pub EndsFirst : ℕ → List (List R) → Type 0
   EndsFirst r [] = Unit {0}
-  EndsFirst r (p ∷ ps) = ltb (length p) b ≡ false → lastAfter rank r p ≡ true
+  EndsFirst r (p ∷ ps) = endsOn rank b r p ≡ true
 
 module _ {R : Type 0} (key rank : R → ℕ) (b : ℕ) (pos : 0 < b) where
   -- what stands before all of the records goes to the first page
   all-ends : (r : ℕ) (ps : List (List R)) → All (λ y. r < rank y) (cat ps []) → EndsFirst rank b r ps
   all-ends r [] h = tt
-  all-ends r (p ∷ ps) h = λ e. all-last key rank r p (omega (arith, ltb-false (length p) b e)) (all-left (λ y. r < rank y) p (cat ps []) h)
+  all-ends r (p ∷ ps) h = go (ltb (length p) b) refl
+    where
+      go : (u : Bool) → ltb (length p) b ≡ u → (u || lastAfter rank r p) ≡ true
+      go true e = refl
+      go false e = all-last key rank r p (omega (arith, ltb-false (length p) b e)) (all-left (λ y. r < rank y) p (cat ps []) h)
 
   -- the first page then holds x
   pub first-holds : (x : R) (p : List R) (ps : List (List R)) → length p ≤ b → EndsFirst rank b (rank x) (p ∷ ps) → Distinct key (x ∷ p) → seek key (key x) (page (carry rank b x (p ∷ ps) .0) 0) ≡ some x
@@ -198,7 +197,7 @@ module _ {R : Type 0} (key rank : R → ℕ) (b : ℕ) (pos : 0 < b) where
       go true f = seek-ins key rank (key x) x p d ∙ seek-here key x p
       go false f =
           let full : length p ≡ b = omega (arith, ltb-false (length p) b f) in
-          let t = last-cut key rank (rank x) p (e f) in
+          let t = last-cut key rank (rank x) p (rw f at e) in
           let g : Distinct key (x ∷ (t .front ++ (t .last ∷ []))) = rw (t .whole) at d in
           rw (stays-on key rank b x p full t) (seek-ins key rank (key x) x (t .front) (distinct-left key (x ∷ t .front) (t .last ∷ []) g) ∙ seek-here key x (t .front))
 
@@ -225,7 +224,7 @@ module _ {R : Type 0} (key rank : R → ℕ) (b : ℕ) (pos : 0 < b) where
       go true f ih = omega (arith, strays-none key (ins rank x p) p (there-ins key rank x p here), strayed-none key ps)
       go false f ih =
           let full : length p ≡ b = omega (arith, ltb-false (length p) b f, w .0) in
-          let c = last-cut key rank (rank x) p (e f) in
+          let c = last-cut key rank (rank x) p (rw f at e) in
           let z : c .front ++ (c .last ∷ t) ≡ p ++ t = sym (append-assoc (c .front) (c .last ∷ []) t) ∙ ap (λ (l : List R). l ++ t) (sym (c .whole)) in
           let q : y ≡ c .last = handed-on key rank b x p full c in
           let k : Sorted rank (c .last ∷ t) = sorted-right rank (c .front) (c .last ∷ t) (rw z s) in

@@ -5,3 +5,6 @@ pub mod Settling
 pub mod Growing
 pub mod CheckImage
 pub mod Promises
+pub mod OnImage
+pub mod GrownImage
+pub mod ImageCalls

@@ -1,7 +1,7 @@
 -- The first phase of a remove, page by page: the page after page a as it was judged, and how the
 -- plan goes on.
 use mathlib.Core.Path.{_≡_, refl, sym, _∙_}
-use mathlib.Core.Bool.{Bool, true, false, not, _||_}
+use mathlib.Core.Bool.{Bool, true, false, cond, not, _||_}
 use mathlib.Core.Option.{Option, none, some}
 use mathlib.Core.List.{List, [], _∷_}
 use Prim.Native.Nat.{ℕ, suc, _+_, _-_, _≤_, _<_}
@@ -17,84 +17,55 @@ use Rattle.state.specs.declared.Answer.the-variants.{Broken}
 use Rattle.walks.specs.declared.Plan.{Plan}
 use Rattle.walks.specs.declared.Plan.the-variants.{Go, Stop}
 use Rattle.walks.specs.steps.Plans.{reachedBack}
-use Rattle.walks.proofs.Scanning.{differ}
 
 -- the test of a judged page: it holds no record, or the home of its first is above page a
 abbrev pub apart : ℕ → Judged → Bool
 apart a j = eqb (j .page .count) 0 || ltb a (getD (j .homes) 0 0)
 
-module _ (h : ℕ → ℕ) (a : ℕ) where
-  -- the test on a page with a first record
-  first-apart : (u : Bool) (y : Record) (q : List Record) → apart a (judged h (some (y ∷ q))) ≡ u → leb (h (key y)) a ≡ not u
-  unfolding judged inMemory
-  first-apart true y q t =
-      let n : eqb (suc (length q)) 0 ≡ false = ne-eqb (suc (length q)) 0 (λ e. omega arith) in
-      lt-leb (h (key y)) a (ltb-true a (h (key y)) (rw n at t))
-  first-apart false y q t =
-      let n : eqb (suc (length q)) 0 ≡ false = ne-eqb (suc (length q)) 0 (λ e. omega arith) in
-      le-leb (h (key y)) a (ltb-false a (h (key y)) (rw n at t))
+-- how the plan goes on after page a, by the next page as it was judged
+next-page : (b : ℕ) (h : ℕ → ℕ) (f at a n : ℕ) (o : Option (List Record)) (ps : List (Option (List Record)))
+    → reachedBack b h f at a n (o ∷ ps)
+    ≡ cond (judged h o .good)
+    (cond (apart a (judged h o)) (Go f at a (suc n)) (cond (ltb (judged h o .page .count) b) (Go f at (suc a) (suc n)) (reachedBack b h f at (suc a) (suc n) ps)))
+    (Stop (Broken (suc a) (suc n)))
+unfolding judged inMemory
+next-page b h f at a n none ps = refl
+next-page b h f at a n (some []) ps = refl
+next-page b h f at a n (some (y ∷ q)) ps = rw (ne-eqb (suc (length q)) 0 (λ e. omega arith)) (go (ltb a (h (key y))) refl)
+  where
+    on : Plan
+    on = cond (ltb (suc (length q)) b) (Go f at (suc a) (suc n)) (reachedBack b h f at (suc a) (suc n) ps)
 
-module _ (h : ℕ → ℕ) (f at a n : ℕ) (ps : List (Option (List Record))) where
-  on-broken : (o : Option (List Record)) → judged h o .good ≡ false → reachedBack h f at a n (o ∷ ps) ≡ Stop (Broken (suc a) (suc n))
-  unfolding judged
-  on-broken none g = refl
-  on-broken (some rs) g = absurd (differ g)
-
-  on-apart : (o : Option (List Record)) → judged h o .good ≡ true → apart a (judged h o) ≡ true
-      → reachedBack h f at a n (o ∷ ps) ≡ Go f at a (suc n)
-  unfolding judged
-  on-apart none g t = absurd (differ (sym g))
-  on-apart (some []) g t = refl
-  on-apart (some (y ∷ q)) g t = rw (first-apart h a true y q t)
-
-  on-short : (o : Option (List Record)) → judged h o .good ≡ true → apart a (judged h o) ≡ false → judged h o .page .count < 12
-      → reachedBack h f at a n (o ∷ ps) ≡ Go f at (suc a) (suc n)
-  unfolding judged inMemory
-  on-short none g t l = absurd (differ (sym g))
-  on-short (some []) g t l = absurd (differ t)
-  on-short (some (y ∷ q)) g t l = rw (first-apart h a false y q t, lt-ltb (suc (length q)) 12 l)
-
-  on-full : (o : Option (List Record)) → judged h o .good ≡ true → apart a (judged h o) ≡ false → 12 ≤ judged h o .page .count
-      → reachedBack h f at a n (o ∷ ps) ≡ reachedBack h f at (suc a) (suc n) ps
-  unfolding judged inMemory
-  on-full none g t l = absurd (differ (sym g))
-  on-full (some []) g t l = absurd (differ t)
-  on-full (some (y ∷ q)) g t l = rw (first-apart h a false y q t, le-ltb (suc (length q)) 12 l)
+    go : (u : Bool) → ltb a (h (key y)) ≡ u → cond (leb (h (key y)) a) on (Go f at a (suc n)) ≡ cond u (Go f at a (suc n)) on
+    go true e = rw (lt-leb (h (key y)) a (ltb-true a (h (key y)) e))
+    go false e = rw (le-leb (h (key y)) a (ltb-false a (h (key y)) e))
 
 module _ (h : ℕ → ℕ) (area : List ℕ) (cap f at : ℕ) where
   -- the plan from page a on
   abbrev pub planFrom : (a n : ℕ) → Plan
-  planFrom a n = reachedBack h f at a n (pagesFrom h area (cap - suc a) (suc a))
+  planFrom a n = reachedBack 12 h f at a n (pagesFrom h area (cap - suc a) (suc a))
 
   pub plan-ends : (a n : ℕ) → cap ≤ a + 1 → Go f at a n ≡ planFrom a n
   plan-ends a n l = let z : cap - suc a ≡ 0 = omega arith in rw z
 
   module _ (a n : ℕ) (j : Judged) (e : j ≡ judged h (readPage h (a + 1) (partAt area (a + 1)))) (l : a + 1 < cap) where
-    abbrev next : Option (List Record)
-    next = readPage h (suc a) (partAt area (suc a))
-
-    abbrev rest : List (Option (List Record))
-    rest = pagesFrom h area (cap - suc (suc a)) (suc (suc a))
-
-    next-judged : j ≡ judged h next
-    next-judged = rw add-one at e
-
-    next-first : planFrom a n ≡ reachedBack h f at a n (next ∷ rest)
-    next-first = let m : cap - suc a ≡ suc (cap - suc (suc a)) = omega arith in rw m
+    plan-next : planFrom a n
+        ≡ cond (j .good) (cond (apart a j) (Go f at a (n + 1)) (cond (ltb (j .page .count) 12) (Go f at (a + 1) (n + 1)) (planFrom (a + 1) (n + 1))))
+        (Stop (Broken (a + 1) (n + 1)))
+    plan-next =
+        let m : cap - suc a ≡ suc (cap - suc (suc a)) = omega arith in
+        let k : j ≡ judged h (readPage h (suc a) (partAt area (suc a))) = rw add-one at e in
+        rw (add-one a, add-one n, k, m) (next-page 12 h f at a n (readPage h (suc a) (partAt area (suc a))) (pagesFrom h area (cap - suc (suc a)) (suc (suc a))))
 
     pub plan-broken : not (j .good) ≡ true → Stop (Broken (a + 1) (n + 1)) ≡ planFrom a n
-    plan-broken g = rw (add-one a, add-one n) (sym (next-first ∙ on-broken h f at a n rest next (rw next-judged at (not-true (j .good) g))))
+    plan-broken g = sym (plan-next ∙ rw (not-true (j .good) g))
 
-    pub plan-apart : not (j .good) ≡ false → apart a j ≡ true → Go f at a (n + 1) ≡ planFrom a n
-    plan-apart g t =
-        rw (add-one n) (sym (next-first ∙ on-apart h f at a n rest next (rw next-judged at (not-false (j .good) g)) (rw next-judged at t)))
+    module _ (g : not (j .good) ≡ false) where
+      pub plan-apart : apart a j ≡ true → Go f at a (n + 1) ≡ planFrom a n
+      plan-apart t = sym (plan-next ∙ rw (not-false (j .good) g, t))
 
-    pub plan-short : not (j .good) ≡ false → apart a j ≡ false → j .page .count < 12 → Go f at (a + 1) (n + 1) ≡ planFrom a n
-    plan-short g t c =
-        rw (add-one a, add-one n)
-        (sym (next-first ∙ on-short h f at a n rest next (rw next-judged at (not-false (j .good) g)) (rw next-judged at t) (rw next-judged at c)))
+      pub plan-short : apart a j ≡ false → j .page .count < 12 → Go f at (a + 1) (n + 1) ≡ planFrom a n
+      plan-short t c = sym (plan-next ∙ rw (not-false (j .good) g, t, lt-ltb (j .page .count) 12 c))
 
-    pub plan-full : not (j .good) ≡ false → apart a j ≡ false → 12 ≤ j .page .count → planFrom (a + 1) (n + 1) ≡ planFrom a n
-    plan-full g t c =
-        rw (add-one a, add-one n)
-        (sym (next-first ∙ on-full h f at a n rest next (rw next-judged at (not-false (j .good) g)) (rw next-judged at t) (rw next-judged at c)))
+      pub plan-full : apart a j ≡ false → 12 ≤ j .page .count → planFrom (a + 1) (n + 1) ≡ planFrom a n
+      plan-full t c = sym (plan-next ∙ rw (not-false (j .good) g, t, le-ltb (j .page .count) 12 c))

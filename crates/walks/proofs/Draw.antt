@@ -1,9 +1,9 @@
 -- The second phase of a remove: pages closed up and filled in memory, and the area that they are
 -- written to.
-use mathlib.Core.Path.{_≡_, refl, sym, ap, _∙_}
+use mathlib.Core.Path.{_≡_, refl, sym, _∙_}
 use mathlib.Core.Bool.{Bool, true, false, cond}
 use mathlib.Core.List.{List, [], _∷_, append-nil}
-use Prim.Native.Nat.{ℕ, zero, suc, _+_, _-_, _*_, _≤_, _<_}
+use Prim.Native.Nat.{ℕ, zero, suc, _+_, _-_, _≤_, _<_}
 use native.Mathlib.Omega.{arith}
 use lib.Dec.{ltb}
 use lib.ListN.{length, take, drop, getD, length-append, length-take, length-drop, drop-of-length-le}
@@ -11,15 +11,15 @@ use lib.Seq.{take-all}
 use Rattle.placing.specs.Lay.{ranked, rankIn}
 use Rattle.pages.specs.declared.Page.{Page}
 use Rattle.pages.specs.declared.Pushed.{Pushed}
-use Rattle.pages.specs.Page.{Record, key, recordWith, vacant, rank, recordsIn, inMemory}
+use Rattle.pages.specs.Page.{Record, key, recordWith, vacant, rank, inMemory}
 use Rattle.pages.specs.Places.{closed}
 use Rattle.pages.specs.steps.Slots.{opened, upToBack, recordsOf, pushed}
-use Rattle.pages.specs.Area.{partAt, withPage}
+use Rattle.pages.specs.Area.{withPage}
 use Rattle.pages.proofs.Memory.{page-count, page-records}
-use Rattle.pages.proofs.Read.{held-few, ready}
-use Rattle.pages.proofs.Areas.{with-length, part-other}
+use Rattle.pages.proofs.Read.{ready}
 use Rattle.walks.specs.Walks.{writes}
 use Rattle.walks.specs.steps.Plans.{held, firstOf, backed, drawn}
+use Rattle.walks.proofs.Pouring.{Kept, Untouched}
 
 -- closing up a slot that holds no record changes nothing
 closed-past : (slot : ℕ) (rs : List Record) → length rs ≤ slot → closed slot rs ≡ rs
@@ -33,23 +33,16 @@ closed-few slot rs = omega (arith, length-append (take slot rs) (drop (suc slot)
 pub close-past : (p : Page) (slot : ℕ) → p ≡ inMemory (recordsOf p) → p .count ≤ slot → p ≡ inMemory (closed slot (recordsOf p))
 close-past p slot e l = rw (closed-past slot (recordsOf p) (omega (arith, page-count p (recordsOf p) e))) e
 
--- a page that may be changed and stored
-abbrev Kept : Page → Type 0
-Kept p = (p .count ≤ 12) × (p ≡ inMemory (recordsOf p))
-
--- as it is read, closed up and filled
-pub read-kept : (p : Page) (l : List ℕ) → p ≡ inMemory (recordsIn l) → Kept p
-read-kept p l e = ready p (recordsIn l) e (held-few l)
-
+-- a page as it is closed up, or filled
 pub shut-kept : (p q : Page) (slot : ℕ) → Kept p → q ≡ inMemory (closed slot (recordsOf p)) → Kept q
 shut-kept p q slot k e =
     ready q (closed slot (recordsOf p)) e (omega (arith, closed-few slot (recordsOf p), page-count p (recordsOf p) (k .1)))
 
-pub full-kept : (h : ℕ → ℕ) (next shut full : Page) → full ≡ inMemory (backed h (firstOf (recordsOf next)) (recordsOf shut)) → Kept full
+pub full-kept : (h : ℕ → ℕ) (next shut full : Page) → full ≡ inMemory (backed 12 h (firstOf (recordsOf next)) (recordsOf shut)) → Kept full
 full-kept h next shut full e =
     let y : Record = firstOf (recordsOf next) in
     let s : List Record = recordsOf shut in
-    ready full (backed h y s) e (omega (arith, length-take 12 (opened (upToBack (rankIn key h) (rankIn key h y) vacant s (length s)) y s)))
+    ready full (backed 12 h y s) e (omega (arith, length-take 12 (opened (upToBack (rankIn key h) (rankIn key h y) vacant s (length s)) y s)))
 
 -- a place from the back is one among the records
 back-le : {R : Type 0} (rank : R → ℕ) (r : ℕ) (d : R) (s : List R) (n : ℕ) → upToBack rank r d s n ≤ n
@@ -77,32 +70,24 @@ module _ (h : ℕ → ℕ) (p next : Page) (home place : ℕ) where
 
   pub pushed-back : (q : Pushed) → home ≡ h (getD (next .keys) 0 0) → place ≡ sought → p ≡ inMemory (recordsOf p) → next ≡ inMemory (recordsOf next)
       → q ≡ pushed place (recordWith (getD (next .keys) 0 0) (getD (next .values) 0 0)) (recordsOf p)
-      → q .page ≡ inMemory (backed h (firstOf (recordsOf next)) (recordsOf p))
+      → q .page ≡ inMemory (backed 12 h (firstOf (recordsOf next)) (recordsOf p))
   pushed-back q d g e f k =
       let z : firstOf (recordsOf next) ≡ recordWith (getD (next .keys) 0 0) (getD (next .values) 0 0) = sym (first-rows (recordsOf next)) ∙ rw (← f) in
       let n : p .count ≡ length (recordsOf p) = page-count p (recordsOf p) e in
       rw (z, ← n, k, g, d)
 
--- a page stored in an area leaves the length and the pages after it
-module _ (area new : List ℕ) (a : ℕ) (p : List Record) (e : new ≡ withPage area a p) (fits : 256 * (a + 1) ≤ length area) where
-  pub stored-length : length new ≡ length area
-  stored-length = ap length e ∙ with-length area a p fits
-
-  pub stored-same : (entry : List ℕ) → ((b : ℕ) → a ≤ b → partAt area b ≡ partAt entry b) → (b : ℕ) → a + 1 ≤ b → partAt new b ≡ partAt entry b
-  stored-same entry same b l = rw e (part-other area a p fits b (λ q. omega arith)) ∙ same b (omega arith)
-
 -- page a is written to an area that agrees with the first area from there on
-module _ (h : ℕ → ℕ) (entry area : List ℕ) (last a slot : ℕ) (same : (b : ℕ) → a ≤ b → partAt area b ≡ partAt entry b) where
+module _ (h : ℕ → ℕ) (entry area : List ℕ) (last a slot : ℕ) (same : Untouched entry area a) where
   pub draw-turn : (page next shut full : Page) (new : List ℕ) → new ≡ withPage area a (recordsOf full)
       → page ≡ inMemory (held area a) → next ≡ inMemory (held area (a + 1)) → shut ≡ inMemory (closed slot (recordsOf page))
-      → full ≡ inMemory (backed h (firstOf (recordsOf next)) (recordsOf shut)) → a < last
+      → full ≡ inMemory (backed 12 h (firstOf (recordsOf next)) (recordsOf shut)) → a < last
       → writes new (drawn h entry (last - (a + 1)) (a + 1) 0) ≡ writes area (drawn h entry (last - a) a slot)
   draw-turn page next shut full new d e f g k l =
       let n : last - a ≡ suc (last - (a + 1)) = omega arith in
       let m : a + 1 ≡ suc a = omega arith in
       rw (
         d,
-        page-records full (backed h (firstOf (recordsOf next)) (recordsOf shut)) k,
+        page-records full (backed 12 h (firstOf (recordsOf next)) (recordsOf shut)) k,
         page-records shut (closed slot (recordsOf page)) g,
         page-records page (held area a) e,
         page-records next (held area (a + 1)) f,

@@ -1,4 +1,5 @@
 pub mod Scanning
+pub mod Holds
 pub mod Meeting
 pub mod PutPlan
 pub mod Pouring
@@ -6,3 +7,9 @@ pub mod Back
 pub mod RemovePlan
 pub mod Removing
 pub mod Draw
+pub mod Clean
+pub mod Went
+pub mod FindWalk
+pub mod PutWalk
+pub mod RemoveWalk
+pub mod FindReads

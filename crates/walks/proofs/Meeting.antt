@@ -1,25 +1,24 @@
 -- The walk to a key: what is known of a page that was judged, its slots one by one, and each way
 -- out.
-use mathlib.Core.Path.{_≡_, refl, sym, ap, _∙_}
+use mathlib.Core.Path.{_≡_, refl, sym, ap, subst, _∙_}
 use mathlib.Core.Bool.{Bool, true, false, cond, _||_}
 use mathlib.Core.Option.{Option, none, some}
-use mathlib.Core.List.{List, [], _∷_}
-use Prim.Native.Nat.{ℕ, suc, _+_, _*_, _-_, _^_, _≤_, _<_}
+use mathlib.Core.List.{List, _∷_}
+use Prim.Native.Nat.{ℕ, zero, suc, _+_, _*_, _-_, _^_, _≤_, _<_}
 use native.Mathlib.Numerals.{add-one}
 use native.Mathlib.Omega.{arith}
 use borrow.Author.Tests.{ltb-true, ltb-false, lt-ltb, le-ltb}
-use lib.Dec.{eqb, ltb}
+use lib.Dec.{ltb}
 use lib.ListN.{length, drop, getD}
 use Rattle.homes.specs.declared.Shape.{Shape}
 use Rattle.homes.specs.Homes.{Ready, homeIn}
 use Rattle.homes.proofs.Homes.{home-below}
 use Rattle.placing.specs.Lay.{rankOf, rankIn}
-use Rattle.placing.specs.Walks.{seek, lastAfter}
+use Rattle.placing.specs.Walks.{seek, lastAfter, endsOn}
 use Rattle.placing.proofs.Order.{Sorted}
 use Rattle.placing.proofs.Rank.{seek-key}
-use Rattle.placing.proofs.Seek.{clash}
 use Rattle.pages.specs.declared.Judged.{Judged}
-use Rattle.pages.specs.Page.{Record, key, value, readPage, judged}
+use Rattle.pages.specs.Page.{Record, key, readPage, judged}
 use Rattle.pages.specs.Places.{ahead}
 use Rattle.pages.specs.steps.Slots.{recordsOf}
 use Rattle.pages.specs.Area.{partAt, pagesFrom}
@@ -32,7 +31,9 @@ use Rattle.pages.proofs.Bounds.{keys-small}
 use Rattle.walks.specs.declared.Met.{Met}
 use Rattle.walks.specs.declared.Met.the-variants.{Found, Ends}
 use Rattle.walks.specs.declared.Met.the-variants as mets
-use Rattle.walks.specs.Walks.{heldAt, onHeld, endsOn, meets, walk}
+use Rattle.walks.specs.Walks.{heldAt, onHeld, meets, walk}
+use Rattle.walks.specs.steps.Plans.{held}
+use Rattle.walks.proofs.Holds.{away}
 use Rattle.walks.proofs.Scanning.{differ, records-count, After, ToScan, left-away, left-place, Rows}
 
 -- a home lies in the area
@@ -90,30 +91,20 @@ module _ {h : ℕ → ℕ} {area : List ℕ} {cap a : ℕ} {j : Judged} (seen : 
     rising = rises-sorted h (recordsOf (j .page)) (page-known g .rising);
   }
 
--- a key that no slot holds is not found
-pub held-seek : (k i : ℕ) (rs : List Record) → heldAt k i rs ≡ none → seek key k rs ≡ none
-held-seek k i [] e = refl
-held-seek k i (x ∷ rs) e = go (eqb (key x) k) e (held-seek k (suc i) rs)
-  where
-    go : (u : Bool) → cond u (some (i, value x)) (heldAt k (suc i) rs) ≡ none → (heldAt k (suc i) rs ≡ none → seek key k rs ≡ none)
-        → cond u (some x) (seek key k rs) ≡ none
-    go true q ih = absurd (clash (sym q))
-    go false q ih = ih q
-
 -- where it is not found, a page ends the walk exactly where the key's place is in it
-ends-test : (h : ℕ → ℕ) (k : ℕ) (rs : List Record) → length rs ≤ 12 → Sorted (rankIn key h) rs → seek (rankIn key h) (rankOf h k) rs ≡ none
-    → endsOn h k rs ≡ ltb (ahead (rankIn key h) (rankOf h k) rs) 12
-ends-test h k rs few up e = go (ltb (length rs) 12) refl
+ends-test : (b : ℕ) (h : ℕ → ℕ) (k : ℕ) (rs : List Record) → length rs ≤ b → Sorted (rankIn key h) rs → seek (rankIn key h) (rankOf h k) rs ≡ none
+    → endsOn (rankIn key h) b (rankOf h k) rs ≡ ltb (ahead (rankIn key h) (rankOf h k) rs) b
+ends-test b h k rs few up e = go (ltb (length rs) b) refl
   where
-    go : (u : Bool) → ltb (length rs) 12 ≡ u → (u || lastAfter (rankIn key h) (rankOf h k) rs) ≡ ltb (ahead (rankIn key h) (rankOf h k) rs) 12
-    go true t = sym (lt-ltb (ahead (rankIn key h) (rankOf h k) rs) 12 (omega (arith, ltb-true (length rs) 12 t, ahead-le (rankIn key h) (rankOf h k) rs)))
+    go : (u : Bool) → ltb (length rs) b ≡ u → (u || lastAfter (rankIn key h) (rankOf h k) rs) ≡ ltb (ahead (rankIn key h) (rankOf h k) rs) b
+    go true t = sym (lt-ltb (ahead (rankIn key h) (rankOf h k) rs) b (omega (arith, ltb-true (length rs) b t, ahead-le (rankIn key h) (rankOf h k) rs)))
     go false t =
-        let n : length rs ≡ 12 = omega (arith, ltb-false (length rs) 12 t) in
+        let n : length rs ≡ b = omega (arith, ltb-false (length rs) b t) in
         rw n at (sym (ahead-all (rankIn key h) (rankOf h k) rs up e))
 
 -- what is left of the walk from page a on, where n pages were read
 abbrev pub walkLeft : (ℕ → ℕ) → List ℕ → (cap k a n : ℕ) → Met
-walkLeft h area cap k a n = meets h k a n (pagesFrom h area (cap - a) a)
+walkLeft h area cap k a n = meets 12 h k a n (pagesFrom h area (cap - a) a)
 
 module _ (h : ℕ → ℕ) (area : List ℕ) (cap k a n : ℕ) where
   -- at the home the whole of it is left
@@ -139,7 +130,7 @@ module _ {h : ℕ → ℕ} {area : List ℕ} {cap a : ℕ} {j : Judged} (seen : 
     -- the walk at a good page
     at-page : walkLeft h area cap k a n
         ≡ onHeld (heldAt k 0 rs) (λ i v. Found a i (j .page .count) v (n + 1))
-        (cond (endsOn h k rs) (Ends a (ahead (rankIn key h) (rankOf h k) rs) (j .page .count) (n + 1)) (walkLeft h area cap k (a + 1) (n + 1)))
+        (cond (endsOn (rankIn key h) 12 (rankOf h k) rs) (Ends a (ahead (rankIn key h) (rankOf h k) rs) (j .page .count) (n + 1)) (walkLeft h area cap k (a + 1) (n + 1)))
     at-page = rw (pages-next seen, page-read seen g, records-count (j .page), add-one n, add-one a)
 
     -- a slot that holds the key ends it
@@ -151,10 +142,10 @@ module _ {h : ℕ → ℕ} {area : List ℕ} {cap a : ℕ} {j : Judged} (seen : 
       place-is : at ≡ ahead (rankIn key h) (rankOf h k) rs
       place-is = left-place h k w f
 
-      ends : endsOn h k rs ≡ ltb at 12
+      ends : endsOn (rankIn key h) 12 (rankOf h k) rs ≡ ltb at 12
       ends =
-          let sought : seek (rankIn key h) (rankOf h k) rs ≡ none = seek-key key h k rs small (rows .small) ∙ held-seek k 0 rs (left-away h k w f) in
-          rw place-is (ends-test h k rs (page-known seen g .few) (rows .rising) sought)
+          let sought : seek (rankIn key h) (rankOf h k) rs ≡ none = seek-key key h k rs small (rows .small) ∙ away k rs (left-away h k w f) in
+          rw place-is (ends-test 12 h k rs (page-known seen g .few) (rows .rising) sought)
 
       -- a page with the place ends the walk
       pub walk-ends : at < 12 → Ends a at (j .page .count) (n + 1) ≡ walkLeft h area cap k a n
@@ -163,3 +154,39 @@ module _ {h : ℕ → ℕ} {area : List ℕ} {cap a : ℕ} {j : Judged} (seen : 
       -- else it goes on
       pub walk-on : 12 ≤ at → walkLeft h area cap k (a + 1) (n + 1) ≡ walkLeft h area cap k a n
       walk-on l = sym (at-page ∙ rw (left-away h k w f, ends, le-ltb at 12 l))
+
+-- a page that is good, and counted
+pub record Counted (h : ℕ → ℕ) (area : List ℕ) (a c : ℕ) : Type 0 where
+  pub read : readPage h a (partAt area a) ≡ some (held area a)
+  pub count : c ≡ length (held area a)
+
+module _ (h : ℕ → ℕ) (area : List ℕ) (k : ℕ) where
+  -- so is the page where a walk ends, and it tells the key's place there
+  abbrev pub Known : Met → Type 0
+  Known (Found a i c v n) = Counted h area a c
+  Known (mets.Broken a n) = Unit {0}
+  Known (Ends a i c n) = Counted h area a c × (i ≡ ahead (rankIn key h) (rankOf h k) (held area a))
+  Known (mets.AtEnd n) = Unit {0}
+
+  meets-known : (m a n : ℕ) → Known (meets 12 h k a n (pagesFrom h area m a))
+  meets-known zero a n = tt
+  meets-known (suc m) a n = go (readPage h a (partAt area a)) refl (meets-known m (suc a) (suc n))
+    where
+      on : Met
+      on = meets 12 h k (suc a) (suc n) (pagesFrom h area m (suc a))
+
+      good : (p : List Record) → Counted h area a (length p) → p ≡ held area a → (o : Option (ℕ × ℕ)) (u : Bool) → Known on
+          → Known (onHeld o (λ i v. Found a i (length p) v (suc n)) (cond u (Ends a (ahead (rankIn key h) (rankOf h k) p) (length p) (suc n)) on))
+      good p w e (some s) u t = w
+      good p w e none true t = (w, ap (ahead (rankIn key h) (rankOf h k)) e)
+      good p w e none false t = t
+
+      go : (o : Option (List Record)) → readPage h a (partAt area a) ≡ o → Known on → Known (meets 12 h k a n (o ∷ pagesFrom h area m (suc a)))
+      go none e t = tt
+      go (some p) e t =
+          let s : p ≡ held area a = read-good h a (partAt area a) p e .records in
+          good p (record { read = rw s at e; count = ap length s }) s (heldAt k 0 p) (endsOn (rankIn key h) 12 (rankOf h k) p) t
+
+  pub walk-known : (cap : ℕ) {m : Met} (e : Met) → m ≡ walk h area cap k → m ≡ e → Known e
+  unfolding walk
+  walk-known cap e is q = subst Known (sym is ∙ q) (meets-known (cap - h k) (h k) 0)

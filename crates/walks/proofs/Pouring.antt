@@ -15,7 +15,7 @@ use Rattle.pages.specs.Page.{Record, key, rank, recordsIn, inMemory}
 use Rattle.pages.specs.Places.{ahead}
 use Rattle.pages.specs.steps.Slots.{opened, recordsOf, pushed}
 use Rattle.pages.specs.Area.{partAt, withPage}
-use Rattle.pages.proofs.Memory.{memory}
+use Rattle.pages.proofs.Memory.{page-records}
 use Rattle.pages.proofs.Read.{held-few, ready}
 use Rattle.pages.proofs.Places.{ins-opened, ahead-le}
 use Rattle.pages.proofs.Areas.{with-length, part-other}
@@ -32,13 +32,21 @@ place-sought h rs known at key home e l p = rw (e, ← l) p
 abbrev pub Untouched : (start area : List ℕ) → ℕ → Type 0
 Untouched start area a = (b : ℕ) → a ≤ b → partAt area b ≡ partAt start b
 
--- a page of the bytes of an area, in memory
-module _ (area : List ℕ) (a : ℕ) (page : Page) (is : page ≡ inMemory (held area a)) where
-  page-holds : recordsOf page ≡ held area a
-  page-holds = rw is (memory (held area a))
+-- a page stored in an area leaves the length and the pages after it
+module _ (area new : List ℕ) (a : ℕ) (p : List Record) (e : new ≡ withPage area a p) (fits : 256 * (a + 1) ≤ length area) where
+  pub stored-length : length new ≡ length area
+  stored-length = ap length e ∙ with-length area a p fits
 
-  pub page-fits : (page .count ≤ 12) × (page ≡ inMemory (recordsOf page))
-  page-fits = ready page (held area a) is (held-few (partAt area a))
+  pub stored-same : (entry : List ℕ) → Untouched entry area a → Untouched entry new (a + 1)
+  stored-same entry same b l = rw e (part-other area a p fits b (λ q. omega arith)) ∙ same b (omega arith)
+
+-- a page that may be changed and stored
+abbrev pub Kept : Page → Type 0
+Kept p = (p .count ≤ 12) × (p ≡ inMemory (recordsOf p))
+
+-- as it is when it is read
+pub read-kept : (p : Page) (l : List ℕ) → p ≡ inMemory (recordsIn l) → Kept p
+read-kept p l e = ready p (recordsIn l) e (held-few l)
 
 -- a turn puts record x at its place on page a
 pub record Turn (h : ℕ → ℕ) (start area : List ℕ) (a : ℕ) (x : Record) (page : Page) (place : ℕ) : Type 0 where
@@ -59,7 +67,7 @@ place-right h start area a x page first at new place rest is same known e = go (
         let f : a ≡ first = eqb-true a first t in
         let s : x ≡ new = same f in
         e ∙ rw (f, s) known
-    go false t e = rw (page-holds area a page is, rest a (omega arith)) at e
+    go false t e = rw (page-records page (held area a) is, rest a (omega arith)) at e
 
 module _ {h : ℕ → ℕ} {start area : List ℕ} {a : ℕ} {x : Record} {page : Page} {place : ℕ} (t : Turn h start area a x page place) where
   -- the records of the page with x among them
@@ -67,7 +75,7 @@ module _ {h : ℕ → ℕ} {start area : List ℕ} {a : ℕ} {x : Record} {page 
   q = ins (rankIn key h) x (held start a)
 
   holds : recordsOf page ≡ held start a
-  holds = page-holds area a page (t .is) ∙ ap recordsIn (t .rest a (omega arith))
+  holds = page-records page (held area a) (t .is) ∙ ap recordsIn (t .rest a (omega arith))
 
   pub place-within : place ≤ page .count
   place-within = omega (arith, t .at, ahead-le (rank h) (rank h x) (held start a), ap length holds, records-count page)
@@ -87,20 +95,12 @@ module _ {h : ℕ → ℕ} {start area : List ℕ} {a : ℕ} {x : Record} {page 
     goes-on = rw opens at (ap (λ (o : Pushed). o .over) gives)
 
     module _ (to : List ℕ) (stored : to ≡ withPage area a (recordsOf (out .page))) (fits : 256 * (a + 1) ≤ length area) where
-      -- the area stays as long
-      pub pour-length : length to ≡ length area
-      pour-length = ap length stored ∙ with-length area a (recordsOf (out .page)) fits
-
-      -- the pages after it stay
-      pub pour-rest : Untouched start to (a + 1)
-      pour-rest b l = rw stored (part-other area a (recordsOf (out .page)) fits b (λ e. omega arith)) ∙ t .rest b (omega arith)
-
-      -- and what is left to write is the same
+      -- what is left to write is the same
       pub pour-turn : (last : ℕ) → a ≤ last
           → writes to (poured h start (suc last - (a + 1)) (a + 1) (out .over)) ≡ writes area (poured h start (suc last - a) a x)
       pour-turn last l =
           let e : suc last - a ≡ suc (suc last - (a + 1)) = omega arith in
-          let p : recordsOf (out .page) ≡ take 12 q = rw next-is (memory (take 12 q)) in
+          let p : recordsOf (out .page) ≡ take 12 q = page-records (out .page) (take 12 q) next-is in
           rw (e, stored, p, goes-on, add-one)
 
 -- at the start all is left to write

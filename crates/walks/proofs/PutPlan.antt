@@ -11,11 +11,10 @@ use borrow.Author.Tests.{ltb-true, lt-ltb, le-ltb}
 use lib.Dec.{ltb}
 use lib.ListN.{length, take, getD}
 use lib.Seq.{take-all}
-use Rattle.placing.specs.Lay.{rankOf, rankIn, ins}
+use Rattle.placing.specs.Lay.{rankIn, ins}
 use Rattle.placing.proofs.Order.{ins-length}
 use Rattle.pages.specs.declared.Judged.{Judged}
 use Rattle.pages.specs.Page.{Record, key, value, readPage}
-use Rattle.pages.specs.Places.{ahead}
 use Rattle.pages.specs.Area.{partAt, pagesFrom}
 use Rattle.pages.proofs.RoundTrip.{read-good}
 use Rattle.state.specs.declared.Answer.the-variants.{Broken, NoRoom}
@@ -25,14 +24,14 @@ use Rattle.walks.specs.declared.Met.the-variants.{Found, Ends}
 use Rattle.walks.specs.declared.Met.the-variants as mets
 use Rattle.walks.specs.declared.Plan.{Plan}
 use Rattle.walks.specs.declared.Plan.the-variants.{Go, Stop}
-use Rattle.walks.specs.Walks.{Pages, went, stopped, andPage, heldAt, onHeld, endsOn, meets, walk, carry, putMet, putWalk}
+use Rattle.walks.specs.Walks.{Pages, went, stopped, andPage, walk, carry, putMet, putWalk}
 use Rattle.walks.specs.steps.Plans.{held, poured, reached, planned, placedIn}
 use Rattle.walks.proofs.Scanning.{records-count}
-use Rattle.walks.proofs.Meeting.{Seen, pages-next, page-broken, page-read}
+use Rattle.walks.proofs.Meeting.{Seen, pages-next, page-broken, page-read, Known, walk-known}
 
 -- what is left of the way to the first page with room, from page a on, where n pages were read
 abbrev pub reachLeft : (ℕ → ℕ) → List ℕ → (cap f at a n : ℕ) → Plan
-reachLeft h area cap f at a n = reached h f at a n (pagesFrom h area (cap - a) a)
+reachLeft h area cap f at a n = reached 12 f at a n (pagesFrom h area (cap - a) a)
 
 -- past the end there is no room
 pub reach-past : (h : ℕ → ℕ) (area : List ℕ) (cap f at a n : ℕ) → cap ≤ a → Stop (NoRoom n) ≡ reachLeft h area cap f at a n
@@ -57,31 +56,32 @@ module _ {h : ℕ → ℕ} {area : List ℕ} {cap a : ℕ} {j : Judged} (seen : 
     pub reach-on : 12 ≤ j .page .count → reachLeft h area cap f at (a + 1) (n + 1) ≡ reachLeft h area cap f at a n
     reach-on l = sym (at-page ∙ rw (le-ltb (j .page .count) 12 l))
 
-module _ (h : ℕ → ℕ) (area : List ℕ) (f at : ℕ) where
+module _ (f at : ℕ) where
   -- a plan from page f on whose last page is page a or a later one
-  abbrev LastFrom : ℕ → Plan → Type 0
+  abbrev pub LastFrom : ℕ → Plan → Type 0
   LastFrom a (Go g i last read) = (g ≡ f) × (i ≡ at) × (a ≤ last)
   LastFrom a (Stop why) = Unit {0}
 
-  later : (a : ℕ) (p : Plan) → LastFrom (suc a) p → LastFrom a p
+  pub later : (a : ℕ) (p : Plan) → LastFrom (suc a) p → LastFrom a p
   later a (Go g i last read) l = (l .0, l .1, omega arith)
   later a (Stop why) l = tt
 
-  reached-from : (a n : ℕ) (ps : List (Option (List Record))) → LastFrom a (reached h f at a n ps)
-  reached-from a n [] = tt
-  reached-from a n (none ∷ ps) = tt
-  reached-from a n (some p ∷ ps) = go (ltb (length p) 12) (later a (reached h f at (suc a) (suc n) ps) (reached-from (suc a) (suc n) ps))
+  reached-from : (b a n : ℕ) (ps : List (Option (List Record))) → LastFrom a (reached b f at a n ps)
+  reached-from b a n [] = tt
+  reached-from b a n (none ∷ ps) = tt
+  reached-from b a n (some p ∷ ps) = go (ltb (length p) b) (later a (reached b f at (suc a) (suc n) ps) (reached-from b (suc a) (suc n) ps))
     where
-      go : (u : Bool) → LastFrom a (reached h f at (suc a) (suc n) ps) → LastFrom a (cond u (Go f at a (suc n)) (reached h f at (suc a) (suc n) ps))
+      go : (u : Bool) → LastFrom a (reached b f at (suc a) (suc n) ps) → LastFrom a (cond u (Go f at a (suc n)) (reached b f at (suc a) (suc n) ps))
       go true l = (refl, refl, omega arith)
       go false l = l
 
+module _ (h : ℕ → ℕ) (area : List ℕ) (f at : ℕ) where
   -- the pages that are poured from page a on, which is the m-th after the first of the plan
   abbrev pouredOn : (m a : ℕ) → Record → (n b i : ℕ) → Pages
   pouredOn m a x n b i = poured h area (suc (n - m)) a x
 
   -- a full page before those that are left
-  wrote-on : (m a : ℕ) (x : Record) (p : Plan) → f + m ≡ a → LastFrom (suc a) p
+  wrote-on : (m a : ℕ) (x : Record) (p : Plan) → f + m ≡ a → LastFrom f at (suc a) p
       → andPage a (take 12 (ins (rankIn key h) x (held area a))) (planned (pouredOn (suc m) (suc a) (getD (ins (rankIn key h) x (held area a)) 12 x)) p)
       ≡ planned (pouredOn m a x) p
   wrote-on m a x (Stop why) e l = refl
@@ -90,11 +90,11 @@ module _ (h : ℕ → ℕ) (area : List ℕ) (f at : ℕ) where
       rw k
 
   module _ (a n m : ℕ) (x : Record) (ps : List (Option (List Record))) (e : f + m ≡ a)
-      (on : (y : Record) → carry h (suc a) (suc n) (suc m) y ps ≡ planned (pouredOn (suc m) (suc a) y) (reached h f at (suc a) (suc n) ps)) where
+      (on : (y : Record) → carry 12 h (suc a) (suc n) (suc m) y ps ≡ planned (pouredOn (suc m) (suc a) y) (reached 12 f at (suc a) (suc n) ps)) where
     good-page : (p : List Record) → p ≡ held area a → (u : Bool) → ltb (length p) 12 ≡ u
         → cond u (went ((a, ins (rankIn key h) x p) ∷ []) (suc n) m)
-        (andPage a (take 12 (ins (rankIn key h) x p)) (carry h (suc a) (suc n) (suc m) (getD (ins (rankIn key h) x p) 12 x) ps))
-        ≡ planned (pouredOn m a x) (cond u (Go f at a (suc n)) (reached h f at (suc a) (suc n) ps))
+        (andPage a (take 12 (ins (rankIn key h) x p)) (carry 12 h (suc a) (suc n) (suc m) (getD (ins (rankIn key h) x p) 12 x) ps))
+        ≡ planned (pouredOn m a x) (cond u (Go f at a (suc n)) (reached 12 f at (suc a) (suc n) ps))
     good-page p q true t =
         let k : a - f ≡ m = omega arith in
         let z : m - m ≡ 0 = omega arith in
@@ -102,76 +102,40 @@ module _ (h : ℕ → ℕ) (area : List ℕ) (f at : ℕ) where
         let w : take 12 (ins (rankIn key h) x p) ≡ ins (rankIn key h) x p = take-all 12 (ins (rankIn key h) x p) l in
         rw (k, z, ← q, w)
     good-page p q false t =
-        rw (q, on (getD (ins (rankIn key h) x (held area a)) 12 x)) (wrote-on m a x (reached h f at (suc a) (suc n) ps) e (reached-from (suc a) (suc n) ps))
+        rw (q, on (getD (ins (rankIn key h) x (held area a)) 12 x)) (wrote-on m a x (reached 12 f at (suc a) (suc n) ps) e (reached-from f at 12 (suc a) (suc n) ps))
 
-    any-page : (o : Option (List Record)) → readPage h a (partAt area a) ≡ o → carry h a n m x (o ∷ ps) ≡ planned (pouredOn m a x) (reached h f at a n (o ∷ ps))
+    any-page : (o : Option (List Record)) → readPage h a (partAt area a) ≡ o → carry 12 h a n m x (o ∷ ps) ≡ planned (pouredOn m a x) (reached 12 f at a n (o ∷ ps))
     any-page none r = refl
     any-page (some p) r = good-page p (read-good h a (partAt area a) p r .records) (ltb (length p) 12) refl
 
   -- what is carried from page a on is what the plan pours
   carried : (c a n m : ℕ) (x : Record) → f + m ≡ a
-      → carry h a n m x (pagesFrom h area c a) ≡ planned (pouredOn m a x) (reached h f at a n (pagesFrom h area c a))
+      → carry 12 h a n m x (pagesFrom h area c a) ≡ planned (pouredOn m a x) (reached 12 f at a n (pagesFrom h area c a))
   carried zero a n m x e = refl
   carried (suc c) a n m x e =
       any-page a n m x (pagesFrom h area c (suc a)) e (λ y. carried c (suc a) (suc n) (suc m) y (omega arith)) (readPage h a (partAt area a)) refl
 
-  from-first : (x : Record) (p : Plan) → LastFrom f p → planned (pouredOn 0 f x) p ≡ planned (λ n a i. poured h area (suc n) a x) p
+  from-first : (x : Record) (p : Plan) → LastFrom f at f p → planned (pouredOn 0 f x) p ≡ planned (λ n a i. poured h area (suc n) a x) p
   from-first x (Stop why) l = refl
   from-first x (Go g i last read) l = rw (sub-zero, l .0)
 
   -- from a good page on, a put is its plan
   pub put-planned : (cap n : ℕ) (x : Record) (p : List Record) → f < cap → 1 ≤ n → readPage h f (partAt area f) ≡ some p
-      → planned (λ k b i. poured h area (suc k) b x) (cond (ltb (length p) 12) (Go f at f n) (reached h f at (suc f) n (pagesFrom h area (cap - suc f) (suc f))))
-      ≡ carry h f (n - 1) 0 x (pagesFrom h area (cap - f) f)
+      → planned (λ k b i. poured h area (suc k) b x) (cond (ltb (length p) 12) (Go f at f n) (reached 12 f at (suc f) n (pagesFrom h area (cap - suc f) (suc f))))
+      ≡ carry 12 h f (n - 1) 0 x (pagesFrom h area (cap - f) f)
   put-planned cap n x p l k r =
       let e : cap - f ≡ suc (cap - suc f) = omega arith in
       let q : suc (n - 1) ≡ n = omega arith in
       let ps : List (Option (List Record)) = pagesFrom h area (cap - suc f) (suc f) in
-      let plan : Plan = cond (ltb (length p) 12) (Go f at f n) (reached h f at (suc f) n ps) in
-      let first : reached h f at f (n - 1) (pagesFrom h area (cap - f) f) ≡ plan = rw (e, r, q) in
-      let from : LastFrom f plan = rw first at (reached-from f (n - 1) (pagesFrom h area (cap - f) f)) in
+      let plan : Plan = cond (ltb (length p) 12) (Go f at f n) (reached 12 f at (suc f) n ps) in
+      let first : reached 12 f at f (n - 1) (pagesFrom h area (cap - f) f) ≡ plan = rw (e, r, q) in
+      let from : LastFrom f at f plan = rw first at (reached-from f at 12 f (n - 1) (pagesFrom h area (cap - f) f)) in
       sym (carried (cap - f) f (n - 1) 0 x (omega arith) ∙ rw first (from-first x plan from))
 
 module _ (h : ℕ → ℕ) (area : List ℕ) (x : Record) where
   -- the key that is sought
   abbrev k : ℕ
   k = key x
-
-  -- page a is good and has c records, and the key's place there is i
-  pub record EndsAt (a i c : ℕ) : Type 0 where
-    pub read : readPage h a (partAt area a) ≡ some (held area a)
-    pub count : c ≡ length (held area a)
-    pub place : i ≡ ahead (rankIn key h) (rankOf h k) (held area a)
-
-  -- a walk that ends on a page does so at the key's place there
-  meets-ends : (m b r a i c n : ℕ) → meets h k b r (pagesFrom h area m b) ≡ Ends a i c n → EndsAt a i c
-  meets-ends zero b r a i c n e = absurd (let z : _≡_ {A = ℕ} 0 1 = cc in omega arith)
-  meets-ends (suc m) b r a i c n e = go (readPage h b (partAt area b)) refl e (meets-ends m (suc b) (suc r) a i c n)
-    where
-      ps : List (Option (List Record))
-      ps = pagesFrom h area m (suc b)
-
-      here : (p : List Record) → readPage h b (partAt area b) ≡ some p
-          → Ends b (ahead (rankIn key h) (rankOf h k) p) (length p) (suc r) ≡ Ends a i c n → EndsAt a i c
-      here p q e =
-          let s : p ≡ held area b = read-good h b (partAt area b) p q .records in
-          let t : b ≡ a = cc in
-          let u : ahead (rankIn key h) (rankOf h k) p ≡ i = cc in
-          let w : length p ≡ c = cc in
-          rw (← t) (record { read = rw s at q; count = rw s at (sym w); place = rw s at (sym u) })
-
-      good : (p : List Record) → readPage h b (partAt area b) ≡ some p → (o : Option (ℕ × ℕ)) (u : Bool)
-          → onHeld o (λ j v. Found b j (length p) v (suc r))
-          (cond u (Ends b (ahead (rankIn key h) (rankOf h k) p) (length p) (suc r)) (meets h k (suc b) (suc r) ps)) ≡ Ends a i c n
-          → (meets h k (suc b) (suc r) ps ≡ Ends a i c n → EndsAt a i c) → EndsAt a i c
-      good p q (some w) u e ih = absurd (let z : _≡_ {A = ℕ} 0 1 = cc in omega arith)
-      good p q none true e ih = here p q e
-      good p q none false e ih = ih e
-
-      go : (o : Option (List Record)) → readPage h b (partAt area b) ≡ o → meets h k b r (o ∷ ps) ≡ Ends a i c n
-          → (meets h k (suc b) (suc r) ps ≡ Ends a i c n → EndsAt a i c) → EndsAt a i c
-      go none q e ih = absurd (let z : _≡_ {A = ℕ} 0 1 = cc in omega arith)
-      go (some p) q e ih = good p q (heldAt k 0 p) (endsOn h k p) e ih
 
   -- each page that a put meets, and what it then does
   module _ (cap : ℕ) (m : Met) (is : m ≡ walk h area cap k) where
@@ -189,15 +153,15 @@ module _ (h : ℕ → ℕ) (area : List ℕ) (x : Record) where
     put-past n e = put-met (mets.AtEnd n) e
 
     module _ (a i c n : ℕ) (e : m ≡ Ends a i c n) where
-      pub put-at : EndsAt a i c
-      unfolding walk
-      put-at = meets-ends (cap - h k) (h k) 0 a i c n (sym is ∙ e)
+      -- what is known of the ending page
+      pub put-at : Known h area k (Ends a i c n)
+      put-at = walk-known h area k cap (Ends a i c n) is e
 
       put-ends : a < cap → 1 ≤ n
           → planned (λ n a i. poured h area (suc n) a x) (cond (ltb c 12) (Go a i a n) (reachLeft h area cap a i (suc a) n)) ≡ putWalk h area cap x
       put-ends l s =
-          let w : c ≡ length (held area a) = put-at .count in
-          rw w (put-planned h area a i cap n x (held area a) l s (put-at .read)) ∙ put-met (Ends a i c n) e
+          let w : c ≡ length (held area a) = put-at .0 .count in
+          rw w (put-planned h area a i cap n x (held area a) l s (put-at .0 .read)) ∙ put-met (Ends a i c n) e
 
       -- with room the ending page is the last
       pub put-here : a < cap → 1 ≤ n → c < 12 → planned (λ n a i. poured h area (suc n) a x) (Go a i a n) ≡ putWalk h area cap x
@@ -208,10 +172,10 @@ module _ (h : ℕ → ℕ) (area : List ℕ) (x : Record) where
           → planned (λ n a i. poured h area (suc n) a x) p ≡ putWalk h area cap x
       put-on l s t p q = rw q (rw (le-ltb c 12 t) at (put-ends l s))
 
-      placed : (b : ℕ) (p : Plan) → LastFrom h area a i b p → placedIn h area k p
-      placed b (Go f at last read) l = l .1 ∙ put-at .place ∙ rw (l .0)
+      placed : (b : ℕ) (p : Plan) → LastFrom a i b p → placedIn h area k p
+      placed b (Go f at last read) l = l .1 ∙ put-at .1 ∙ rw (l .0)
       placed b (Stop why) l = tt
 
       -- with the key's place on the first page of the plan
       pub put-placed : (p : Plan) → p ≡ reachLeft h area cap a i (suc a) n → placedIn h area k p
-      put-placed p q = rw q (placed (suc a) (reachLeft h area cap a i (suc a) n) (reached-from h area a i (suc a) n (pagesFrom h area (cap - suc a) (suc a))))
+      put-placed p q = rw q (placed (suc a) (reachLeft h area cap a i (suc a) n) (reached-from a i 12 (suc a) n (pagesFrom h area (cap - suc a) (suc a))))

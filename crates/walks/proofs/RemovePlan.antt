@@ -3,7 +3,7 @@ use mathlib.Core.Path.{_≡_, refl, sym, ap, _∙_}
 use mathlib.Core.Bool.{Bool, true, false, cond}
 use mathlib.Core.Option.{Option, none, some}
 use mathlib.Core.List.{List, [], _∷_}
-use Prim.Native.Nat.{ℕ, zero, suc, _+_, _-_, _≤_, _<_}
+use Prim.Native.Nat.{ℕ, zero, suc, _+_, _-_, _<_}
 use native.Mathlib.Nat.{zero-add}
 use native.Mathlib.Omega.{arith}
 use lib.Dec.{leb, ltb}
@@ -23,12 +23,13 @@ use Rattle.walks.specs.declared.Plan.{Plan}
 use Rattle.walks.specs.declared.Plan.the-variants.{Go, Stop}
 use Rattle.walks.specs.Walks.{Walked, went, stopped, andPage, pullBack}
 use Rattle.walks.specs.steps.Plans.{held, firstOf, backed, drawn, reachedBack, planned}
+use Rattle.walks.proofs.PutPlan.{LastFrom, later}
 
 -- a record at its place from the back, where there is room for it
-back-ins : (h : ℕ → ℕ) (y : Record) (s : List Record) → Sorted (rankIn key h) s → length s < 12 → backed h y s ≡ ins (rankIn key h) y s
-back-ins h y s k n =
+back-ins : (b : ℕ) (h : ℕ → ℕ) (y : Record) (s : List Record) → Sorted (rankIn key h) s → length s < b → backed b h y s ≡ ins (rankIn key h) y s
+back-ins b h y s k n =
     rw (back-ahead (rankIn key h) (rankIn key h y) vacant s k, ← ins-opened (rankIn key h) y s)
-    (take-all 12 (ins (rankIn key h) y s) (omega (arith, ins-length (rankIn key h) y s)))
+    (take-all b (ins (rankIn key h) y s) (omega (arith, ins-length (rankIn key h) y s)))
 
 -- closing up a slot keeps records sorted
 module _ {R : Type 0} where
@@ -50,41 +51,33 @@ module _ {R : Type 0} where
   unfolding closed
   closed-first y q = refl
 
+-- a plan begins where it was asked to, and goes to page a at least
+begins : (b : ℕ) (h : ℕ → ℕ) (f at a n : ℕ) (ps : List (Option (List Record))) → LastFrom f at a (reachedBack b h f at a n ps)
+begins b h f at a n [] = (refl, refl, omega arith)
+begins b h f at a n (none ∷ ps) = tt
+begins b h f at a n (some [] ∷ ps) = (refl, refl, omega arith)
+begins b h f at a n (some (y ∷ q) ∷ ps) = go (leb (h (key y)) a) (ltb (suc (length q)) b) (begins b h f at (suc a) (suc n) ps)
+  where
+    go : (u v : Bool) → LastFrom f at (suc a) (reachedBack b h f at (suc a) (suc n) ps)
+        → LastFrom f at a (cond u (cond v (Go f at (suc a) (suc n)) (reachedBack b h f at (suc a) (suc n) ps)) (Go f at a (suc n)))
+    go false v l = (refl, refl, omega arith)
+    go true true l = (refl, refl, omega arith)
+    go true false l = later f at a (reachedBack b h f at (suc a) (suc n) ps) l
+
 module _ (h : ℕ → ℕ) (area : List ℕ) where
   -- what a plan comes to from page a on, after m records moved
   abbrev from : (a slot m : ℕ) → Plan → Walked
   from a slot m (Go f at last read) = went (drawn h area (last - a) a slot) read (m + (last - a))
   from a slot m (Stop why) = stopped why
 
-  -- a plan that begins where it was asked to, and goes to page a at least
-  abbrev Begins : (f at a : ℕ) → Plan → Type 0
-  Begins f at a (Go f′ at′ last read) = (f′ ≡ f) × (at′ ≡ at) × (a ≤ last)
-  Begins f at a (Stop why) = Unit {0}
-
-  further : (f at a : ℕ) (p : Plan) → Begins f at (suc a) p → Begins f at a p
-  further f at a (Go f′ at′ last read) b = (b .0, b .1, omega arith)
-  further f at a (Stop why) b = tt
-
-  begins : (f at a n : ℕ) (ps : List (Option (List Record))) → Begins f at a (reachedBack h f at a n ps)
-  begins f at a n [] = (refl, refl, omega arith)
-  begins f at a n (none ∷ ps) = tt
-  begins f at a n (some [] ∷ ps) = (refl, refl, omega arith)
-  begins f at a n (some (y ∷ q) ∷ ps) = go (leb (h (key y)) a) (ltb (suc (length q)) 12) (begins f at (suc a) (suc n) ps)
-    where
-      go : (u v : Bool) → Begins f at (suc a) (reachedBack h f at (suc a) (suc n) ps)
-          → Begins f at a (cond u (cond v (Go f at (suc a) (suc n)) (reachedBack h f at (suc a) (suc n) ps)) (Go f at a (suc n)))
-      go false v b = (refl, refl, omega arith)
-      go true true b = (refl, refl, omega arith)
-      go true false b = further f at a (reachedBack h f at (suc a) (suc n) ps) b
-
   -- a plan from its first page on
-  from-first : (f at : ℕ) (p : Plan) → Begins f at f p → planned (drawn h area) p ≡ from f at 0 p
+  from-first : (f at : ℕ) (p : Plan) → LastFrom f at f p → planned (drawn h area) p ≡ from f at 0 p
   from-first f at (Go f′ at′ last read) b = rw (b .0, b .1, zero-add (last - f))
   from-first f at (Stop why) b = refl
 
   -- page a is filled, and the plan goes on from the next page
-  from-next : (f at a slot m : ℕ) (p : Plan) → Begins f at (suc a) p
-      → from a slot m p ≡ andPage a (backed h (firstOf (held area (suc a))) (closed slot (held area a))) (from (suc a) 0 (suc m) p)
+  from-next : (f at a slot m : ℕ) (p : Plan) → LastFrom f at (suc a) p
+      → from a slot m p ≡ andPage a (backed 12 h (firstOf (held area (suc a))) (closed slot (held area a))) (from (suc a) 0 (suc m) p)
   from-next f at a slot m (Go f′ at′ last read) b =
       let e : last - a ≡ suc (last - suc a) = omega arith in
       let k : m + suc (last - suc a) ≡ suc m + (last - suc a) = omega arith in
@@ -100,7 +93,7 @@ module _ (h : ℕ → ℕ) (area : List ℕ) where
 
   -- from a page that lost a record on, the plan comes to the walk
   pulled : (k f at a slot n m : ℕ) → Sorted (rankIn key h) (closed slot (held area a)) → length (closed slot (held area a)) < 12
-      → from a slot m (reachedBack h f at a n (pagesFrom h area k (suc a))) ≡ pullBack h a n m (closed slot (held area a)) (pagesFrom h area k (suc a))
+      → from a slot m (reachedBack 12 h f at a n (pagesFrom h area k (suc a))) ≡ pullBack 12 h a n m (closed slot (held area a)) (pagesFrom h area k (suc a))
   pulled zero f at a slot n m s l = from-last f at a slot n m
   pulled (suc k) f at a slot n m s l = go (readPage h (suc a) (partAt area (suc a))) refl (pulled k f at (suc a) 0 (suc n) (suc m))
     where
@@ -112,23 +105,23 @@ module _ (h : ℕ → ℕ) (area : List ℕ) where
 
       -- the record that comes back is the first of the next page, which then is without it
       on : (u v : Bool) (y : Record) (q : List Record) → held area (suc a) ≡ y ∷ q
-          → from (suc a) 0 (suc m) (reachedBack h f at (suc a) (suc n) ps) ≡ pullBack h (suc a) (suc n) (suc m) (closed 0 (held area (suc a))) ps
-          → from a slot m (cond u (cond v (Go f at (suc a) (suc n)) (reachedBack h f at (suc a) (suc n) ps)) (Go f at a (suc n)))
-          ≡ cond u (andPage a (ins (rankIn key h) y p) (cond v (went ((suc a, q) ∷ []) (suc n) (suc m)) (pullBack h (suc a) (suc n) (suc m) q ps)))
+          → from (suc a) 0 (suc m) (reachedBack 12 h f at (suc a) (suc n) ps) ≡ pullBack 12 h (suc a) (suc n) (suc m) (closed 0 (held area (suc a))) ps
+          → from a slot m (cond u (cond v (Go f at (suc a) (suc n)) (reachedBack 12 h f at (suc a) (suc n) ps)) (Go f at a (suc n)))
+          ≡ cond u (andPage a (ins (rankIn key h) y p) (cond v (went ((suc a, q) ∷ []) (suc n) (suc m)) (pullBack 12 h (suc a) (suc n) (suc m) q ps)))
           (went ((a, p) ∷ []) (suc n) m)
       on false v y q e ih = from-last f at a slot (suc n) m
       on true true y q e ih =
           from-next f at a slot m (Go f at (suc a) (suc n)) (refl, refl, omega arith)
-          ∙ ap (andPage a (backed h (firstOf (held area (suc a))) p)) (from-last f at (suc a) 0 (suc n) (suc m))
-          ∙ rw (e, back-ins h y p s l, closed-first y q)
+          ∙ ap (andPage a (backed 12 h (firstOf (held area (suc a))) p)) (from-last f at (suc a) 0 (suc n) (suc m))
+          ∙ rw (e, back-ins 12 h y p s l, closed-first y q)
       on true false y q e ih =
-          from-next f at a slot m (reachedBack h f at (suc a) (suc n) ps) (begins f at (suc a) (suc n) ps)
-          ∙ rw (ih, e, back-ins h y p s l, closed-first y q)
+          from-next f at a slot m (reachedBack 12 h f at (suc a) (suc n) ps) (begins 12 h f at (suc a) (suc n) ps)
+          ∙ rw (ih, e, back-ins 12 h y p s l, closed-first y q)
 
       go : (o : Option (List Record)) → readPage h (suc a) (partAt area (suc a)) ≡ o
           → (Sorted (rankIn key h) (closed 0 (held area (suc a))) → length (closed 0 (held area (suc a))) < 12
-          → from (suc a) 0 (suc m) (reachedBack h f at (suc a) (suc n) ps) ≡ pullBack h (suc a) (suc n) (suc m) (closed 0 (held area (suc a))) ps)
-          → from a slot m (reachedBack h f at a n (o ∷ ps)) ≡ pullBack h a n m p (o ∷ ps)
+          → from (suc a) 0 (suc m) (reachedBack 12 h f at (suc a) (suc n) ps) ≡ pullBack 12 h (suc a) (suc n) (suc m) (closed 0 (held area (suc a))) ps)
+          → from a slot m (reachedBack 12 h f at a n (o ∷ ps)) ≡ pullBack 12 h a n m p (o ∷ ps)
       go none e ih = refl
       go (some []) e ih = from-last f at a slot (suc n) m
       go (some (y ∷ q)) e ih =
@@ -139,11 +132,11 @@ module _ (h : ℕ → ℕ) (area : List ℕ) where
 
   -- the plan of a remove from a page of twelve records comes to the walk
   pub remove-plan : (cap first slot n : ℕ) → rises h (held area first) ≡ true → length (held area first) ≡ 12 → slot < 12
-      → planned (drawn h area) (reachedBack h first slot first n (pagesFrom h area (cap - suc first) (suc first)))
-      ≡ pullBack h first n 0 (closed slot (held area first)) (pagesFrom h area (cap - suc first) (suc first))
+      → planned (drawn h area) (reachedBack 12 h first slot first n (pagesFrom h area (cap - suc first) (suc first)))
+      ≡ pullBack 12 h first n 0 (closed slot (held area first)) (pagesFrom h area (cap - suc first) (suc first))
   remove-plan cap first slot n r e l =
       let ps : List (Option (List Record)) = pagesFrom h area (cap - suc first) (suc first) in
-      from-first first slot (reachedBack h first slot first n ps) (begins first slot first n ps)
+      from-first first slot (reachedBack 12 h first slot first n ps) (begins 12 h first slot first n ps)
       ∙ pulled (cap - suc first) first slot first slot n 0
       (sorted-closed (rankIn key h) slot (held area first) (rises-sorted h (held area first) r))
       (omega (arith, closed-length slot (held area first) (omega arith)))

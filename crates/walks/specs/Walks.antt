@@ -1,13 +1,14 @@
 -- The walks of find, put and remove on any bytes (01, 'The walks'). What is quoted is 01's. A page
--- is none where it is broken; h is the home of a key; n counts the pages read.
+-- is none where it is broken; b is the slots of a page; h is the home of a key; n counts the pages
+-- read.
 use Prim.Native.Nat.{ℕ, suc, _-_}
-use mathlib.Core.Bool.{Bool, cond, _||_}
+use mathlib.Core.Bool.{cond}
 use mathlib.Core.Option.{Option, none, some}
 use mathlib.Core.List.{List, [], _∷_}
 use lib.ListN.{length, take, getD}
 use lib.Dec.{leb, ltb, eqb}
 use Rattle.placing.specs.Lay.{rankOf, rankIn, ins}
-use Rattle.placing.specs.Walks.{lastAfter}
+use Rattle.placing.specs.Walks.{endsOn}
 use Rattle.pages.specs.Page.{Record, key, value, recordsIn}
 use Rattle.pages.specs.Places.{closed, ahead}
 use Rattle.pages.specs.Area.{partAt, pagesFrom, withPage}
@@ -27,11 +28,7 @@ abbrev pub onHeld : {A : Type 0} → Option (ℕ × ℕ) → (ℕ → ℕ → A)
 onHeld (some w) found missed = found (w .0) (w .1)
 onHeld none found missed = missed
 
-module _ (h : ℕ → ℕ) where
-  -- "a page that isn't full, or whose last record stands after the sought (home, key)"
-  abbrev pub endsOn : ℕ → List Record → Bool
-  endsOn k p = ltb (length p) 12 || lastAfter (rankIn key h) (rankOf h k) p
-
+module _ (b : ℕ) (h : ℕ → ℕ) where
   -- The walk to a key: "A broken page ends it (4). A page that holds the key ends it with the
   -- value. Otherwise a page that isn't full, or whose last record stands after the sought (home,
   -- key), ends it .. ; so does the end of the area." An ending page is told with the place of the
@@ -42,11 +39,11 @@ module _ (h : ℕ → ℕ) where
   meets k a n (some p ∷ ps) =
       let on = meets k (suc a) (suc n) ps in
       onHeld (heldAt k 0 p) (λ i v. Found a i (length p) v (suc n))
-      (cond (endsOn k p) (Ends a (ahead (rankIn key h) (rankOf h k) p) (length p) (suc n)) on)
+      (cond (endsOn (rankIn key h) b (rankOf h k) p) (Ends a (ahead (rankIn key h) (rankOf h k) p) (length p) (suc n)) on)
 
-  -- "Find starts at the home.": the walk in an area of cap pages
-  unfoldable pub walk : List ℕ → (cap k : ℕ) → Met
-  walk area cap k = meets k (h k) 0 (pagesFrom h area (cap - h k) (h k))
+-- "Find starts at the home.": the walk in an area of cap pages
+unfoldable pub walk : (ℕ → ℕ) → List ℕ → (cap k : ℕ) → Met
+walk h area cap k = meets 12 h k (h k) 0 (pagesFrom h area (cap - h k) (h k))
 
 -- Find: what the walk meets is the answer.
 abbrev pub findAnswer : Met → Answer
@@ -75,7 +72,7 @@ abbrev pub andPage : ℕ → List Record → Walked → Walked
 andPage a p (went ws n m) = went ((a, p) ∷ ws) n m
 andPage a p (stopped why) = stopped why
 
-module _ (h : ℕ → ℕ) where
+module _ (b : ℕ) (h : ℕ → ℕ) where
   -- Put, from the ending page on: "the record goes to its place in order on the ending page. If
   -- that page was full, its last record (the new one counted) goes to its place on the next page,
   -- and so on to the first page that wasn't full. Past the end ..: 7."
@@ -84,20 +81,8 @@ module _ (h : ℕ → ℕ) where
   carry a n m x (none ∷ ps) = stopped (Broken a (suc n))
   carry a n m x (some p ∷ ps) =
       let q = ins (rankIn key h) x p in
-      let on = carry (suc a) (suc n) (suc m) (getD q 12 x) ps in
-      cond (ltb (length p) 12) (went ((a, q) ∷ []) (suc n) m) (andPage a (take 12 q) on)
-
-  -- "Put walks likewise; a found key is 6, with the value held", or a clash (02, request 1: "13 ..
-  -- stands where 6 stood in the walk; 6 is now given only for equal values"); "where the walk met
-  -- only full pages to the end of the area: 7". The ending page counts once.
-  abbrev pub putMet : List ℕ → (cap : ℕ) → Record → Met → Walked
-  putMet area cap x (Found a i c v n) = stopped (again (value x) v n)
-  putMet area cap x (mets.Broken a n) = stopped (Broken a n)
-  putMet area cap x (Ends a i c n) = carry a (n - 1) 0 x (pagesFrom h area (cap - a) a)
-  putMet area cap x (mets.AtEnd n) = stopped (NoRoom n)
-
-  unfoldable pub putWalk : List ℕ → (cap : ℕ) → Record → Walked
-  putWalk area cap x = putMet area cap x (walk h area cap (key x))
+      let on = carry (suc a) (suc n) (suc m) (getD q b x) ps in
+      cond (ltb (length p) b) (went ((a, q) ∷ []) (suc n) m) (andPage a (take b q) on)
 
   -- Remove, where page a was full and p is what it still holds: "If the page was full and the next
   -- page exists and its first record has a home no higher than this page, that record comes back to
@@ -109,14 +94,27 @@ module _ (h : ℕ → ℕ) where
   pullBack a n m p (some (y ∷ q) ∷ ps) =
       let on = pullBack (suc a) (suc n) (suc m) q ps in
       cond (leb (h (key y)) a)
-      (andPage a (ins (rankIn key h) y p) (cond (ltb (suc (length q)) 12) (went ((suc a, q) ∷ []) (suc n) (suc m)) on))
+      (andPage a (ins (rankIn key h) y p) (cond (ltb (suc (length q)) b) (went ((suc a, q) ∷ []) (suc n) (suc m)) on))
       (went ((a, p) ∷ []) (suc n) m)
+
+module _ (h : ℕ → ℕ) where
+  -- "Put walks likewise; a found key is 6, with the value held", or a clash (02, request 1: "13 ..
+  -- stands where 6 stood in the walk; 6 is now given only for equal values"); "where the walk met
+  -- only full pages to the end of the area: 7". The ending page counts once.
+  abbrev pub putMet : List ℕ → (cap : ℕ) → Record → Met → Walked
+  putMet area cap x (Found a i c v n) = stopped (again (value x) v n)
+  putMet area cap x (mets.Broken a n) = stopped (Broken a n)
+  putMet area cap x (Ends a i c n) = carry 12 h a (n - 1) 0 x (pagesFrom h area (cap - a) a)
+  putMet area cap x (mets.AtEnd n) = stopped (NoRoom n)
+
+  unfoldable pub putWalk : List ℕ → (cap : ℕ) → Record → Walked
+  putWalk area cap x = putMet area cap x (walk h area cap (key x))
 
   -- "Remove finds the key and closes the slots up."
   abbrev pub removeMet : List ℕ → (cap : ℕ) → Met → Walked
   removeMet area cap (Found a i c v n) =
       let p = recordsIn (partAt area a) in
-      cond (ltb (length p) 12) (went ((a, closed i p) ∷ []) n 0) (pullBack a n 0 (closed i p) (pagesFrom h area (cap - suc a) (suc a)))
+      cond (ltb (length p) 12) (went ((a, closed i p) ∷ []) n 0) (pullBack 12 h a n 0 (closed i p) (pagesFrom h area (cap - suc a) (suc a)))
   removeMet area cap (mets.Broken a n) = stopped (Broken a n)
   removeMet area cap (Ends a i c n) = stopped (Absent n)
   removeMet area cap (mets.AtEnd n) = stopped (Absent n)

@@ -22,7 +22,7 @@ ghost use Rattle.walks.specs.steps.Plans.{poured, reached, planned, plan
 // From a full page on to the first page that isn't full.
 fn reach(area: &[u8], cap: usize, shape: Shape, first: usize, at: usize, seen: u32) -> Plan
     requires { ⌜ (cap ≤ 4096) × (length (now area) ≡ 256 * cap) × Ready shape × (first < cap) × (at ≤ 12) × (seen ≤ first + 1) ⌝ }
-    ensures { λ r. ⌜ r ≡ reached (homeIn shape) first at (suc first) seen (pagesFrom (homeIn shape) (now (area .entry)) (cap - suc first) (suc first)) ⌝ }
+    ensures { λ r. ⌜ r ≡ reached 12 first at (suc first) seen (pagesFrom (homeIn shape) (now (area .entry)) (cap - suc first) (suc first)) ⌝ }
     ensures within { λ r. ⌜ planIn cap r ⌝ }
 {
     let mut read = seen;

@@ -20,7 +20,7 @@ ghost use Rattle.walks.specs.steps.Plans.{backed, drawn, reachedBack, pl
 // the page before it.
 fn reach_back(area: &[u8], cap: usize, shape: Shape, first: usize, at: usize, seen: u32) -> Plan
     requires { ⌜ (cap ≤ 4096) × (length (now area) ≡ 256 * cap) × Ready shape × (first < cap) × (at ≤ 12) × (seen ≤ first + 1) ⌝ }
-    ensures { λ r. ⌜ r ≡ reachedBack (homeIn shape) first at first seen (pagesFrom (homeIn shape) (now (area .entry)) (cap - suc first) (suc first)) ⌝ }
+    ensures { λ r. ⌜ r ≡ reachedBack 12 (homeIn shape) first at first seen (pagesFrom (homeIn shape) (now (area .entry)) (cap - suc first) (suc first)) ⌝ }
     ensures within { λ r. ⌜ planIn cap r ⌝ }
 {
     let mut read = seen;
@@ -122,7 +122,7 @@ fn close_up(page: Page, slot: usize) -> Page
 // A page with the first record of the page after it in its place, sought from the back.
 fn take_back(page: Page, next: Page, shape: Shape) -> Page
     requires { ⌜ (page .count ≤ 12) × (page ≡ inMemory (recordsOf page)) × (next ≡ inMemory (recordsOf next)) × Ready shape ⌝ }
-    ensures { λ r. ⌜ r ≡ inMemory (backed (homeIn shape) (firstOf (recordsOf next)) (recordsOf page)) ⌝ }
+    ensures { λ r. ⌜ r ≡ inMemory (backed 12 (homeIn shape) (firstOf (recordsOf next)) (recordsOf page)) ⌝ }
 {
     let keys = next.keys;
     let values = next.values;

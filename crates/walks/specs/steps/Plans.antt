@@ -28,9 +28,9 @@ held area a = recordsIn (partAt area a)
 abbrev pub firstOf : List Record → Record
 firstOf rs = getD rs 0 vacant
 
--- a record at its place, sought from the back, and twelve records at most
-abbrev pub backed : (ℕ → ℕ) → Record → List Record → List Record
-backed h y s = take 12 (opened (upToBack (rankIn key h) (rankIn key h y) vacant s (length s)) y s)
+-- a record at its place, sought from the back, and b records at most
+abbrev pub backed : ℕ → (ℕ → ℕ) → Record → List Record → List Record
+backed b h y s = take b (opened (upToBack (rankIn key h) (rankIn key h y) vacant s (length s)) y s)
 
 module _ (h : ℕ → ℕ) (area : List ℕ) where
   -- n pages from a on, each with one record more; its last goes on
@@ -42,23 +42,23 @@ module _ (h : ℕ → ℕ) (area : List ℕ) where
   -- the last is closed up only
   abbrev pub drawn : (n a slot : ℕ) → Pages
   drawn zero a slot = (a, closed slot (held area a)) ∷ []
-  drawn (suc n) a slot = (a, backed h (firstOf (held area (suc a))) (closed slot (held area a))) ∷ drawn n (suc a) 0
+  drawn (suc n) a slot = (a, backed 12 h (firstOf (held area (suc a))) (closed slot (held area a))) ∷ drawn n (suc a) 0
 
-module _ (h : ℕ → ℕ) where
+module _ (b : ℕ) where
   -- the first phase of a put from page a on: the pages from the first to the one before it are full
   abbrev pub reached : (from at a n : ℕ) → List (Option (List Record)) → Plan
   reached f at a n [] = Stop (NoRoom n)
   reached f at a n (none ∷ ps) = Stop (Broken a (suc n))
-  reached f at a n (some p ∷ ps) = let on = reached f at (suc a) (suc n) ps in cond (ltb (length p) 12) (Go f at a (suc n)) on
+  reached f at a n (some p ∷ ps) = let on = reached f at (suc a) (suc n) ps in cond (ltb (length p) b) (Go f at a (suc n)) on
 
-  -- the first phase of a remove where page a loses a record of twelve
-  abbrev pub reachedBack : (from at a n : ℕ) → List (Option (List Record)) → Plan
-  reachedBack f at a n [] = Go f at a n
-  reachedBack f at a n (none ∷ ps) = Stop (Broken (suc a) (suc n))
-  reachedBack f at a n (some [] ∷ ps) = Go f at a (suc n)
-  reachedBack f at a n (some (y ∷ q) ∷ ps) =
-      let on = reachedBack f at (suc a) (suc n) ps in
-      cond (leb (h (key y)) a) (cond (ltb (suc (length q)) 12) (Go f at (suc a) (suc n)) on) (Go f at a (suc n))
+  -- the first phase of a remove where page a was full and loses a record; h is the home of a key
+  abbrev pub reachedBack : (ℕ → ℕ) → (from at a n : ℕ) → List (Option (List Record)) → Plan
+  reachedBack h f at a n [] = Go f at a n
+  reachedBack h f at a n (none ∷ ps) = Stop (Broken (suc a) (suc n))
+  reachedBack h f at a n (some [] ∷ ps) = Go f at a (suc n)
+  reachedBack h f at a n (some (y ∷ q) ∷ ps) =
+      let on = reachedBack h f at (suc a) (suc n) ps in
+      cond (leb (h (key y)) a) (cond (ltb (suc (length q)) b) (Go f at (suc a) (suc n)) on) (Go f at a (suc n))
 
 -- what a plan comes to: the pages that it writes, in each case with what was read and moved
 abbrev pub planned : ((n a slot : ℕ) → Pages) → Plan → Walked

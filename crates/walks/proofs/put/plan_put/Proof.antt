@@ -58,7 +58,7 @@ returns c =
       (
         (omega arith, w .0, omega arith),
         put-at (homeIn (a .shape)) (now (a .area)) (a .new) (a .cap) (m .result) (m .ensures .0)
-            (g .0 .0) (g .0 .1 .0) (g .0 .1 .1 .0) (g .0 .1 .1 .1 .0) (g .1) .place,
+            (g .0 .0) (g .0 .1 .0) (g .0 .1 .1 .0) (g .0 .1 .1 .1 .0) (g .1) .1,
       ),
     )
 

@@ -9,7 +9,7 @@ use lib.ListN.{length}
 use Rattle.homes.specs.Homes.{homeIn}
 use Rattle.walks.specs.Walks.{writes}
 use Rattle.walks.specs.steps.Plans.{poured}
-use Rattle.walks.proofs.Pouring.{Untouched, page-fits, Turn, place-right, place-within, next-fits, pour-starts, pour-length, pour-rest, pour-turn, pour-ends}
+use Rattle.walks.proofs.Pouring.{Untouched, stored-length, stored-same, read-kept, Turn, place-right, place-within, next-fits, pour-starts, pour-turn, pour-ends}
 use Rattle.walks.proofs.put.pour.Statement.{statement}
 use Rattle.walks.proofs.put.pour.Tie as tie
 
@@ -39,7 +39,7 @@ parse-at-requires c κs = search needs
 place-on-requires : tie.Need-place-on-requires Inv-loop μ-loop
 place-on-requires c κs =
     let l = c .before .before .before .loop in
-    (page-fits (l .area) (l .a) (c .parse-at .result) (c .parse-at .ensures) .0, c .before .before .before .before .before .pre .0 .3)
+    (read-kept (c .parse-at .result) _ (c .parse-at .ensures) .0, c .before .before .before .before .before .pre .0 .3)
 
 -- the place is the right one
 turn : (c : tie.After-place-on Inv-loop μ-loop)
@@ -60,7 +60,7 @@ turn c =
 push-requires : tie.Need-push-requires Inv-loop μ-loop
 push-requires c κs =
     let l = c .before .before .before .before .loop in
-    let f = page-fits (l .area) (l .a) (c .before .parse-at .result) (c .before .parse-at .ensures) in
+    let f = read-kept (c .before .parse-at .result) _ (c .before .parse-at .ensures) in
     (f .0, place-within (turn c), f .1)
 
 store-at-requires : tie.Need-store-at-requires Inv-loop μ-loop
@@ -87,8 +87,8 @@ loop-again c =
     let fits : 256 * (l .a + 1) ≤ length (l .area) = omega arith in (
       omega arith,
       omega arith,
-      pour-length t (w .push .result) (w .push .ensures) (to .last .0) (to .ensures) fits ∙ l .inv .2,
-      pour-rest t (w .push .result) (w .push .ensures) (to .last .0) (to .ensures) fits,
+      stored-length _ _ _ _ (to .ensures) fits ∙ l .inv .2,
+      stored-same _ _ _ _ (to .ensures) fits _ (l .inv .3),
       λ e. absurd (omega arith),
       pour-turn t (w .push .result) (w .push .ensures) (to .last .0) (to .ensures) fits (s .args .last) (w .before .before .before .before .loop-test .taken)
           ∙ l .inv .5,

@@ -9,7 +9,8 @@ use Rattle.homes.specs.Homes.{homeIn}
 use Rattle.pages.specs.Area.{partAt}
 use Rattle.walks.specs.Walks.{writes}
 use Rattle.walks.specs.steps.Plans.{drawn}
-use Rattle.walks.proofs.Draw.{read-kept, shut-kept, full-kept, stored-length, stored-same, draw-turn, draw-last}
+use Rattle.walks.proofs.Pouring.{stored-length, stored-same, read-kept}
+use Rattle.walks.proofs.Draw.{shut-kept, full-kept, draw-turn, draw-last}
 use Rattle.walks.proofs.remove.draw_back.Statement.{statement}
 use Rattle.walks.proofs.remove.draw_back.Tie as tie
 

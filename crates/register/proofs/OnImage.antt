@@ -1,27 +1,26 @@
--- A file that is the image of its records.
+-- A file that is the image of its records, and what it is for a call to refuse it or to accept.
 use mathlib.Core.Path.{_≡_, ap, _∙_}
 use mathlib.Core.Bool.{true}
-use mathlib.Core.List.{List, [], Permᴰ·symm}
+use mathlib.Core.List.{List}
 use Prim.Native.Nat.{ℕ, _*_, _^_, _≤_, _<_}
 use native.Mathlib.Omega.{arith}
 use lib.ListN.{length}
 use Rattle.homes.proofs.Homes.{home-below}
-use Rattle.placing.specs.Image.{All, cat, Distinct, RecordSet, Image}
-use Rattle.placing.specs.Lay.{rankIn}
-use Rattle.placing.proofs.Order.{Sorted}
-use Rattle.placing.proofs.Perms.{perm-distinct}
-use Rattle.placing.proofs.Tidy.{image-tidy}
-use Rattle.placing.proofs.Strays.{all-pages}
+use Rattle.placing.specs.Image.{All, RecordSet, Image}
 use Rattle.pages.specs.Page.{Record, key, value}
 use Rattle.pages.specs.Area.{areaFrom}
 use Rattle.pages.proofs.Areas.{area-length}
 use Rattle.state.specs.declared.State.{State}
+use Rattle.state.specs.declared.Answer.{Answer}
+use Rattle.state.specs.declared.Answer.the-variants.{Accepted}
 use Rattle.state.specs.State.{inRange, homes}
 use Rattle.state.proofs.Ranges.{ranged, in-shape}
 use Rattle.gates.specs.declared.Gate.the-variants.{Open}
 use Rattle.gates.specs.Gates.{gateOf}
 use Rattle.gates.proofs.Gating.{gate-open}
-use Rattle.demands.proofs.Clean.{Clean, image-clean}
+use Rattle.changes.specs.Changes.{done}
+use Rattle.walks.proofs.Clean.{Clean, InOrder, image-order, image-clean}
+use Rattle.register.specs.Files.{Call, leaves, fileOf, left}
 
 -- a state in range, and pages that are the image of as many records as it tells
 pub record OnImage (s : State) (rs : List Record) (ps : List (List Record)) : Type 0 where
@@ -34,7 +33,7 @@ pub record OnImage (s : State) (rs : List Record) (ps : List (List Record)) : Ty
 module _ {s : State} {rs : List Record} {ps : List (List Record)} (w : OnImage s rs ps) where
   -- its pages are read back
   pub on-clean : Clean (homes s) (s .cap) ps
-  on-clean = image-clean (ranged s (w .range) .cap-high) (w .set) (w .values) (w .image)
+  on-clean = image-clean (w .set) (ranged s (w .range) .cap-high) (w .values) (w .image)
 
   -- as many as are lent
   pub on-length : length (areaFrom 0 ps) ≡ 256 * s .cap
@@ -49,11 +48,19 @@ module _ {s : State} {rs : List Record} {ps : List (List Record)} (w : OnImage s
   home-low k = omega (arith, home-below (s .params) (s .p) k (in-shape s (w .range)), ranged s (w .range) .p-high)
 
   -- its records stand in order, no request twice, and twelve to a page
-  pub on-sorted : Sorted (rankIn key (homes s)) (cat ps [])
-  on-sorted = image-tidy key (homes s) 12 (w .set) (w .image) .sorted
+  pub on-order : InOrder 12 (homes s) ps
+  on-order = image-order (w .set) (w .image)
 
-  pub on-once : Distinct key (cat ps [])
-  on-once = perm-distinct key (Permᴰ·symm (w .image .arranged .holds)) (w .set .once)
+-- a call is refused and leaves the file, with some row
+abbrev pub Refused : State → List (List Record) → Call → Answer → (row : List ℕ) → Type 0
+Refused s ps c why row = left (fileOf s (areaFrom 0 ps)) c ≡ leaves (done s why) (areaFrom 0 ps) row
 
-  pub on-slots : All (λ p. length p ≤ 12) ps
-  on-slots = all-pages (λ p. length p ≤ 12) ps (w .image .arranged .slots)
+-- a call is accepted with this value, and leaves a file that is the image of the records rs; `far`
+-- tells how many of a file's records lie on another page than before
+pub record Accepts (s : State) (ps : List (List Record)) (c : Call) (v : ℕ) (row : List ℕ) (new : State) (rs : List Record) (far : List (List Record) → ℕ) : Type 0 where
+  pub read : ℕ
+  pub moved : ℕ
+  pub pages : List (List Record)
+  pub left : left (fileOf s (areaFrom 0 ps)) c ≡ leaves (done new (Accepted v read moved)) (areaFrom 0 pages) row
+  pub stands : OnImage new rs pages
+  pub moves : moved ≡ far pages

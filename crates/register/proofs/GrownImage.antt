@@ -23,18 +23,19 @@ use Rattle.pages.specs.Area.{areaFrom}
 use Rattle.pages.proofs.Write.{page-bytes}
 use Rattle.rebuild.specs.Relaid.{relaid}
 use Rattle.state.specs.declared.State.{State}
-use Rattle.state.specs.declared.Answer.{Answer}
 use Rattle.state.specs.declared.Answer.the-variants.{Accepted, WrongRow, NoRoom, AtCap}
 use Rattle.state.specs.State.{homes, grown}
+use Rattle.state.proofs.Ranges.{grown-range}
 use Rattle.gates.specs.declared.Gate.the-variants.{Open}
 use Rattle.gates.specs.Gates.{imageGate}
 use Rattle.changes.specs.Changes.{done}
-use Rattle.register.specs.Calls.{checked, Growth, grownFile, grew}
+use Rattle.register.specs.Calls.{grownFile}
+use Rattle.register.specs.Files.{grow, check, fileOf, ofGrowth, left}
 use Rattle.gates.proofs.Gating.{row-shut, cap-shut, pages-decide}
 use Rattle.gates.proofs.Judging.{good-open}
 use Rattle.register.proofs.CheckImage.{image-good}
-use Rattle.demands.proofs.Clean.{clean-held}
-use Rattle.demands.proofs.OnImage.{OnImage, on-clean, on-length, on-gate}
+use Rattle.walks.proofs.Clean.{clean-pass, clean-held}
+use Rattle.register.proofs.OnImage.{OnImage, on-clean, on-length, on-gate, Refused, Accepts}
 
 -- the pages and the row at one page more
 abbrev pub grownPages : State → List (List Record) → List (List Record)
@@ -42,18 +43,6 @@ grownPages s ps = relaid (homes (grown s)) (s .cap) ps
 
 abbrev pub grownRow : State → List Record → List ℕ
 grownRow s rs = counts (homeFor (homes (grown s))) rs (s .cap) 0
-
--- a growth that is done, and one that is refused with this row
-abbrev pub accepts : State → List Record → List (List Record) → Growth
-accepts s rs ps =
-    record {
-      done = done (grown s) (Accepted 0 (s .cap) (strayed key ps (grownPages s ps)));
-      area = areaFrom 0 (grownPages s ps);
-      row = grownRow s rs;
-    }
-
-abbrev pub refuses : State → List (List Record) → List ℕ → Answer → Growth
-refuses s ps row why = record { done = done s why; area = areaFrom 0 ps; row = row }
 
 -- pages are bytes
 area-bytes : (a : ℕ) (ps : List (List Record)) → Bytes (areaFrom a ps)
@@ -68,28 +57,41 @@ module _ {s : State} {rs : List Record} {ps : List (List Record)} (w : OnImage s
         records = rs;
         set = w .set;
         count = w .count;
-        is = record { pages = ps; bytes = refl; pass = on-clean w .pass; image = w .image };
+        is = record { pages = ps; bytes = refl; pass = clean-pass (on-clean w); image = w .image };
       }))
 
   -- so check says yes
-  pub check-yes : checked s (areaFrom 0 ps) ≡ done s (Accepted 0 (s .cap) 0)
-  check-yes = rw (← on-gate w, image-open)
+  pub check-yes : Accepts s ps check 0 [] s rs (λ qs. 0)
+  unfolding left
+  check-yes = record { read = s .cap; moved = 0; pages = ps; left = rw (← on-gate w, image-open); stands = w; moves = refl }
+
+  -- the pages made anew are the image at one page more
+  grown-image : Room key (homes (grown s)) 12 (s .cap) rs → Image key (homes (grown s)) 12 (s .cap) rs (grownPages s ps)
+  unfolding relaid
+  grown-image r =
+      let h = homes (grown s) in
+      rehomed key (homes s) h 12 (s .cap) (sort (rankIn key h) (cat ps [])) (w .set) (w .image) r
+      (sort-perm (rankIn key h) (cat ps []))
+      (set-sorted key h (cat ps []) (set-perm key (Permᴰ·symm (w .image .arranged .holds)) (w .set)))
 
   module _ (row : List ℕ) where
     -- growth is refused with a row of another length
-    pub grow-refused-row : (length row ≡ s .cap → ⊥) → grew s (areaFrom 0 ps) row ≡ refuses s ps row WrongRow
-    grow-refused-row f = rw (← row-shut s (areaFrom 0 ps) (length row) Open (on-gate w) refl f)
+    pub grow-other-row : (length row ≡ s .cap → ⊥) → Refused s ps (grow row) WrongRow row
+    unfolding left
+    grow-other-row f = rw (← row-shut s (areaFrom 0 ps) (length row) Open (on-gate w) refl f)
 
     module _ (fits : length row ≡ s .cap) where
       -- and with no page to grow to
-      pub grow-at-cap : s .p ≡ s .cap → grew s (areaFrom 0 ps) row ≡ refuses s ps row AtCap
-      grow-at-cap m = rw (← cap-shut s (areaFrom 0 ps) (length row) Open (on-gate w) refl fits m)
+      pub grow-no-page : s .p ≡ s .cap → Refused s ps (grow row) AtCap row
+      unfolding left
+      grow-no-page m = rw (← cap-shut s (areaFrom 0 ps) (length row) Open (on-gate w) refl fits m)
 
       module _ (low : s .p < s .cap) where
         -- else what the pages can take of the records decides, in whatever order they are
-        decides : grew s (areaFrom 0 ps) row
-            ≡ cond (eqb (taken (homeFor (homes (grown s))) 12 rs (s .cap)) (length rs)) (accepts s rs ps) (refuses s ps (grownRow s rs) (NoRoom (s .cap)))
-        unfolding grownFile
+        decides : left (fileOf s (areaFrom 0 ps)) (grow row) ≡ ofGrowth (cond (eqb (taken (homeFor (homes (grown s))) 12 rs (s .cap)) (length rs))
+            (record { done = done (grown s) (Accepted 0 (s .cap) (strayed key ps (grownPages s ps))); area = areaFrom 0 (grownPages s ps); row = grownRow s rs })
+            (record { done = done s (NoRoom (s .cap)); area = areaFrom 0 ps; row = grownRow s rs }))
+        unfolding left grownFile
         decides =
             let h = homeFor (homes (grown s)) in
             let p = w .image .arranged .holds in
@@ -102,18 +104,17 @@ module _ {s : State} {rs : List Record} {ps : List (List Record)} (w : OnImage s
             )
 
         -- with room the file is made anew
-        pub grow-room : Room key (homes (grown s)) 12 (s .cap) rs → grew s (areaFrom 0 ps) row ≡ accepts s rs ps
-        grow-room r = rw (decides, eq-eqb _ _ (room-taken key (homes (grown s)) 12 (s .cap) rs (w .set) .0 r))
+        pub grow-with-room : Room key (homes (grown s)) 12 (s .cap) rs → Accepts s ps (grow row) 0 (grownRow s rs) (grown s) rs (λ qs. strayed key ps qs)
+        grow-with-room r =
+            record {
+              read = s .cap;
+              moved = strayed key ps (grownPages s ps);
+              pages = grownPages s ps;
+              left = rw (decides, eq-eqb _ _ (room-taken key (homes (grown s)) 12 (s .cap) rs (w .set) .0 r));
+              stands = record { range = grown-range s (w .range) low; set = w .set; values = w .values; count = w .count; image = grown-image r };
+              moves = refl;
+            }
 
         -- without room it stays
-        pub grow-full : (Room key (homes (grown s)) 12 (s .cap) rs → ⊥) → grew s (areaFrom 0 ps) row ≡ refuses s ps (grownRow s rs) (NoRoom (s .cap))
-        grow-full n = rw (decides, ne-eqb _ _ (λ e. n (room-taken key (homes (grown s)) 12 (s .cap) rs (w .set) .1 e)))
-
-  -- the pages made anew are the image at one page more
-  pub grown-image : Room key (homes (grown s)) 12 (s .cap) rs → Image key (homes (grown s)) 12 (s .cap) rs (grownPages s ps)
-  unfolding relaid
-  grown-image r =
-      let h = homes (grown s) in
-      rehomed key (homes s) h 12 (s .cap) (sort (rankIn key h) (cat ps [])) (w .set) (w .image) r
-      (sort-perm (rankIn key h) (cat ps []))
-      (set-sorted key h (cat ps []) (set-perm key (Permᴰ·symm (w .image .arranged .holds)) (w .set)))
+        pub grow-no-room : (Room key (homes (grown s)) 12 (s .cap) rs → ⊥) → Refused s ps (grow row) (NoRoom (s .cap)) (grownRow s rs)
+        grow-no-room n = rw (decides, ne-eqb _ _ (λ e. n (room-taken key (homes (grown s)) 12 (s .cap) rs (w .set) .1 e)))

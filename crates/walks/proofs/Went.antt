@@ -1,5 +1,5 @@
 -- What it is for a walk to have gone well: it writes these pages.
-use mathlib.Core.Path.{_≡_, refl, ap, _∙_}
+use mathlib.Core.Path.{_≡_, ap, _∙_}
 use mathlib.Core.List.{List, [], _∷_, _++_}
 use Prim.Native.Nat.{ℕ}
 use native.Mathlib.Omega.{arith}
@@ -8,13 +8,12 @@ use lib.Seq.{set-at}
 use Rattle.pages.specs.Page.{Record}
 use Rattle.pages.specs.Area.{areaFrom, withPage}
 use Rattle.pages.proofs.Areas.{with-area}
 use Rattle.walks.specs.Walks.{Pages, Walked, went, andPage, writes}
 
--- the walk makes of the pages ps the pages qs
-pub record Went (ps qs : List (List Record)) (w : Walked) : Type 0 where
+-- the walk makes of the pages ps the pages qs, and tells so many records moved
+pub record Went (ps qs : List (List Record)) (moved : ℕ) (w : Walked) : Type 0 where
   pub pages : Pages
   pub read : ℕ
-  pub moved : ℕ
   pub goes : w ≡ went pages read moved
   pub leaves : writes (areaFrom 0 ps) pages ≡ areaFrom 0 qs
 
@@ -25,16 +24,9 @@ module _ (front : List (List Record)) (a : ℕ) (at : length front ≡ a) (was p
       with-area a (front ++ (was ∷ qs)) p (omega (arith, length-append front (was ∷ qs))) ∙ ap (areaFrom 0) (set-at front was qs p a at)
 
   -- so is the first of the pages that a walk writes
-  pub wrote-went : {new : List (List Record)} {w : Walked} → Went (front ++ (p ∷ qs)) new w → Went (front ++ (was ∷ qs)) new (andPage a p w)
-  wrote-went t =
-      record {
-        pages = (a, p) ∷ t .pages;
-        read = t .read;
-        moved = t .moved;
-        goes = ap (andPage a p) (t .goes);
-        leaves = rw page-written (t .leaves);
-      }
+  pub wrote-went : {new : List (List Record)} {m : ℕ} {w : Walked} → Went (front ++ (p ∷ qs)) new m w → Went (front ++ (was ∷ qs)) new m (andPage a p w)
+  wrote-went t = record { pages = (a, p) ∷ t .pages; read = t .read; goes = ap (andPage a p) (t .goes); leaves = rw page-written (t .leaves) }
 
   -- and the only one
-  pub one-went : (n m : ℕ) → Went (front ++ (was ∷ qs)) (front ++ (p ∷ qs)) (went ((a, p) ∷ []) n m)
-  one-went n m = record { pages = (a, p) ∷ []; read = n; moved = m; goes = refl; leaves = page-written }
+  pub one-went : (n m : ℕ) {t : ℕ} → m ≡ t → Went (front ++ (was ∷ qs)) (front ++ (p ∷ qs)) t (went ((a, p) ∷ []) n m)
+  one-went n m e = record { pages = (a, p) ∷ []; read = n; goes = ap (went ((a, p) ∷ []) n) e; leaves = page-written }

@@ -58,21 +58,6 @@ small c =
     let below : at .loop2 .stage .f < 4096 = omega (arith, goes .1, ranges .P-high) in
     (goes .0, goes .1, below, omega (arith, few (at .loop2 .inv .0) below, at .before .before .before .before .before .before .before .before .before .before .before .later .ensures .1), omega (arith, at .loop2 .inv .0 .sound, ranges .n0-high))
 
-cast-n0 : tie.Need-cast-n0 Inv-loop2 μ-loop2 Inv-loop μ-loop
-cast-n0 c = search needs
-
-powers-requires : tie.Need-powers-requires Inv-loop2 μ-loop2 Inv-loop μ-loop
-powers-requires c κs = search needs
-
-limits-requires : tie.Need-limits-requires Inv-loop2 μ-loop2 Inv-loop μ-loop
-limits-requires c κs = search needs
-
-later-requires : tie.Need-later-requires Inv-loop2 μ-loop2 Inv-loop μ-loop
-later-requires c κs = search needs
-
-first-requires : tie.Need-first-requires Inv-loop2 μ-loop2 Inv-loop μ-loop
-first-requires c κs = search needs
-
 begin-requires : tie.Need-begin-requires Inv-loop2 μ-loop2 Inv-loop μ-loop
 begin-requires c κs = (first c .low, first c .high)
 
@@ -110,18 +95,6 @@ loop2-holds c =
 
 cast-if2 : tie.Need-cast-if2 Inv-loop2 μ-loop2 Inv-loop μ-loop
 cast-if2 c = omega (arith, c .before .before .before .before .loop .inv .0 .sound, c .before .before .if1 .taken, c .before .before .before .before .before .before .before .before .before .before .before .before .before .before .before .pre .P-high)
-
-add-movers : tie.Need-add-movers Inv-loop2 μ-loop2 Inv-loop μ-loop
-add-movers c = omega (arith, small c)
-
-mul-movers : tie.Need-mul-movers Inv-loop2 μ-loop2 Inv-loop μ-loop
-mul-movers c = omega (arith, small c)
-
-array-read-movers : tie.Need-array-read-movers Inv-loop2 μ-loop2 Inv-loop μ-loop
-array-read-movers c = omega (arith, small c)
-
-mul-movers-2 : tie.Need-mul-movers-2 Inv-loop2 μ-loop2 Inv-loop μ-loop
-mul-movers-2 c = omega (arith, small c)
 
 array-read-movers-2 : tie.Need-array-read-movers-2 Inv-loop2 μ-loop2 Inv-loop μ-loop
 array-read-movers-2 c = small c .4
@@ -226,9 +199,6 @@ loop-again c =
 cast-pick : tie.Need-cast-pick Inv-loop2 μ-loop2 Inv-loop μ-loop
 cast-pick c = omega (arith, c .before .before .before .before .before .before .before .before .before .before .before .before .before .before .pre .P-high)
 
-pick-requires : tie.Need-pick-requires Inv-loop2 μ-loop2 Inv-loop μ-loop
-pick-requires c κs = search needs
-
 -- there are twelve keys
 twelve : (c : tie.Start Inv-loop2 μ-loop2 Inv-loop μ-loop) → length (c .args .keys) ≡ 12
 twelve c = search needs
@@ -258,11 +228,11 @@ homes-spec =
     μ-loop2
     Inv-loop
     μ-loop
-    cast-n0
-    powers-requires
-    limits-requires
-    later-requires
-    first-requires
+    (λ c. search needs)
+    (λ c κs. search needs)
+    (λ c κs. search needs)
+    (λ c κs. search needs)
+    (λ c κs. search needs)
     begin-requires
     place-requires
     new-requires
@@ -270,10 +240,10 @@ homes-spec =
     cast-g
     loop2-holds
     cast-if2
-    add-movers
-    mul-movers
-    array-read-movers
-    mul-movers-2
+    (λ c. omega (arith, small c))
+    (λ c. omega (arith, small c))
+    (λ c. omega (arith, small c))
+    (λ c. omega (arith, small c))
     array-read-movers-2
     movers-requires
     cast-step-all
@@ -287,5 +257,5 @@ homes-spec =
     loop-less
     loop-again
     cast-pick
-    pick-requires
+    (λ c κs. search needs)
     returns)

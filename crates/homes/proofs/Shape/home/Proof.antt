@@ -44,7 +44,7 @@ sweeps c =
     (sweeps-are _ _ _ (c .before .new3 .ensures) .0, own .0, own .1)
 
 -- below size p a step is one of the forty, so the table has its power
-small : (c : tie.Then1 Inv-loop μ-loop) → (c .before .before .loop .stage .f < 4096) × (c .before .before .loop .x + c .before .before .before .before .before .before .before .before .before .later .result ≤ 50) × (c .before .before .loop .stage .np < 8)
+small : (c : tie.Then1 Inv-loop μ-loop) → (c .before .before .loop .stage .f < 4096) × (c .before .before .loop .x + c .before .before .before .before .before .before .before .before .before .later .result < 51) × (c .before .before .loop .stage .np < 8)
 small c =
     let at = c .before .before in
     let ranges = at .before .before .before .before .before .before .before .before .before .before .before .pre in
@@ -56,7 +56,7 @@ moves : (c : tie.After-draw Inv-loop μ-loop) → let at = c .before .before .be
 moves c =
     let at = c .before .before .before in
     let fits = small (c .before) in
-    mover-by _ _ _ _ _ _ _ _ _ (at .before .before .before .before .before .before .before .before .before .powers .ensures (at .loop .x + at .before .before .before .before .before .before .before .later .result) (omega (arith, fits))) (at .before .before .before .before .before .before .twice-seed .ensures) (c .draw .ensures) (at .before .before .before .before .before .before .before .before .limits .ensures (at .loop .stage .np) (fits .2)) (at .loop .inv .0 .np-is)
+    mover-by _ _ _ _ _ _ _ _ _ (at .before .before .before .before .before .before .before .before .before .powers .ensures (at .loop .x + at .before .before .before .before .before .before .before .later .result) (fits .1)) (at .before .before .before .before .before .before .twice-seed .ensures) (c .draw .ensures) (at .before .before .before .before .before .before .before .before .limits .ensures (at .loop .stage .np) (fits .2)) (at .loop .inv .0 .np-is)
 
 -- the lane after the step fits
 fits : (c : tie.After-step Inv-loop μ-loop) → InGroup (c .before .before .before .before .loop .stage .g) (c .step .result)
@@ -102,7 +102,7 @@ loop-holds c =
 draw-requires : tie.Need-draw-requires Inv-loop μ-loop
 draw-requires c κs =
     let at = c .before .before in
-    draws (at .before .before .before .before .before .before .before .before .before .before .before .args .key) (at .loop .x + at .before .before .before .before .before .before .before .later .result) _ _ (at .before .before .before .before .before .before .before .before .before .powers .ensures (at .loop .x + at .before .before .before .before .before .before .before .later .result) (omega (arith, small c))) (at .before .before .before .before .before .before .twice-seed .ensures)
+    draws (at .before .before .before .before .before .before .before .before .before .before .before .args .key) (at .loop .x + at .before .before .before .before .before .before .before .later .result) _ _ (at .before .before .before .before .before .before .before .before .before .powers .ensures (at .loop .x + at .before .before .before .before .before .before .before .later .result) (small c .1)) (at .before .before .before .before .before .before .twice-seed .ensures)
 
 array-read-moves : tie.Need-array-read-moves Inv-loop μ-loop
 array-read-moves c = small (c .before) .2
@@ -217,7 +217,7 @@ home-spec =
     loop-holds
     (λ c. omega (arith, small c))
     (λ c. search needs)
-    (λ c. omega (arith, small c))
+    (λ c. small c .1)
     draw-requires
     (λ c. search needs)
     array-read-moves

@@ -49,7 +49,7 @@ sweeps : (c : tie.At-loop Inv-loop2 μ-loop2 Inv-loop μ-loop) → c .before .ne
 sweeps c = sweeps-are _ _ _ (c .before .new .ensures) .0
 
 -- below size p a step is one of the forty, so the table has its power
-small : (c : tie.Then2 Inv-loop2 μ-loop2 Inv-loop μ-loop) → let at = c .before .before .before in (at .loop2 .stage .g ≡ at .before .before .before .before .loop .stage .g) × (at .loop2 .stage .f < at .before .before .before .before .before .before .before .before .before .before .before .before .before .before .before .args .shape .p) × (at .loop2 .stage .f < 4096) × (at .loop2 .x + at .before .before .before .before .before .before .before .before .before .before .before .later .result ≤ 50) × (at .loop2 .stage .np < 8)
+small : (c : tie.Then2 Inv-loop2 μ-loop2 Inv-loop μ-loop) → let at = c .before .before .before in (at .loop2 .stage .g ≡ at .before .before .before .before .loop .stage .g) × (at .loop2 .stage .f < at .before .before .before .before .before .before .before .before .before .before .before .before .before .before .before .args .shape .p) × (at .loop2 .stage .f < 4096) × (at .loop2 .x + at .before .before .before .before .before .before .before .before .before .before .before .later .result < 51) × (at .loop2 .stage .np < 8)
 small c =
     let at = c .before .before .before in
     let ranges = at .before .before .before .before .before .before .before .before .before .before .before .before .before .before .before .pre in
@@ -96,13 +96,10 @@ loop2-holds c =
 cast-if2 : tie.Need-cast-if2 Inv-loop2 μ-loop2 Inv-loop μ-loop
 cast-if2 c = omega (arith, c .before .before .before .before .loop .inv .0 .sound, c .before .before .if1 .taken, c .before .before .before .before .before .before .before .before .before .before .before .before .before .before .before .pre .P-high)
 
-array-read-movers-2 : tie.Need-array-read-movers-2 Inv-loop2 μ-loop2 Inv-loop μ-loop
-array-read-movers-2 c = small c .4
-
 movers-requires : tie.Need-movers-requires Inv-loop2 μ-loop2 Inv-loop μ-loop
 movers-requires c κs =
     let at = c .before .before .before in
-    λ i h. draws _ (at .loop2 .x + at .before .before .before .before .before .before .before .before .before .before .before .later .result) _ _ (at .before .before .before .before .before .before .before .before .before .before .before .before .before .powers .ensures (at .loop2 .x + at .before .before .before .before .before .before .before .before .before .before .before .later .result) (omega (arith, small c))) (at .before .before .before .before .before .before .before .before .before .begin .ensures .0 i h .0)
+    λ i h. draws _ (at .loop2 .x + at .before .before .before .before .before .before .before .before .before .before .before .later .result) _ _ (at .before .before .before .before .before .before .before .before .before .before .before .before .before .powers .ensures (at .loop2 .x + at .before .before .before .before .before .before .before .before .before .before .before .later .result) (small c .3)) (at .before .before .before .before .before .before .before .before .before .begin .ensures .0 i h .0)
 
 cast-step-all : tie.Need-cast-step-all Inv-loop2 μ-loop2 Inv-loop μ-loop
 cast-step-all c = omega (arith, small (c .before .before .before))
@@ -147,7 +144,7 @@ loop2-again c =
     let low = sweeps-are _ _ _ (outer .loop .inv .4 (at .before .before .if1 .taken)) .0 in
     let moves = c .before .before .before .before .movers .ensures in (
       stepping-on on after (outer .before .before .before .before .before .before .before .before .before .before .before .pre .n0-low) (fits .2) (c .next .ensures .1),
-      λ i N K h q l. all-on on after _ _ _ _ _ _ _ (fits .0) (placed i (omega arith) .0) (placed i (omega arith) .1) (below i (omega arith)) (step .0 i (omega arith)) (step .1 i (omega arith) .1) d N _ K _ (fits .1) (moves-told _ _ (moves i h) ∙ mover-by d _ _ _ _ _ _ _ _ (outer .before .before .before .before .before .before .before .before .before .powers .ensures (x + d) (omega (arith, fits))) q refl (outer .before .before .before .before .before .before .before .before .limits .ensures np (fits .4)) (on .np-is)) (at .loop2 .inv .1 i N K h q l),
+      λ i N K h q l. all-on on after _ _ _ _ _ _ _ (fits .0) (placed i (omega arith) .0) (placed i (omega arith) .1) (below i (omega arith)) (step .0 i (omega arith)) (step .1 i (omega arith) .1) d N _ K _ (fits .1) (moves-told _ _ (moves i h) ∙ mover-by d _ _ _ _ _ _ _ _ (outer .before .before .before .before .before .before .before .before .before .powers .ensures (x + d) (fits .3)) q refl (outer .before .before .before .before .before .before .before .before .limits .ensures np (fits .4)) (on .np-is)) (at .loop2 .inv .1 i N K h q l),
       step .1,
       λ i h. all-below on after _ _ _ _ _ _ _ (fits .0) (placed i h .0) (placed i h .1) (below i h) (step .0 i h) (step .1 i h .1) (omega (arith, low, sweeps outer, outer .before .before .before .before .before .before .before .before .before .before .before .pre .s-low)),
       rounding-on on after (outer .loop .stage .g) (outer .loop .stage) (fits .0) (at .loop2 .inv .4),
@@ -242,9 +239,9 @@ homes-spec =
     cast-if2
     (λ c. omega (arith, small c))
     (λ c. omega (arith, small c))
+    (λ c. small c .3)
     (λ c. omega (arith, small c))
-    (λ c. omega (arith, small c))
-    array-read-movers-2
+    (λ c. small c .4)
     movers-requires
     cast-step-all
     step-all-requires

@@ -30,4 +30,13 @@ returns-6 c = (known-form kind.Check _ _ (c .match .keys6) tt, refl)
 pub form-of-spec : {M : Type 1} → statement M
 form-of-spec =
     tie.close
-    (tie.spec (λ c κs. search needs) returns returns-2 returns-3 returns-4 returns-5 returns-6 (λ c. (other-form _ _ (c .before .match .rest), tt)) (λ c. (other-form _ _ (c .before .match .rest), tt)))
+    (tie.spec
+    (λ c κs. search needs)
+    returns
+    returns-2
+    returns-3
+    returns-4
+    returns-5
+    returns-6
+    (λ c. (other-form _ _ (c .before .match .rest), tt))
+    (λ c. (other-form _ _ (c .before .match .rest), tt)))

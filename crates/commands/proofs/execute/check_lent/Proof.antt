@@ -22,4 +22,10 @@ returns c =
 
 pub check-lent-spec : {M : Type 1} → statement M
 check-lent-spec =
-    tie.close (tie.spec (λ c κs. search needs) slice-aggregate-check (λ c κs. search needs) (λ c κs. search needs) returns)
+    tie.close
+    (tie.spec
+    (λ c κs. search needs)
+    slice-aggregate-check
+    (λ c κs. search needs)
+    (λ c κs. search needs)
+    returns)

@@ -22,4 +22,10 @@ returns c =
 
 pub find-lent-spec : {M : Type 1} → statement M
 find-lent-spec =
-    tie.close (tie.spec (λ c κs. search needs) slice-aggregate-find (λ c κs. search needs) (λ c κs. search needs) returns)
+    tie.close
+    (tie.spec
+    (λ c κs. search needs)
+    slice-aggregate-find
+    (λ c κs. search needs)
+    (λ c κs. search needs)
+    returns)

@@ -42,4 +42,15 @@ returns c =
 
 pub last-step-spec : {M : Type 1} → statement M
 last-step-spec =
-    tie.close (tie.spec Inv-loop μ-loop (λ c. search needs) (λ c κs. search needs) loop-holds (λ c. search needs) (λ c κs. search needs) loop-less loop-again returns)
+    tie.close
+    (tie.spec
+    Inv-loop
+    μ-loop
+    (λ c. search needs)
+    (λ c κs. search needs)
+    loop-holds
+    (λ c. search needs)
+    (λ c κs. search needs)
+    loop-less
+    loop-again
+    returns)

@@ -12,7 +12,6 @@ use Rattle.numbers.specs.Fields.{encode}
 use Rattle.numbers.proofs.Laws.{bytes-drop, number-bound}
 use Rattle.numbers.proofs.Records.{length-encode, and-left, and-right}
 use Rattle.pages.specs.Page.{Record}
-use Rattle.register.specs.Files.{put}
 use Rattle.records.specs.declared.Command.the-variants.{Put}
 use Rattle.records.specs.declared.Item.the-variants.{Asks}
 use Rattle.records.specs.Records.{firstOf, isPut, recordIn, layoutOf}

@@ -19,74 +19,17 @@ abbrev μ-loop : tie.MeasureT-loop
 loop-holds : tie.Need-loop-holds Inv-loop μ-loop
 loop-holds c = log-starts _ _ _ _ _ (omega arith)
 
-mul-at : tie.Need-mul-at Inv-loop μ-loop
-mul-at c = search needs
-
-sub-serve-one : tie.Need-sub-serve-one Inv-loop μ-loop
-sub-serve-one c = search needs
-
-part-serve-one-start : tie.Need-part-serve-one-start Inv-loop μ-loop
-part-serve-one-start c = search needs
-
-part-serve-one-end : tie.Need-part-serve-one-end Inv-loop μ-loop
-part-serve-one-end c = search needs
-
-add-serve-one : tie.Need-add-serve-one Inv-loop μ-loop
-add-serve-one c = search needs
-
-sub-serve-one-2 : tie.Need-sub-serve-one-2 Inv-loop μ-loop
-sub-serve-one-2 c = search needs
-
-part-serve-one-start-2 : tie.Need-part-serve-one-start-2 Inv-loop μ-loop
-part-serve-one-start-2 c = search needs
-
-part-serve-one-end-2 : tie.Need-part-serve-one-end-2 Inv-loop μ-loop
-part-serve-one-end-2 c = search needs
-
-serve-one-requires : tie.Need-serve-one-requires Inv-loop μ-loop
-serve-one-requires c κs = search needs
-
-enum-told : tie.Need-enum-told Inv-loop μ-loop
-enum-told c = search needs
-
-same-length : tie.Need-same-length Inv-loop μ-loop
-same-length c = search needs
-
-same-length-2 : tie.Need-same-length-2 Inv-loop μ-loop
-same-length-2 c = search needs
-
-same-length-3 : tie.Need-same-length-3 Inv-loop μ-loop
-same-length-3 c = search needs
-
 returns : tie.Need-returns Inv-loop μ-loop
 returns c =
     let o = c .before .before .before .before .before .before .before .before in
     let t = o .before .before .before .before .before in
     log-waits (t .before .loop .inv) (t .loop-test .taken) _ _ _ _ (o .serve-one .ensures) (c .enum-told .given .1)
 
-enum-told-2 : tie.Need-enum-told-2 Inv-loop μ-loop
-enum-told-2 c = search needs
-
-add-t30 : tie.Need-add-t30 Inv-loop μ-loop
-add-t30 c = search needs
-
-same-length-4 : tie.Need-same-length-4 Inv-loop μ-loop
-same-length-4 c = search needs
-
-same-length-5 : tie.Need-same-length-5 Inv-loop μ-loop
-same-length-5 c = search needs
-
-same-length-6 : tie.Need-same-length-6 Inv-loop μ-loop
-same-length-6 c = search needs
-
 returns-2 : tie.Need-returns-2 Inv-loop μ-loop
 returns-2 c =
     let o = c .before .before .before .before .before .before .before .before in
     let t = o .before .before .before .before .before in
     log-stops (t .before .loop .inv) (t .loop-test .taken) _ _ _ _ (o .serve-one .ensures) (c .enum-told2 .given .1)
-
-enum-known-step : tie.Need-enum-known-step Inv-loop μ-loop
-enum-known-step c = search needs
 
 loop-again : tie.Need-loop-again Inv-loop μ-loop
 loop-again c =
@@ -106,21 +49,6 @@ add-told c =
     let t = o .before .before .before .before .before in
     omega (arith, loop-again c .low, t .before .before .before .before .before .before .good)
 
-loop-less : tie.Need-loop-less Inv-loop μ-loop
-loop-less c = search needs
-
-mul-t15 : tie.Need-mul-t15 Inv-loop μ-loop
-mul-t15 c = search needs
-
-same-length-7 : tie.Need-same-length-7 Inv-loop μ-loop
-same-length-7 c = search needs
-
-same-length-8 : tie.Need-same-length-8 Inv-loop μ-loop
-same-length-8 c = search needs
-
-same-length-9 : tie.Need-same-length-9 Inv-loop μ-loop
-same-length-9 c = search needs
-
 returns-3 : tie.Need-returns-3 Inv-loop μ-loop
 returns-3 c = log-full (c .before .loop .inv) (c .loop-test .left)
 
@@ -131,33 +59,33 @@ log-spec =
     Inv-loop
     μ-loop
     loop-holds
-    mul-at
-    sub-serve-one
-    part-serve-one-start
-    part-serve-one-end
-    add-serve-one
-    sub-serve-one-2
-    part-serve-one-start-2
-    part-serve-one-end-2
-    serve-one-requires
-    enum-told
-    same-length
-    same-length-2
-    same-length-3
+    (λ c. search needs)
+    (λ c. search needs)
+    (λ c. search needs)
+    (λ c. search needs)
+    (λ c. search needs)
+    (λ c. search needs)
+    (λ c. search needs)
+    (λ c. search needs)
+    (λ c κs. search needs)
+    (λ c. search needs)
+    (λ c. search needs)
+    (λ c. search needs)
+    (λ c. search needs)
     returns
-    enum-told-2
-    add-t30
-    same-length-4
-    same-length-5
-    same-length-6
+    (λ c. search needs)
+    (λ c. search needs)
+    (λ c. search needs)
+    (λ c. search needs)
+    (λ c. search needs)
     returns-2
-    enum-known-step
+    (λ c. search needs)
     add-taken
     add-told
-    loop-less
+    (λ c. search needs)
     loop-again
-    mul-t15
-    same-length-7
-    same-length-8
-    same-length-9
+    (λ c. search needs)
+    (λ c. search needs)
+    (λ c. search needs)
+    (λ c. search needs)
     returns-3)

@@ -12,30 +12,6 @@ returns c =
     let a = c .before .before .before .before .before .args in
     serve-none (a .last) (site (a .state) (now (a .space)) (now (a .row))) (now (a .input)) (now (a .part)) (c .if1 .taken)
 
-first-requires : tie.Need-first-requires
-first-requires c κs = search needs
-
-enum-known-item : tie.Need-enum-known-item
-enum-known-item c = search needs
-
-execute-requires : tie.Need-execute-requires
-execute-requires c κs = search needs
-
-reply-requires : tie.Need-reply-requires
-reply-requires c κs = search needs
-
-enum-told : tie.Need-enum-told
-enum-told c = search needs
-
-refused-requires : tie.Need-refused-requires
-refused-requires c κs = search needs
-
-reply-requires-2 : tie.Need-reply-requires-2
-reply-requires-2 c κs = search needs
-
-enum-told-2 : tie.Need-enum-told-2
-enum-told-2 c = search needs
-
 returns-2 : tie.Need-returns-2
 returns-2 c =
     let t = c .before in
@@ -44,21 +20,6 @@ returns-2 c =
     let a = e .before .before .before .before .before .args in
     serve-waits (a .last) (site (a .state) (now (a .space)) (now (a .row))) (now (a .input)) (now (a .part)) (e .if1 .left) (f .first .result) (f .first .ensures .0)
     (t .enum-told2 .given .1) (not-true _ (c .if2 .taken))
-
-refused-requires-2 : tie.Need-refused-requires-2
-refused-requires-2 c κs = search needs
-
-reply-requires-3 : tie.Need-reply-requires-3
-reply-requires-3 c κs = search needs
-
-same-length : tie.Need-same-length
-same-length c = search needs
-
-same-length-2 : tie.Need-same-length-2
-same-length-2 c = search needs
-
-same-length-3 : tie.Need-same-length-3
-same-length-3 c = search needs
 
 returns-3 : tie.Need-returns-3
 returns-3 c =
@@ -71,9 +32,6 @@ returns-3 c =
     serve-goes (a .last) (site (a .state) (now (a .space)) (now (a .row))) (now (a .input)) (now (a .part)) (e .if1 .left) (f .first .result) (f .first .ensures .0) _ _
     (i .item .given .1) (f .first .ensures .1) (o .execute .result) (o .execute .ensures .0) _ _ _ (o .execute .ensures .1 .0) (o .execute .ensures .1 .1) (r .reply .ensures)
 
-same-length-4 : tie.Need-same-length-4
-same-length-4 c = search needs
-
 returns-4 : tie.Need-returns-4
 returns-4 c =
     let r = c .before .before in
@@ -83,9 +41,6 @@ returns-4 c =
     let a = e .before .before .before .before .before .args in
     serve-unknown (a .last) (site (a .state) (now (a .space)) (now (a .row))) (now (a .input)) (now (a .part)) (e .if1 .left) (f .first .result) (f .first .ensures .0)
     (t .enum-told .given .1) _ (r .before .refused .ensures) _ (r .reply2 .ensures)
-
-same-length-5 : tie.Need-same-length-5
-same-length-5 c = search needs
 
 returns-5 : tie.Need-returns-5
 returns-5 c =
@@ -103,22 +58,22 @@ serve-one-spec =
     tie.close
     (tie.spec
     returns
-    first-requires
-    enum-known-item
-    execute-requires
-    reply-requires
-    enum-told
-    refused-requires
-    reply-requires-2
-    enum-told-2
+    (λ c κs. search needs)
+    (λ c. search needs)
+    (λ c κs. search needs)
+    (λ c κs. search needs)
+    (λ c. search needs)
+    (λ c κs. search needs)
+    (λ c κs. search needs)
+    (λ c. search needs)
     returns-2
-    refused-requires-2
-    reply-requires-3
-    same-length
-    same-length-2
-    same-length-3
+    (λ c κs. search needs)
+    (λ c κs. search needs)
+    (λ c. search needs)
+    (λ c. search needs)
+    (λ c. search needs)
     returns-3
-    same-length-4
+    (λ c. search needs)
     returns-4
-    same-length-5
+    (λ c. search needs)
     returns-5)

@@ -16,15 +16,6 @@ use Rattle.homes.proofs.new_page.Tie as tie
 sweeps-is : (c : tie.After-new) → c .new .result .s ≡ c .before .args .s
 sweeps-is c = ap (λ (w : Sweeps). w .s) (c .new .ensures)
 
-cast-groups : tie.Need-cast-groups
-cast-groups c = search needs
-
-new-requires : tie.Need-new-requires
-new-requires c κs = search needs
-
-rem-target : tie.Need-rem-target
-rem-target c = search needs
-
 cast-target : tie.Need-cast-target
 cast-target c = omega (arith, mod-lt (c .before .args .page) (c .before .pre .2))
 
@@ -32,12 +23,6 @@ target-requires : tie.Need-target-requires
 target-requires c κs =
     let e = sweeps-is c in
     (omega arith, omega arith, c .new .ensures ∙ ap (λ (n : ℕ). sweepsOf n (c .before .args .g)) (sym e), mod-lt (c .before .args .page) (c .before .pre .2), omega arith)
-
-cast-result : tie.Need-cast-result
-cast-result c = search needs
-
-add-result : tie.Need-add-result
-add-result c = search needs
 
 returns : tie.Need-returns
 returns c =
@@ -50,11 +35,11 @@ pub new-page-spec : {M : Type 1} → statement M
 new-page-spec =
     tie.close
     (tie.spec
-    cast-groups
-    new-requires
-    rem-target
+    (λ c. search needs)
+    (λ c κs. search needs)
+    (λ c. search needs)
     cast-target
     target-requires
-    cast-result
-    add-result
+    (λ c. search needs)
+    (λ c. search needs)
     returns)

@@ -14,23 +14,8 @@ fold x y l e h =
     let parts : x ≡ (x / 2147483648 + 1) * 2147483647 + (y - 2147483647) = omega arith in
     (sym (ap (λ (z : ℕ). z % 2147483647) parts ∙ digits-mod (x / 2147483648 + 1) low), low)
 
-mul-product : tie.Need-mul-product
-mul-product c = search needs
-
-cast-folded : tie.Need-cast-folded
-cast-folded c = search needs
-
-cast-folded-2 : tie.Need-cast-folded-2
-cast-folded-2 c = search needs
-
-add-folded : tie.Need-add-folded
-add-folded c = search needs
-
-returns : tie.Need-returns
-returns c = search needs
-
 returns-2 : tie.Need-returns-2
 returns-2 c = fold (16807 * c .before .args .draw) _ (omega arith) refl (c .if1 .left)
 
 pub next-draw-spec : {M : Type 1} → statement M
-next-draw-spec = tie.close (tie.spec mul-product cast-folded cast-folded-2 add-folded returns returns-2)
+next-draw-spec = tie.close (tie.spec (λ c. search needs) (λ c. search needs) (λ c. search needs) (λ c. search needs) (λ c. search needs) returns-2)

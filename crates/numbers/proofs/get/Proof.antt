@@ -32,12 +32,6 @@ loop-holds : tie.Need-loop-holds Inv-loop μ-loop
 unfolding numberAt little
 loop-holds c = (omega arith, omega arith, refl)
 
-sub-k : tie.Need-sub-k Inv-loop μ-loop
-sub-k c = search needs
-
-sub-k-2 : tie.Need-sub-k-2 Inv-loop μ-loop
-sub-k-2 c = search needs
-
 -- before a turn the number has seven bytes at most
 room : (r i width : ℕ) → i < width → width ≤ 8 → r < 256 ^ i → r < 256 ^ 7
 room r i width t h b =
@@ -49,12 +43,6 @@ mul-r c =
     let a = c .before .before .args in
     let l = c .before .loop in
     omega (arith, room (l .r) (l .i) (a .width) (omega arith) (omega arith) (l .inv .1))
-
-add-r : tie.Need-add-r Inv-loop μ-loop
-add-r c = search needs
-
-shared-slice-read-r : tie.Need-shared-slice-read-r Inv-loop μ-loop
-shared-slice-read-r c = search needs
 
 cast-r : tie.Need-cast-r Inv-loop μ-loop
 cast-r c = fits-8-64 (c .shared-slice-known .given _)
@@ -70,12 +58,6 @@ add-r-2 c =
     let a = c .before .before .before .args in
     let l = c .before .before .loop in
     more (l .r) (l .i) (a .width) _ (omega arith) (omega arith) (l .inv .1) (c .shared-slice-known .given _)
-
-add-i : tie.Need-add-i Inv-loop μ-loop
-add-i c = search needs
-
-loop-less : tie.Need-loop-less Inv-loop μ-loop
-loop-less c = search needs
 
 -- a turn puts one byte more in front
 turn : (s : List ℕ) (at width r i : ℕ)
@@ -114,14 +96,14 @@ get-spec =
     Inv-loop
     μ-loop
     loop-holds
-    sub-k
-    sub-k-2
+    (λ c. search needs)
+    (λ c. search needs)
     mul-r
-    add-r
-    shared-slice-read-r
+    (λ c. search needs)
+    (λ c. search needs)
     cast-r
     add-r-2
-    add-i
-    loop-less
+    (λ c. search needs)
+    (λ c. search needs)
     loop-again
     returns)

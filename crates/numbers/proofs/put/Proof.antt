@@ -23,21 +23,6 @@ abbrev μ-loop : tie.MeasureT-loop
 loop-holds : tie.Need-loop-holds Inv-loop μ-loop
 loop-holds c = (omega arith, refl, rw (add-zero, sub-zero))
 
-cast-s : tie.Need-cast-s Inv-loop μ-loop
-cast-s c = search needs
-
-add-s : tie.Need-add-s Inv-loop μ-loop
-add-s c = search needs
-
-slice-write-s : tie.Need-slice-write-s Inv-loop μ-loop
-slice-write-s c = search needs
-
-add-i : tie.Need-add-i Inv-loop μ-loop
-add-i c = search needs
-
-loop-less : tie.Need-loop-less Inv-loop μ-loop
-loop-less c = search needs
-
 -- a turn stores the lowest byte of what is left to write
 turn : (s : List ℕ) (at i width y : ℕ) → i < width → at + width ≤ length s
     → written (set s (at + i) (y % 256)) (at + (i + 1)) (bytesOf (width - (i + 1)) (y / 256)) ≡ written s (at + i) (bytesOf (width - i) y)
@@ -51,9 +36,6 @@ loop-again c =
     let a = c .before .before .args in
     let l = c .before .loop in
     (omega arith, simp length-set (l .inv .1), turn (l .s) (a .at) (l .i) (a .width) (l .y) (omega arith) (omega arith) ∙ l .inv .2)
-
-same-length : tie.Need-same-length Inv-loop μ-loop
-same-length c = search needs
 
 -- after the last turn nothing is left to write
 done : (s : List ℕ) (at i width y : ℕ) → i ≡ width → written s (at + i) (bytesOf (width - i) y) ≡ s
@@ -73,11 +55,11 @@ put-spec =
     Inv-loop
     μ-loop
     loop-holds
-    cast-s
-    add-s
-    slice-write-s
-    add-i
-    loop-less
+    (λ c. search needs)
+    (λ c. search needs)
+    (λ c. search needs)
+    (λ c. search needs)
+    (λ c. search needs)
     loop-again
-    same-length
+    (λ c. search needs)
     returns)

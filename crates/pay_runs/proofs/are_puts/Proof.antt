@@ -17,41 +17,17 @@ abbrev μ-loop : tie.MeasureT-loop
 loop-holds : tie.Need-loop-holds Inv-loop μ-loop
 loop-holds c = looks-first _ _ (omega arith)
 
-mul-is-put : tie.Need-mul-is-put Inv-loop μ-loop
-mul-is-put c = search needs
-
-sub-is-put : tie.Need-sub-is-put Inv-loop μ-loop
-sub-is-put c = search needs
-
-part-is-put-start : tie.Need-part-is-put-start Inv-loop μ-loop
-part-is-put-start c = search needs
-
-part-is-put-end : tie.Need-part-is-put-end Inv-loop μ-loop
-part-is-put-end c = search needs
-
-is-put-requires : tie.Need-is-put-requires Inv-loop μ-loop
-is-put-requires c κs = search needs
-
 returns : tie.Need-returns Inv-loop μ-loop
 returns c =
     let p = c .before in
     let t = p .before .before in
     wrong-head (t .before .loop .inv) (t .loop-test .taken) (p .is-put .result) (p .is-put .ensures) (not-true _ (c .if1 .taken))
 
-add-i : tie.Need-add-i Inv-loop μ-loop
-add-i c = search needs
-
-loop-less : tie.Need-loop-less Inv-loop μ-loop
-loop-less c = search needs
-
 loop-again : tie.Need-loop-again Inv-loop μ-loop
 loop-again c =
     let p = c .before in
     let t = p .before .before in
     right-head (t .before .loop .inv) (t .loop-test .taken) (p .is-put .result) (p .is-put .ensures) (not-false _ (c .if1 .left))
-
-mul-result : tie.Need-mul-result Inv-loop μ-loop
-mul-result c = search needs
 
 returns-2 : tie.Need-returns-2 Inv-loop μ-loop
 returns-2 c = last-head (c .before .loop .inv) (c .loop-test .left)
@@ -63,14 +39,14 @@ are-puts-spec =
     Inv-loop
     μ-loop
     loop-holds
-    mul-is-put
-    sub-is-put
-    part-is-put-start
-    part-is-put-end
-    is-put-requires
+    (λ c. search needs)
+    (λ c. search needs)
+    (λ c. search needs)
+    (λ c. search needs)
+    (λ c κs. search needs)
     returns
-    add-i
-    loop-less
+    (λ c. search needs)
+    (λ c. search needs)
     loop-again
-    mul-result
+    (λ c. search needs)
     returns-2)

@@ -7,11 +7,8 @@ use Rattle.pay_runs.proofs.Heads.{right-room}
 use Rattle.pay_runs.proofs.has_room.Statement.{statement}
 use Rattle.pay_runs.proofs.has_room.Tie as tie
 
-mul-result : tie.Need-mul-result
-mul-result c = search needs
-
 returns : tie.Need-returns
 returns c = right-room (length (now (c .args .room))) (items (now (c .args .input)))
 
 pub has-room-spec : {M : Type 1} → statement M
-has-room-spec = tie.close (tie.spec mul-result returns)
+has-room-spec = tie.close (tie.spec (λ c. search needs) returns)

@@ -7,9 +7,6 @@ use Rattle.pay_runs.proofs.Lookahead.{not-both, shape-homes}
 use Rattle.pay_runs.proofs.look_ahead.Statement.{statement}
 use Rattle.pay_runs.proofs.look_ahead.Tie as tie
 
-in-range-requires : tie.Need-in-range-requires
-in-range-requires c κs = search needs
-
 returns : tie.Need-returns
 returns c =
     let r = c .before in
@@ -31,4 +28,4 @@ returns-2 c =
 pub look-ahead-spec : {M : Type 1} → statement M
 look-ahead-spec =
     tie.close
-    (tie.spec in-range-requires returns shape-requires homes-ahead-requires returns-2)
+    (tie.spec (λ c κs. search needs) returns shape-requires homes-ahead-requires returns-2)

@@ -6,15 +6,6 @@ use Rattle.register.proofs.Settling.{put-shut, put-past}
 use Rattle.pay_runs.proofs.put_known.Statement.{statement}
 use Rattle.pay_runs.proofs.put_known.Tie as tie
 
-enter-requires : tie.Need-enter-requires
-enter-requires c κs = search needs
-
-enum-known-gate : tie.Need-enum-known-gate
-enum-known-gate c = search needs
-
-enum-told : tie.Need-enum-told
-enum-told c = search needs
-
 put-open-requires : tie.Need-put-open-requires
 put-open-requires c κs =
     let t = c .before in
@@ -28,9 +19,6 @@ returns c =
     let a = e .before .before .args in
     put-shut (a .state) (now (a .area)) _ (e .enter .ensures .0) _ (c .before .gate .given .1) (a .new)
 
-same-length : tie.Need-same-length
-same-length c = search needs
-
 returns-2 : tie.Need-returns-2
 returns-2 c =
     let o = c .before .before in
@@ -43,10 +31,10 @@ pub put-known-spec : {M : Type 1} → statement M
 put-known-spec =
     tie.close
     (tie.spec
-    enter-requires
-    enum-known-gate
-    enum-told
+    (λ c κs. search needs)
+    (λ c. search needs)
+    (λ c. search needs)
     put-open-requires
     returns
-    same-length
+    (λ c. search needs)
     returns-2)

@@ -5,25 +5,10 @@ use Rattle.pay_runs.proofs.Items.{one-put}
 use Rattle.pay_runs.proofs.put_one.Statement.{statement}
 use Rattle.pay_runs.proofs.put_one.Tie as tie
 
-record-in-requires : tie.Need-record-in-requires
-record-in-requires c κs = search needs
-
 put-known-requires : tie.Need-put-known-requires
 put-known-requires c κs =
     let x = c .before in
     rw (x .record-in .ensures) (x .before .before .before .before .pre .0)
-
-tell-requires : tie.Need-tell-requires
-tell-requires c κs = search needs
-
-reply-requires : tie.Need-reply-requires
-reply-requires c κs = search needs
-
-same-length : tie.Need-same-length
-same-length c = search needs
-
-same-length-2 : tie.Need-same-length-2
-same-length-2 c = search needs
 
 returns : tie.Need-returns
 returns c =
@@ -39,10 +24,10 @@ pub put-one-spec : {M : Type 1} → statement M
 put-one-spec =
     tie.close
     (tie.spec
-    record-in-requires
+    (λ c κs. search needs)
     put-known-requires
-    tell-requires
-    reply-requires
-    same-length
-    same-length-2
+    (λ c κs. search needs)
+    (λ c κs. search needs)
+    (λ c. search needs)
+    (λ c. search needs)
     returns)

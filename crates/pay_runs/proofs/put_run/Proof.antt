@@ -6,26 +6,11 @@ use Rattle.pay_runs.proofs.Running.{run-heads, run-room, room-fits, run
 use Rattle.pay_runs.proofs.put_run.Statement.{statement}
 use Rattle.pay_runs.proofs.put_run.Tie as tie
 
-are-puts-requires : tie.Need-are-puts-requires
-are-puts-requires c κs = search needs
-
-refused-requires : tie.Need-refused-requires
-refused-requires c κs = search needs
-
 returns : tie.Need-returns
 returns c =
     let p = c .before .before in
     let a = p .before .before .before .before .args in
     run-heads (a .state) (now (a .area)) (now (a .input)) (now (a .room)) (p .are-puts .result) (p .are-puts .ensures) (not-true _ (c .before .if1 .taken)) (c .refused .result) (c .refused .ensures)
-
-has-room-requires : tie.Need-has-room-requires
-has-room-requires c κs = search needs
-
-refused-requires-2 : tie.Need-refused-requires-2
-refused-requires-2 c κs = search needs
-
-same-length : tie.Need-same-length
-same-length c = search needs
 
 returns-2 : tie.Need-returns-2
 returns-2 c =
@@ -46,15 +31,6 @@ put-each-requires c κs =
     room-fits (a .state) (now (a .area)) (now (a .input)) (now (a .room)) (p .are-puts .result) (p .are-puts .ensures) (not-false _ (e .if1 .left)) (r .has-room .result) (r .has-room .ensures)
     (not-false _ (t .if2 .left))
 
-refused-requires-3 : tie.Need-refused-requires-3
-refused-requires-3 c κs = search needs
-
-same-length-2 : tie.Need-same-length-2
-same-length-2 c = search needs
-
-same-length-3 : tie.Need-same-length-3
-same-length-3 c = search needs
-
 returns-3 : tie.Need-returns-3
 returns-3 c =
     let o = c .before .before .before .before .before in
@@ -70,15 +46,15 @@ pub put-run-spec : {M : Type 1} → statement M
 put-run-spec =
     tie.close
     (tie.spec
-    are-puts-requires
-    refused-requires
+    (λ c κs. search needs)
+    (λ c κs. search needs)
     returns
-    has-room-requires
-    refused-requires-2
-    same-length
+    (λ c κs. search needs)
+    (λ c κs. search needs)
+    (λ c. search needs)
     returns-2
     put-each-requires
-    refused-requires-3
-    same-length-2
-    same-length-3
+    (λ c κs. search needs)
+    (λ c. search needs)
+    (λ c. search needs)
     returns-3)

@@ -11,18 +11,6 @@ use borrow.Author.Needs.{needs}
 use Rattle.raw_calls.proofs.answer.Statement.{statement}
 use Rattle.raw_calls.proofs.answer.Tie as tie
 
-asked-in-requires : tie.Need-asked-in-requires
-asked-in-requires c κs = search needs
-
-is-sound-requires : tie.Need-is-sound-requires
-is-sound-requires c κs = search needs
-
-same-length : tie.Need-same-length
-same-length c = search needs
-
-returns : tie.Need-returns
-returns c = search needs
-
 -- the strings of a sound record
 lies : (c : tie.Else1) → Lying (c .before .before .asked-in .result) × (c .before .before .asked-in .result .room ≡ length (now (c .before .before .before .before .before .before .args .bytes)))
 lies c = c .before .is-sound .ensures (not-false _ (c .if1 .left))
@@ -49,29 +37,20 @@ tell-requires c κs =
     let w = lies (c .before .before .before .before .before .before .before .before .before) in
     (w .0, omega arith, omega arith)
 
-same-length-2 : tie.Need-same-length-2
-same-length-2 c = search needs
-
-same-length-3 : tie.Need-same-length-3
-same-length-3 c = search needs
-
-returns-2 : tie.Need-returns-2
-returns-2 c = search needs
-
 pub answer-spec : {M : Type 1} → statement M
 answer-spec =
     tie.close
     (tie.spec
-    asked-in-requires
-    is-sound-requires
-    same-length
-    returns
+    (λ c κs. search needs)
+    (λ c κs. search needs)
+    (λ c. search needs)
+    (λ c. search needs)
     sub-counts
     sub-counts-2
     slice-relend-prefix-call-on
     slice-aggregate-call-on
     call-on-requires
     tell-requires
-    same-length-2
-    same-length-3
-    returns-2)
+    (λ c. search needs)
+    (λ c. search needs)
+    (λ c. search needs))

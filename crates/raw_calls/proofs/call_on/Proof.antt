@@ -8,42 +8,6 @@ use borrow.Author.Needs.{needs}
 use Rattle.raw_calls.proofs.call_on.Statement.{statement}
 use Rattle.raw_calls.proofs.call_on.Tie as tie
 
-add-start : tie.Need-add-start
-add-start c = search needs
-
-add-lent : tie.Need-add-lent
-add-lent c = search needs
-
-sub-copy : tie.Need-sub-copy
-sub-copy c = search needs
-
-part-copy-start : tie.Need-part-copy-start
-part-copy-start c = search needs
-
-part-copy-end : tie.Need-part-copy-end
-part-copy-end c = search needs
-
-slice-aggregate-copy : tie.Need-slice-aggregate-copy
-slice-aggregate-copy c = search needs
-
-copy-requires : tie.Need-copy-requires
-copy-requires c κs = search needs
-
-sub-copy-2 : tie.Need-sub-copy-2
-sub-copy-2 c = search needs
-
-part-copy-start-2 : tie.Need-part-copy-start-2
-part-copy-start-2 c = search needs
-
-part-copy-end-2 : tie.Need-part-copy-end-2
-part-copy-end-2 c = search needs
-
-slice-aggregate-copy-2 : tie.Need-slice-aggregate-copy-2
-slice-aggregate-copy-2 c = search needs
-
-copy-requires-2 : tie.Need-copy-requires-2
-copy-requires-2 c κs = search needs
-
 array-share-prefix-second : tie.Need-array-share-prefix-second
 array-share-prefix-second c = search needs
 
@@ -74,40 +38,28 @@ sub-copy-3 c =
 part-copy-start-3 : tie.Need-part-copy-start-3
 part-copy-start-3 c = sub-copy-3 c
 
-part-copy-end-3 : tie.Need-part-copy-end-3
-part-copy-end-3 c = search needs
-
 copy-requires-3 : tie.Need-copy-requires-3
 copy-requires-3 c κs =
     let b = c .before .before .before .before .before .before .before in
     let w = with-row-requires (b .before) (b .with-row .lifetimes) in
     omega (arith, slice-aggregate-copy-3 (c .before))
 
-same-length : tie.Need-same-length
-same-length c = search needs
-
-same-length-2 : tie.Need-same-length-2
-same-length-2 c = search needs
-
-returns : tie.Need-returns
-returns c = search needs
-
 pub call-on-spec : {M : Type 1} → statement M
 call-on-spec =
     tie.close
     (tie.spec
-    add-start
-    add-lent
-    sub-copy
-    part-copy-start
-    part-copy-end
-    slice-aggregate-copy
-    copy-requires
-    sub-copy-2
-    part-copy-start-2
-    part-copy-end-2
-    slice-aggregate-copy-2
-    copy-requires-2
+    (λ c. search needs)
+    (λ c. search needs)
+    (λ c. search needs)
+    (λ c. search needs)
+    (λ c. search needs)
+    (λ c. search needs)
+    (λ c κs. search needs)
+    (λ c. search needs)
+    (λ c. search needs)
+    (λ c. search needs)
+    (λ c. search needs)
+    (λ c κs. search needs)
     array-share-prefix-second
     slice-aggregate-with-row
     array-borrow-prefix-room
@@ -117,8 +69,8 @@ call-on-spec =
     slice-aggregate-copy-3
     sub-copy-3
     part-copy-start-3
-    part-copy-end-3
+    (λ c. search needs)
     copy-requires-3
-    same-length
-    same-length-2
-    returns)
+    (λ c. search needs)
+    (λ c. search needs)
+    (λ c. search needs))

@@ -11,14 +11,8 @@ use Rattle.records.proofs.Reading.{long, kind-read}
 use Rattle.records.proofs.command_of.Statement.{statement}
 use Rattle.records.proofs.command_of.Tie as tie
 
-enum-told : tie.Need-enum-told
-enum-told c = search needs
-
 format-in-requires : tie.Need-format-in-requires
 format-in-requires c κs = long _ _ kind.Format (c .before .before .before .pre) (c .enum-told .given .1)
-
-enum-told-2 : tie.Need-enum-told-2
-enum-told-2 c = search needs
 
 get-u16-requires : tie.Need-get-u16-requires
 get-u16-requires c κs = long _ _ kind.FormatEdition (c .before .before .before .pre) (c .enum-told2 .given .1)
@@ -26,29 +20,14 @@ get-u16-requires c κs = long _ _ kind.FormatEdition (c .before .before .before 
 format-in-requires-2 : tie.Need-format-in-requires-2
 format-in-requires-2 c κs = omega (arith, long _ _ kind.FormatEdition (c .before .before .before .before .pre) (c .before .enum-told2 .given .1))
 
-enum-told-3 : tie.Need-enum-told-3
-enum-told-3 c = search needs
-
 record-in-requires : tie.Need-record-in-requires
 record-in-requires c κs = long _ _ kind.Put (c .before .before .before .pre) (c .enum-told3 .given .1)
-
-enum-told-4 : tie.Need-enum-told-4
-enum-told-4 c = search needs
 
 get-u64-requires : tie.Need-get-u64-requires
 get-u64-requires c κs = long _ _ kind.Find (c .before .before .before .pre) (c .enum-told4 .given .1)
 
-enum-told-5 : tie.Need-enum-told-5
-enum-told-5 c = search needs
-
 get-u64-requires-2 : tie.Need-get-u64-requires-2
 get-u64-requires-2 c κs = long _ _ kind.Remove (c .before .before .before .pre) (c .enum-told5 .given .1)
-
-enum-told-6 : tie.Need-enum-told-6
-enum-told-6 c = search needs
-
-enum-told-7 : tie.Need-enum-told-7
-enum-told-7 c = search needs
 
 returns : tie.Need-returns
 returns c =
@@ -66,39 +45,27 @@ returns-3 c =
     let a = c .before .before .before .before .args in
     kind-read (a .kind) kind.Put (now (a .input)) _ (c .before .enum-told3 .given .1) (ap Put (c .record-in .ensures))
 
-returns-4 : tie.Need-returns-4
-returns-4 c = cc
-
-returns-5 : tie.Need-returns-5
-returns-5 c = cc
-
-returns-6 : tie.Need-returns-6
-returns-6 c = search needs
-
-returns-7 : tie.Need-returns-7
-returns-7 c = search needs
-
 pub command-of-spec : {M : Type 1} → statement M
 command-of-spec =
     tie.close
     (tie.spec
-    enum-told
+    (λ c. search needs)
     format-in-requires
-    enum-told-2
+    (λ c. search needs)
     get-u16-requires
     format-in-requires-2
-    enum-told-3
+    (λ c. search needs)
     record-in-requires
-    enum-told-4
+    (λ c. search needs)
     get-u64-requires
-    enum-told-5
+    (λ c. search needs)
     get-u64-requires-2
-    enum-told-6
-    enum-told-7
+    (λ c. search needs)
+    (λ c. search needs)
     returns
     returns-2
     returns-3
-    returns-4
-    returns-5
-    returns-6
-    returns-7)
+    (λ c. cc)
+    (λ c. cc)
+    (λ c. search needs)
+    (λ c. search needs))

@@ -9,30 +9,12 @@ use Rattle.records.proofs.first.Tie as tie
 returns : tie.Need-returns
 returns c = (head-cut _ (c .if1 .taken), tt)
 
-get-u16-requires : tie.Need-get-u16-requires
-get-u16-requires c κs = search needs
-
-get-u16-requires-2 : tie.Need-get-u16-requires-2
-get-u16-requires-2 c κs = search needs
-
-form-of-requires : tie.Need-form-of-requires
-form-of-requires c κs = search needs
-
-enum-told : tie.Need-enum-told
-enum-told c = search needs
-
-enum-known-form : tie.Need-enum-known-form
-enum-known-form c = search needs
-
 returns-2 : tie.Need-returns-2
 returns-2 c =
     let k = c .before .before in
     let f = k .before .before in
     let g = f .before .before in
     (length-wrong _ (g .before .if1 .left) (g .get-u16 .ensures) (f .before .get-u162 .ensures) (f .form-of .ensures .0) (k .form .given .1) (c .if2 .taken), tt)
-
-cast-if3 : tie.Need-cast-if3
-cast-if3 c = search needs
 
 returns-3 : tie.Need-returns-3
 returns-3 c =
@@ -46,9 +28,6 @@ command-of-requires : tie.Need-command-of-requires
 command-of-requires c κs =
     let k = c .before .before .before in
     omega (arith, formed-length _ _ _ (k .before .before .form-of .ensures .1) (k .form .given .1))
-
-cast-t11 : tie.Need-cast-t11
-cast-t11 c = search needs
 
 returns-4 : tie.Need-returns-4
 returns-4 c =
@@ -69,15 +48,15 @@ first-spec =
     tie.close
     (tie.spec
     returns
-    get-u16-requires
-    get-u16-requires-2
-    form-of-requires
-    enum-told
-    enum-known-form
+    (λ c κs. search needs)
+    (λ c κs. search needs)
+    (λ c κs. search needs)
+    (λ c. search needs)
+    (λ c. search needs)
     returns-2
-    cast-if3
+    (λ c. search needs)
     returns-3
     command-of-requires
-    cast-t11
+    (λ c. search needs)
     returns-4
     returns-5)

@@ -7,9 +7,6 @@ use Rattle.records.proofs.Reading.{known-form, format-form, format-form
 use Rattle.records.proofs.form_of.Statement.{statement}
 use Rattle.records.proofs.form_of.Tie as tie
 
-format-form-requires : tie.Need-format-form-requires
-format-form-requires c κs = search needs
-
 returns : tie.Need-returns
 returns c =
     let r = c .format-form .ensures in
@@ -30,13 +27,16 @@ returns-5 c = (known-form kind.Grow _ _ (c .match .keys5) tt, refl)
 returns-6 : tie.Need-returns-6
 returns-6 c = (known-form kind.Check _ _ (c .match .keys6) tt, refl)
 
-returns-7 : tie.Need-returns-7
-returns-7 c = (other-form _ _ (c .before .match .rest), tt)
-
-returns-8 : tie.Need-returns-8
-returns-8 c = (other-form _ _ (c .before .match .rest), tt)
-
 pub form-of-spec : {M : Type 1} → statement M
 form-of-spec =
     tie.close
-    (tie.spec format-form-requires returns returns-2 returns-3 returns-4 returns-5 returns-6 returns-7 returns-8)
+    (tie.spec
+    (λ c κs. search needs)
+    returns
+    returns-2
+    returns-3
+    returns-4
+    returns-5
+    returns-6
+    (λ c. (other-form _ _ (c .before .match .rest), tt))
+    (λ c. (other-form _ _ (c .before .match .rest), tt)))

@@ -5,18 +5,6 @@ use Rattle.records.proofs.Reading.{format-read}
 use Rattle.records.proofs.format_in.Statement.{statement}
 use Rattle.records.proofs.format_in.Tie as tie
 
-get-u16-requires : tie.Need-get-u16-requires
-get-u16-requires c κs = search needs
-
-get-u16-requires-2 : tie.Need-get-u16-requires-2
-get-u16-requires-2 c κs = search needs
-
-get-u16-requires-3 : tie.Need-get-u16-requires-3
-get-u16-requires-3 c κs = search needs
-
-get-u16-requires-4 : tie.Need-get-u16-requires-4
-get-u16-requires-4 c κs = search needs
-
 returns : tie.Need-returns
 returns c =
     let p = c .before .before in
@@ -26,4 +14,4 @@ returns c =
 pub format-in-spec : {M : Type 1} → statement M
 format-in-spec =
     tie.close
-    (tie.spec get-u16-requires get-u16-requires-2 get-u16-requires-3 get-u16-requires-4 returns)
+    (tie.spec (λ c κs. search needs) (λ c κs. search needs) (λ c κs. search needs) (λ c κs. search needs) returns)

@@ -3,21 +3,6 @@ use borrow.Author.Needs.{needs}
 use Rattle.records.proofs.is_put.Statement.{statement}
 use Rattle.records.proofs.is_put.Tie as tie
 
-first-requires : tie.Need-first-requires
-first-requires c κs = search needs
-
-enum-known-item : tie.Need-enum-known-item
-enum-known-item c = search needs
-
-asks-put-requires : tie.Need-asks-put-requires
-asks-put-requires c κs = search needs
-
-enum-told : tie.Need-enum-told
-enum-told c = search needs
-
-enum-told-2 : tie.Need-enum-told-2
-enum-told-2 c = search needs
-
 returns : tie.Need-returns
 returns c =
     let i = c .before .before in
@@ -33,11 +18,11 @@ pub is-put-spec : {M : Type 1} → statement M
 is-put-spec =
     tie.close
     (tie.spec
-    first-requires
-    enum-known-item
-    asks-put-requires
-    enum-told
-    enum-told-2
+    (λ c κs. search needs)
+    (λ c. search needs)
+    (λ c κs. search needs)
+    (λ c. search needs)
+    (λ c. search needs)
     returns
     returns-2
     returns-3)

@@ -3,14 +3,8 @@ use borrow.Author.Needs.{needs}
 use Rattle.records.proofs.record_in.Statement.{statement}
 use Rattle.records.proofs.record_in.Tie as tie
 
-get-u64-requires : tie.Need-get-u64-requires
-get-u64-requires c κs = search needs
-
-get-u64-requires-2 : tie.Need-get-u64-requires-2
-get-u64-requires-2 c κs = search needs
-
 returns : tie.Need-returns
 returns c = rw (c .before .get-u64 .ensures, c .get-u642 .ensures)
 
 pub record-in-spec : {M : Type 1} → statement M
-record-in-spec = tie.close (tie.spec get-u64-requires get-u64-requires-2 returns)
+record-in-spec = tie.close (tie.spec (λ c κs. search needs) (λ c κs. search needs) returns)

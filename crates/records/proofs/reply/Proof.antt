@@ -10,41 +10,11 @@ use Rattle.records.proofs.Replying.{reply-stored}
 use Rattle.records.proofs.reply.Statement.{statement}
 use Rattle.records.proofs.reply.Tie as tie
 
-due-requires : tie.Need-due-requires
-due-requires c κs = search needs
-
-put-u16-requires : tie.Need-put-u16-requires
-put-u16-requires c κs = search needs
-
-put-u16-requires-2 : tie.Need-put-u16-requires-2
-put-u16-requires-2 c κs = search needs
-
-put-u16-requires-3 : tie.Need-put-u16-requires-3
-put-u16-requires-3 c κs = search needs
-
-put-u16-requires-4 : tie.Need-put-u16-requires-4
-put-u16-requires-4 c κs = search needs
-
-put-u64-requires : tie.Need-put-u64-requires
-put-u64-requires c κs = search needs
-
-put-u32-requires : tie.Need-put-u32-requires
-put-u32-requires c κs = search needs
-
-put-u32-requires-2 : tie.Need-put-u32-requires-2
-put-u32-requires-2 c κs = search needs
-
-put-u16-requires-5 : tie.Need-put-u16-requires-5
-put-u16-requires-5 c κs = search needs
-
 -- `omega` enters too few records from `c` to find the length that it began with
 put-u16-requires-6 : tie.Need-put-u16-requires-6
 put-u16-requires-6 c κs =
     let f = c .before .before .before .before .before .before .before .before .before .before .before .before .before .before .before .before .before .before in
     omega arith
-
-same-length : tie.Need-same-length
-same-length c = search needs
 
 returns : tie.Need-returns
 returns c =
@@ -67,15 +37,15 @@ pub reply-spec : {M : Type 1} → statement M
 reply-spec =
     tie.close
     (tie.spec
-    due-requires
-    put-u16-requires
-    put-u16-requires-2
-    put-u16-requires-3
-    put-u16-requires-4
-    put-u64-requires
-    put-u32-requires
-    put-u32-requires-2
-    put-u16-requires-5
+    (λ c κs. search needs)
+    (λ c κs. search needs)
+    (λ c κs. search needs)
+    (λ c κs. search needs)
+    (λ c κs. search needs)
+    (λ c κs. search needs)
+    (λ c κs. search needs)
+    (λ c κs. search needs)
+    (λ c κs. search needs)
     put-u16-requires-6
-    same-length
+    (λ c. search needs)
     returns)

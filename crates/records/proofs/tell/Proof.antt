@@ -3,11 +3,8 @@ use borrow.Author.Needs.{needs}
 use Rattle.records.proofs.tell.Statement.{statement}
 use Rattle.records.proofs.tell.Tie as tie
 
-numbers-requires : tie.Need-numbers-requires
-numbers-requires c κs = search needs
-
 returns : tie.Need-returns
 returns c = rw (c .numbers .ensures)
 
 pub tell-spec : {M : Type 1} → statement M
-tell-spec = tie.close (tie.spec numbers-requires returns)
+tell-spec = tie.close (tie.spec (λ c κs. search needs) returns)

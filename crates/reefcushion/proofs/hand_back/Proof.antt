@@ -10,21 +10,6 @@ use Rattle.reefcushion.proofs.Telling.{slip-stored, slip-again}
 use Rattle.reefcushion.proofs.hand_back.Statement.{statement}
 use Rattle.reefcushion.proofs.hand_back.Tie as tie
 
-renumbered-requires : tie.Need-renumbered-requires
-renumbered-requires c κs = search needs
-
-put-state-requires : tie.Need-put-state-requires
-put-state-requires c κs = search needs
-
-put-answer-requires : tie.Need-put-answer-requires
-put-answer-requires c κs = search needs
-
-cast-result : tie.Need-cast-result
-cast-result c = search needs
-
-same-length : tie.Need-same-length
-same-length c = search needs
-
 -- the state's numbers fit, since its types say so
 returns : tie.Need-returns
 returns c =
@@ -41,9 +26,9 @@ pub hand-back-spec : {M : Type 1} → statement M
 hand-back-spec =
     tie.close
     (tie.spec
-    renumbered-requires
-    put-state-requires
-    put-answer-requires
-    cast-result
-    same-length
+    (λ c κs. search needs)
+    (λ c κs. search needs)
+    (λ c κs. search needs)
+    (λ c. search needs)
+    (λ c. search needs)
     returns)

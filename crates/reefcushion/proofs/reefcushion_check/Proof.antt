@@ -14,18 +14,6 @@ returns c =
     let a = c .before .before .before .args in
     rw (not-served (now (a .slip)) (c .if1 .taken) (now (a .area)) check) (refl, (refl, refl))
 
-state-in-requires : tie.Need-state-in-requires
-state-in-requires c κs = search needs
-
-check-requires : tie.Need-check-requires
-check-requires c κs = search needs
-
-tell-requires : tie.Need-tell-requires
-tell-requires c κs = search needs
-
-same-length : tie.Need-same-length
-same-length c = search needs
-
 returns-2 : tie.Need-returns-2
 unfolding left
 returns-2 c =
@@ -41,4 +29,10 @@ returns-2 c =
 pub reefcushion-check-spec : {M : Type 1} → statement M
 reefcushion-check-spec =
     tie.close
-    (tie.spec returns state-in-requires check-requires tell-requires same-length returns-2)
+    (tie.spec
+    returns
+    (λ c κs. search needs)
+    (λ c κs. search needs)
+    (λ c κs. search needs)
+    (λ c. search needs)
+    returns-2)

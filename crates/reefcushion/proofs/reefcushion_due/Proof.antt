@@ -11,12 +11,6 @@ use Rattle.reefcushion.proofs.reefcushion_due.Tie as tie
 returns : tie.Need-returns
 returns c = none-due (now (c .before .before .args .slip)) (c .if1 .taken)
 
-state-in-requires : tie.Need-state-in-requires
-state-in-requires c κs = search needs
-
-due-requires : tie.Need-due-requires
-due-requires c κs = search needs
-
 returns-2 : tie.Need-returns-2
 returns-2 c =
     let d = c .before in
@@ -33,4 +27,4 @@ returns-3 c =
 
 pub reefcushion-due-spec : {M : Type 1} → statement M
 reefcushion-due-spec =
-    tie.close (tie.spec returns state-in-requires due-requires returns-2 returns-3)
+    tie.close (tie.spec returns (λ c κs. search needs) (λ c κs. search needs) returns-2 returns-3)

@@ -14,24 +14,6 @@ returns c =
     let l = now (a .slip) in
     rw (not-served l (c .if1 .taken) (now (a .area)) (grow (now (a .row))), row-kept l (c .if1 .taken) (now (a .area)) (now (a .row))) (refl, (refl, (refl, (refl, refl))))
 
-state-in-requires : tie.Need-state-in-requires
-state-in-requires c κs = search needs
-
-grow-requires : tie.Need-grow-requires
-grow-requires c κs = search needs
-
-tell-requires : tie.Need-tell-requires
-tell-requires c κs = search needs
-
-same-length : tie.Need-same-length
-same-length c = search needs
-
-same-length-2 : tie.Need-same-length-2
-same-length-2 c = search needs
-
-same-length-3 : tie.Need-same-length-3
-same-length-3 c = search needs
-
 returns-2 : tie.Need-returns-2
 unfolding left
 returns-2 c =
@@ -50,10 +32,10 @@ reefcushion-grow-spec =
     tie.close
     (tie.spec
     returns
-    state-in-requires
-    grow-requires
-    tell-requires
-    same-length
-    same-length-2
-    same-length-3
+    (λ c κs. search needs)
+    (λ c κs. search needs)
+    (λ c κs. search needs)
+    (λ c. search needs)
+    (λ c. search needs)
+    (λ c. search needs)
     returns-2)

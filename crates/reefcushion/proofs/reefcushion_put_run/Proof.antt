@@ -14,24 +14,6 @@ returns c =
     rw (not-run l (c .if1 .taken) (now (a .area)) (now (a .input)) (now (a .replies)), room-kept l (c .if1 .taken) (now (a .area)) (now (a .input)) (now (a .replies)))
     (refl, (refl, (refl, (refl, refl))))
 
-state-in-requires : tie.Need-state-in-requires
-state-in-requires c κs = search needs
-
-put-run-requires : tie.Need-put-run-requires
-put-run-requires c κs = search needs
-
-hand-back-requires : tie.Need-hand-back-requires
-hand-back-requires c κs = search needs
-
-same-length : tie.Need-same-length
-same-length c = search needs
-
-same-length-2 : tie.Need-same-length-2
-same-length-2 c = search needs
-
-same-length-3 : tie.Need-same-length-3
-same-length-3 c = search needs
-
 returns-2 : tie.Need-returns-2
 returns-2 c =
     let t = c .before .before in
@@ -49,10 +31,10 @@ reefcushion-put-run-spec =
     tie.close
     (tie.spec
     returns
-    state-in-requires
-    put-run-requires
-    hand-back-requires
-    same-length
-    same-length-2
-    same-length-3
+    (λ c κs. search needs)
+    (λ c κs. search needs)
+    (λ c κs. search needs)
+    (λ c. search needs)
+    (λ c. search needs)
+    (λ c. search needs)
     returns-2)

@@ -6,14 +6,8 @@ use Rattle.reefcushion.specs.Slip.{renumbered}
 use Rattle.reefcushion.proofs.state_in.Statement.{statement}
 use Rattle.reefcushion.proofs.state_in.Tie as tie
 
-get-state-requires : tie.Need-get-state-requires
-get-state-requires c κs = search needs
-
-renumbered-requires : tie.Need-renumbered-requires
-renumbered-requires c κs = search needs
-
 returns : tie.Need-returns
 returns c = c .renumbered .ensures ∙ ap (renumbered 1) (c .before .get-state .ensures)
 
 pub state-in-spec : {M : Type 1} → statement M
-state-in-spec = tie.close (tie.spec get-state-requires renumbered-requires returns)
+state-in-spec = tie.close (tie.spec (λ c κs. search needs) (λ c κs. search needs) returns)

@@ -21,26 +21,14 @@ long c =
     let a = c .before .args in
     shift-length (c .loop .input) (a .input .now) (a .taken) (a .have) (c .loop .i) (c .before .pre .0) (c .before .pre .1) (c .loop .inv .0) (c .loop .inv .1)
 
-sub-kept : tie.Need-sub-kept Inv-loop μ-loop
-sub-kept c = search needs
-
 loop-holds : tie.Need-loop-holds Inv-loop μ-loop
 loop-holds c = (omega arith, refl)
-
-add-input : tie.Need-add-input Inv-loop μ-loop
-add-input c = search needs
 
 slice-read-input : tie.Need-slice-read-input Inv-loop μ-loop
 slice-read-input c = let n = long (c .before .before) in omega arith
 
 slice-write-input : tie.Need-slice-write-input Inv-loop μ-loop
 slice-write-input c = let n = long (c .before .before) in omega arith
-
-add-i : tie.Need-add-i Inv-loop μ-loop
-add-i c = search needs
-
-loop-less : tie.Need-loop-less Inv-loop μ-loop
-loop-less c = search needs
 
 loop-again : tie.Need-loop-again Inv-loop μ-loop
 loop-again c =
@@ -63,13 +51,13 @@ keep-spec =
     (tie.spec
     Inv-loop
     μ-loop
-    sub-kept
+    (λ c. search needs)
     loop-holds
-    add-input
+    (λ c. search needs)
     slice-read-input
     slice-write-input
-    add-i
-    loop-less
+    (λ c. search needs)
+    (λ c. search needs)
     loop-again
     same-length
     returns)

@@ -15,42 +15,6 @@ use Rattle.slips.specs.Slips.{answerFields}
 use Rattle.slips.proofs.put_answer.Statement.{statement}
 use Rattle.slips.proofs.put_answer.Tie as tie
 
-put-u64-requires : tie.Need-put-u64-requires
-put-u64-requires c κs = search needs
-
-add-put-u32 : tie.Need-add-put-u32
-add-put-u32 c = search needs
-
-put-u32-requires : tie.Need-put-u32-requires
-put-u32-requires c κs = search needs
-
-add-put-u32-2 : tie.Need-add-put-u32-2
-add-put-u32-2 c = search needs
-
-put-u32-requires-2 : tie.Need-put-u32-requires-2
-put-u32-requires-2 c κs = search needs
-
-add-put-u16 : tie.Need-add-put-u16
-add-put-u16 c = search needs
-
-put-u16-requires : tie.Need-put-u16-requires
-put-u16-requires c κs = search needs
-
-add-put-u16-2 : tie.Need-add-put-u16-2
-add-put-u16-2 c = search needs
-
-put-u16-requires-2 : tie.Need-put-u16-requires-2
-put-u16-requires-2 c κs = search needs
-
-add-put-u32-3 : tie.Need-add-put-u32-3
-add-put-u32-3 c = search needs
-
-put-u32-requires-3 : tie.Need-put-u32-requires-3
-put-u32-requires-3 c κs = search needs
-
-same-length : tie.Need-same-length
-same-length c = search needs
-
 -- an answer, store by store
 stored : (n : Numbers) (l : List ℕ) (at : ℕ) → at + 24 ≤ length l → {a b c d e f : List ℕ} → a ≡ written l at (bytesOf 8 (n .value)) → b ≡ written a (at + 8) (bytesOf 4 (n .read))
     → c ≡ written b (at + 12) (bytesOf 4 (n .moved)) → d ≡ written c (at + 16) (bytesOf 2 (n .refusal)) → e ≡ written d (at + 18) (bytesOf 2 (n .page))
@@ -72,16 +36,16 @@ pub put-answer-spec : {M : Type 1} → statement M
 put-answer-spec =
     tie.close
     (tie.spec
-    put-u64-requires
-    add-put-u32
-    put-u32-requires
-    add-put-u32-2
-    put-u32-requires-2
-    add-put-u16
-    put-u16-requires
-    add-put-u16-2
-    put-u16-requires-2
-    add-put-u32-3
-    put-u32-requires-3
-    same-length
+    (λ c κs. search needs)
+    (λ c. search needs)
+    (λ c κs. search needs)
+    (λ c. search needs)
+    (λ c κs. search needs)
+    (λ c. search needs)
+    (λ c κs. search needs)
+    (λ c. search needs)
+    (λ c κs. search needs)
+    (λ c. search needs)
+    (λ c κs. search needs)
+    (λ c. search needs)
     returns)

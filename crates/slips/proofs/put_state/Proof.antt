@@ -14,48 +14,6 @@ use Rattle.slips.specs.Slips.{stateFields}
 use Rattle.slips.proofs.put_state.Statement.{statement}
 use Rattle.slips.proofs.put_state.Tie as tie
 
-put-u16-requires : tie.Need-put-u16-requires
-put-u16-requires c κs = search needs
-
-add-put-u16 : tie.Need-add-put-u16
-add-put-u16 c = search needs
-
-put-u16-requires-2 : tie.Need-put-u16-requires-2
-put-u16-requires-2 c κs = search needs
-
-add-put-u16-2 : tie.Need-add-put-u16-2
-add-put-u16-2 c = search needs
-
-put-u16-requires-3 : tie.Need-put-u16-requires-3
-put-u16-requires-3 c κs = search needs
-
-add-put-u16-3 : tie.Need-add-put-u16-3
-add-put-u16-3 c = search needs
-
-put-u16-requires-4 : tie.Need-put-u16-requires-4
-put-u16-requires-4 c κs = search needs
-
-add-put-u16-4 : tie.Need-add-put-u16-4
-add-put-u16-4 c = search needs
-
-put-u16-requires-5 : tie.Need-put-u16-requires-5
-put-u16-requires-5 c κs = search needs
-
-add-put-u16-5 : tie.Need-add-put-u16-5
-add-put-u16-5 c = search needs
-
-put-u16-requires-6 : tie.Need-put-u16-requires-6
-put-u16-requires-6 c κs = search needs
-
-add-put-u32 : tie.Need-add-put-u32
-add-put-u32 c = search needs
-
-put-u32-requires : tie.Need-put-u32-requires
-put-u32-requires c κs = search needs
-
-same-length : tie.Need-same-length
-same-length c = search needs
-
 -- a state, store by store
 stored : (s : State) (l : List ℕ) (at : ℕ) {a b c d e f g : List ℕ} → at + 16 ≤ length l
     → a ≡ written l at (bytesOf 2 (s .params .n0)) → b ≡ written a (at + 2) (bytesOf 2 (s .params .n)) → c ≡ written b (at + 4) (bytesOf 2 (s .params .s)) → d ≡ written c (at + 6) (bytesOf 2 (s .p))
@@ -79,18 +37,18 @@ pub put-state-spec : {M : Type 1} → statement M
 put-state-spec =
     tie.close
     (tie.spec
-    put-u16-requires
-    add-put-u16
-    put-u16-requires-2
-    add-put-u16-2
-    put-u16-requires-3
-    add-put-u16-3
-    put-u16-requires-4
-    add-put-u16-4
-    put-u16-requires-5
-    add-put-u16-5
-    put-u16-requires-6
-    add-put-u32
-    put-u32-requires
-    same-length
+    (λ c κs. search needs)
+    (λ c. search needs)
+    (λ c κs. search needs)
+    (λ c. search needs)
+    (λ c κs. search needs)
+    (λ c. search needs)
+    (λ c κs. search needs)
+    (λ c. search needs)
+    (λ c κs. search needs)
+    (λ c. search needs)
+    (λ c κs. search needs)
+    (λ c. search needs)
+    (λ c κs. search needs)
+    (λ c. search needs)
     returns)

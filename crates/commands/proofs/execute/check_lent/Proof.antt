@@ -10,17 +10,8 @@ use Rattle.commands.proofs.Lending.{said-lent}
 use Rattle.commands.proofs.execute.check_lent.Statement.{statement}
 use Rattle.commands.proofs.execute.check_lent.Tie as tie
 
-lent-requires : tie.Need-lent-requires
-lent-requires c κs = search needs
-
 slice-aggregate-check : tie.Need-slice-aggregate-check
 slice-aggregate-check c = sym (length-take-le _ _ (c .before .lent .ensures .1))
-
-check-requires : tie.Need-check-requires
-check-requires c κs = search needs
-
-tell-requires : tie.Need-tell-requires
-tell-requires c κs = search needs
 
 returns : tie.Need-returns
 returns c =
@@ -31,4 +22,10 @@ returns c =
 
 pub check-lent-spec : {M : Type 1} → statement M
 check-lent-spec =
-    tie.close (tie.spec lent-requires slice-aggregate-check check-requires tell-requires returns)
+    tie.close
+    (tie.spec
+    (λ c κs. search needs)
+    slice-aggregate-check
+    (λ c κs. search needs)
+    (λ c κs. search needs)
+    returns)

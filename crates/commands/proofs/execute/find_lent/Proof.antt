@@ -10,17 +10,8 @@ use Rattle.commands.proofs.Lending.{said-lent}
 use Rattle.commands.proofs.execute.find_lent.Statement.{statement}
 use Rattle.commands.proofs.execute.find_lent.Tie as tie
 
-lent-requires : tie.Need-lent-requires
-lent-requires c κs = search needs
-
 slice-aggregate-find : tie.Need-slice-aggregate-find
 slice-aggregate-find c = sym (length-take-le _ _ (c .before .lent .ensures .1))
-
-find-requires : tie.Need-find-requires
-find-requires c κs = search needs
-
-tell-requires : tie.Need-tell-requires
-tell-requires c κs = search needs
 
 returns : tie.Need-returns
 returns c =
@@ -31,4 +22,10 @@ returns c =
 
 pub find-lent-spec : {M : Type 1} → statement M
 find-lent-spec =
-    tie.close (tie.spec lent-requires slice-aggregate-find find-requires tell-requires returns)
+    tie.close
+    (tie.spec
+    (λ c κs. search needs)
+    slice-aggregate-find
+    (λ c κs. search needs)
+    (λ c κs. search needs)
+    returns)

@@ -10,23 +10,8 @@ use Rattle.commands.proofs.Lending.{wrote-lent}
 use Rattle.commands.proofs.execute.format_lent.Statement.{statement}
 use Rattle.commands.proofs.execute.format_lent.Tie as tie
 
-lent-requires : tie.Need-lent-requires
-lent-requires c κs = search needs
-
-slice-relend-prefix-format : tie.Need-slice-relend-prefix-format
-slice-relend-prefix-format c = search needs
-
 slice-aggregate-format : tie.Need-slice-aggregate-format
 slice-aggregate-format c = sym (length-take-le _ _ (c .before .lent .ensures .1))
-
-format-requires : tie.Need-format-requires
-format-requires c κs = search needs
-
-tell-requires : tie.Need-tell-requires
-tell-requires c κs = search needs
-
-same-length : tie.Need-same-length
-same-length c = search needs
 
 returns : tie.Need-returns
 returns c =
@@ -39,10 +24,10 @@ pub format-lent-spec : {M : Type 1} → statement M
 format-lent-spec =
     tie.close
     (tie.spec
-    lent-requires
-    slice-relend-prefix-format
+    (λ c κs. search needs)
+    (λ c. search needs)
     slice-aggregate-format
-    format-requires
-    tell-requires
-    same-length
+    (λ c κs. search needs)
+    (λ c κs. search needs)
+    (λ c. search needs)
     returns)

@@ -13,15 +13,6 @@ use Rattle.commands.proofs.Lending.{grew-lent}
 use Rattle.commands.proofs.execute.grow_lent.Statement.{statement}
 use Rattle.commands.proofs.execute.grow_lent.Tie as tie
 
-lent-requires : tie.Need-lent-requires
-lent-requires c κs = search needs
-
-cast-cap : tie.Need-cast-cap
-cast-cap c = search needs
-
-slice-relend-prefix-grow : tie.Need-slice-relend-prefix-grow
-slice-relend-prefix-grow c = search needs
-
 slice-aggregate-grow : tie.Need-slice-aggregate-grow
 slice-aggregate-grow c = sym (length-take-le _ _ (c .before .before .before .lent .ensures .1))
 
@@ -31,18 +22,6 @@ slice-relend-prefix-grow-2 c = ⊎-elim (λ w. omega arith) (λ w. omega arith) 
 slice-aggregate-grow-2 : tie.Need-slice-aggregate-grow-2
 slice-aggregate-grow-2 c =
     sym (length-take-le _ _ (⊎-elim (λ w. omega arith) (λ w. omega arith) (c .before .before .if1 .came)))
-
-grow-requires : tie.Need-grow-requires
-grow-requires c κs = search needs
-
-tell-requires : tie.Need-tell-requires
-tell-requires c κs = search needs
-
-same-length : tie.Need-same-length
-same-length c = search needs
-
-same-length-2 : tie.Need-same-length-2
-same-length-2 c = search needs
 
 returns : tie.Need-returns
 returns c =
@@ -58,14 +37,14 @@ pub grow-lent-spec : {M : Type 1} → statement M
 grow-lent-spec =
     tie.close
     (tie.spec
-    lent-requires
-    cast-cap
-    slice-relend-prefix-grow
+    (λ c κs. search needs)
+    (λ c. search needs)
+    (λ c. search needs)
     slice-aggregate-grow
     slice-relend-prefix-grow-2
     slice-aggregate-grow-2
-    grow-requires
-    tell-requires
-    same-length
-    same-length-2
+    (λ c κs. search needs)
+    (λ c κs. search needs)
+    (λ c. search needs)
+    (λ c. search needs)
     returns)

@@ -10,23 +10,8 @@ use Rattle.commands.proofs.Lending.{wrote-lent}
 use Rattle.commands.proofs.execute.put_lent.Statement.{statement}
 use Rattle.commands.proofs.execute.put_lent.Tie as tie
 
-lent-requires : tie.Need-lent-requires
-lent-requires c κs = search needs
-
-slice-relend-prefix-put : tie.Need-slice-relend-prefix-put
-slice-relend-prefix-put c = search needs
-
 slice-aggregate-put : tie.Need-slice-aggregate-put
 slice-aggregate-put c = sym (length-take-le _ _ (c .before .lent .ensures .1))
-
-put-requires : tie.Need-put-requires
-put-requires c κs = search needs
-
-tell-requires : tie.Need-tell-requires
-tell-requires c κs = search needs
-
-same-length : tie.Need-same-length
-same-length c = search needs
 
 returns : tie.Need-returns
 returns c =
@@ -39,10 +24,10 @@ pub put-lent-spec : {M : Type 1} → statement M
 put-lent-spec =
     tie.close
     (tie.spec
-    lent-requires
-    slice-relend-prefix-put
+    (λ c κs. search needs)
+    (λ c. search needs)
     slice-aggregate-put
-    put-requires
-    tell-requires
-    same-length
+    (λ c κs. search needs)
+    (λ c κs. search needs)
+    (λ c. search needs)
     returns)

@@ -10,23 +10,8 @@ use Rattle.commands.proofs.Lending.{wrote-lent}
 use Rattle.commands.proofs.execute.remove_lent.Statement.{statement}
 use Rattle.commands.proofs.execute.remove_lent.Tie as tie
 
-lent-requires : tie.Need-lent-requires
-lent-requires c κs = search needs
-
-slice-relend-prefix-remove : tie.Need-slice-relend-prefix-remove
-slice-relend-prefix-remove c = search needs
-
 slice-aggregate-remove : tie.Need-slice-aggregate-remove
 slice-aggregate-remove c = sym (length-take-le _ _ (c .before .lent .ensures .1))
-
-remove-requires : tie.Need-remove-requires
-remove-requires c κs = search needs
-
-tell-requires : tie.Need-tell-requires
-tell-requires c κs = search needs
-
-same-length : tie.Need-same-length
-same-length c = search needs
 
 returns : tie.Need-returns
 returns c =
@@ -39,10 +24,10 @@ pub remove-lent-spec : {M : Type 1} → statement M
 remove-lent-spec =
     tie.close
     (tie.spec
-    lent-requires
-    slice-relend-prefix-remove
+    (λ c κs. search needs)
+    (λ c. search needs)
     slice-aggregate-remove
-    remove-requires
-    tell-requires
-    same-length
+    (λ c κs. search needs)
+    (λ c κs. search needs)
+    (λ c. search needs)
     returns)

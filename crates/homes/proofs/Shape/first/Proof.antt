@@ -8,15 +8,6 @@ use Rattle.homes.specs.Homes.{np}
 use Rattle.homes.proofs.Shape.first.Statement.{statement}
 use Rattle.homes.proofs.Shape.first.Tie as tie
 
-cast-n0 : tie.Need-cast-n0
-cast-n0 c = search needs
-
-cast-n : tie.Need-cast-n
-cast-n c = search needs
-
-mul-t4 : tie.Need-mul-t4
-mul-t4 c = search needs
-
 returns : tie.Need-returns
 returns c =
     let self = c .before .before .args .self in
@@ -24,4 +15,4 @@ returns c =
     (rw np-is, (search needs, omega (arith, mul-le-mul-right (self .params .n) (c .before .before .pre .n0-low)), search needs))
 
 pub first-spec : {M : Type 1} → statement M
-first-spec = tie.close (tie.spec cast-n0 cast-n mul-t4 returns)
+first-spec = tie.close (tie.spec (λ c. search needs) (λ c. search needs) (λ c. search needs) returns)

@@ -44,7 +44,7 @@ sweeps c =
     (sweeps-are _ _ _ (c .before .new3 .ensures) .0, own .0, own .1)
 
 -- below size p a step is one of the forty, so the table has its power
-small : (c : tie.Then1 Inv-loop μ-loop) → (c .before .before .loop .stage .f < 4096) × (c .before .before .loop .x + c .before .before .before .before .before .before .before .before .before .later .result ≤ 50) × (c .before .before .loop .stage .np < 8)
+small : (c : tie.Then1 Inv-loop μ-loop) → (c .before .before .loop .stage .f < 4096) × (c .before .before .loop .x + c .before .before .before .before .before .before .before .before .before .later .result < 51) × (c .before .before .loop .stage .np < 8)
 small c =
     let at = c .before .before in
     let ranges = at .before .before .before .before .before .before .before .before .before .before .before .pre in
@@ -56,7 +56,7 @@ moves : (c : tie.After-draw Inv-loop μ-loop) → let at = c .before .before .be
 moves c =
     let at = c .before .before .before in
     let fits = small (c .before) in
-    mover-by _ _ _ _ _ _ _ _ _ (at .before .before .before .before .before .before .before .before .before .powers .ensures (at .loop .x + at .before .before .before .before .before .before .before .later .result) (omega (arith, fits))) (at .before .before .before .before .before .before .twice-seed .ensures) (c .draw .ensures) (at .before .before .before .before .before .before .before .before .limits .ensures (at .loop .stage .np) (fits .2)) (at .loop .inv .0 .np-is)
+    mover-by _ _ _ _ _ _ _ _ _ (at .before .before .before .before .before .before .before .before .before .powers .ensures (at .loop .x + at .before .before .before .before .before .before .before .later .result) (fits .1)) (at .before .before .before .before .before .before .twice-seed .ensures) (c .draw .ensures) (at .before .before .before .before .before .before .before .before .limits .ensures (at .loop .stage .np) (fits .2)) (at .loop .inv .0 .np-is)
 
 -- the lane after the step fits
 fits : (c : tie.After-step Inv-loop μ-loop) → InGroup (c .before .before .before .before .loop .stage .g) (c .step .result)
@@ -71,24 +71,6 @@ leads : (c : tie.After-next Inv-loop μ-loop) → let at = c .before .before .be
 leads c =
     let at = c .before .before .before .before .before in
     lane-on (at .loop .inv .0) (c .next .ensures .0) _ _ _ _ _ _ (at .loop .lane) _ (c .before .before .before .if1 .taken) (moves (c .before .before)) (at .loop .inv .2) (rw (← sweeps at .1) (c .before .step .ensures)) (at .loop .inv .1)
-
-cast-n0 : tie.Need-cast-n0 Inv-loop μ-loop
-cast-n0 c = search needs
-
-powers-requires : tie.Need-powers-requires Inv-loop μ-loop
-powers-requires c κs = search needs
-
-limits-requires : tie.Need-limits-requires Inv-loop μ-loop
-limits-requires c κs = search needs
-
-later-requires : tie.Need-later-requires Inv-loop μ-loop
-later-requires c κs = search needs
-
-twice-seed-requires : tie.Need-twice-seed-requires Inv-loop μ-loop
-twice-seed-requires c κs = search needs
-
-first-requires : tie.Need-first-requires Inv-loop μ-loop
-first-requires c κs = search needs
 
 new-requires : tie.Need-new-requires Inv-loop μ-loop
 new-requires c κs = (first c .low, first c .high)
@@ -117,22 +99,10 @@ loop-holds c =
     let lane = lane-is _ _ _ _ (first stage .groups) (c .before .new2 .ensures) (ranges .N-low) (omega (arith, page at .1, first stage .four)) in
     (stepping-first _ _ _ ranges (stage .first .ensures .0) (stage .first .ensures .1), leads-begin _ _ _ _ _ _ _ _ (stage .first .ensures .0) (lane .0 ∙ page at .0), lane .1, sweeps-are _ _ _ (c .new3 .ensures ∙ ap (sweepsOf _) (sym (first stage .groups))) .1)
 
-add-draw : tie.Need-add-draw Inv-loop μ-loop
-add-draw c = omega (arith, small c)
-
-mul-draw : tie.Need-mul-draw Inv-loop μ-loop
-mul-draw c = search needs
-
-array-read-draw : tie.Need-array-read-draw Inv-loop μ-loop
-array-read-draw c = omega (arith, small c)
-
 draw-requires : tie.Need-draw-requires Inv-loop μ-loop
 draw-requires c κs =
     let at = c .before .before in
-    draws (at .before .before .before .before .before .before .before .before .before .before .before .args .key) (at .loop .x + at .before .before .before .before .before .before .before .later .result) _ _ (at .before .before .before .before .before .before .before .before .before .powers .ensures (at .loop .x + at .before .before .before .before .before .before .before .later .result) (omega (arith, small c))) (at .before .before .before .before .before .before .twice-seed .ensures)
-
-mul-moves : tie.Need-mul-moves Inv-loop μ-loop
-mul-moves c = search needs
+    draws (at .before .before .before .before .before .before .before .before .before .before .before .args .key) (at .loop .x + at .before .before .before .before .before .before .before .later .result) _ _ (at .before .before .before .before .before .before .before .before .before .powers .ensures (at .loop .x + at .before .before .before .before .before .before .before .later .result) (small c .1)) (at .before .before .before .before .before .before .twice-seed .ensures)
 
 array-read-moves : tie.Need-array-read-moves Inv-loop μ-loop
 array-read-moves c = small (c .before) .2
@@ -210,16 +180,10 @@ loop-again-2 c =
       rw same (at .loop .inv .3),
     )
 
-cast-result : tie.Need-cast-result Inv-loop μ-loop
-cast-result c = search needs
-
 mul-result : tie.Need-mul-result Inv-loop μ-loop
 mul-result c =
     let inv = c .before .before .before .before .loop .inv in
     omega (arith, page-fits _ _ _ (omega (arith, inv .0 .sound, inv .0 .small)) (inv .2 .0) (inv .2 .1))
-
-cast-result-2 : tie.Need-cast-result-2 Inv-loop μ-loop
-cast-result-2 c = search needs
 
 add-result : tie.Need-add-result Inv-loop μ-loop
 add-result c =
@@ -239,23 +203,23 @@ home-spec =
     (tie.spec
     Inv-loop
     μ-loop
-    cast-n0
-    powers-requires
-    limits-requires
-    later-requires
-    twice-seed-requires
-    first-requires
+    (λ c. search needs)
+    (λ c κs. search needs)
+    (λ c κs. search needs)
+    (λ c κs. search needs)
+    (λ c κs. search needs)
+    (λ c κs. search needs)
     new-requires
     page-requires
     cast-new
     new-requires-2
     new-requires-3
     loop-holds
-    add-draw
-    mul-draw
-    array-read-draw
+    (λ c. omega (arith, small c))
+    (λ c. search needs)
+    (λ c. small c .1)
     draw-requires
-    mul-moves
+    (λ c. search needs)
     array-read-moves
     step-requires
     add-x
@@ -267,8 +231,8 @@ home-spec =
     loop-again
     loop-less-2
     loop-again-2
-    cast-result
+    (λ c. search needs)
     mul-result
-    cast-result-2
+    (λ c. search needs)
     add-result
     returns)

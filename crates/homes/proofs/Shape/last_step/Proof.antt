@@ -18,22 +18,10 @@ Inv-loop n0 p stage₀ stage = Seeking n0 p (lastFrom n0 p (p - stage₀ .f) 1 s
 abbrev μ-loop : tie.MeasureT-loop
 μ-loop n0 p stage₀ stage = p - stage .f
 
-cast-n0 : tie.Need-cast-n0 Inv-loop μ-loop
-cast-n0 c = search needs
-
-first-requires : tie.Need-first-requires Inv-loop μ-loop
-first-requires c κs = search needs
-
 loop-holds : tie.Need-loop-holds Inv-loop μ-loop
 loop-holds c =
     let at = c .before .before in
     seek-starts _ (at .args .self .params .n) _ _ (c .first .ensures .0) (c .first .ensures .1) (at .pre .1)
-
-add-if1 : tie.Need-add-if1 Inv-loop μ-loop
-add-if1 c = search needs
-
-next-requires : tie.Need-next-requires Inv-loop μ-loop
-next-requires c κs = search needs
 
 loop-less : tie.Need-loop-less Inv-loop μ-loop
 loop-less c =
@@ -54,4 +42,15 @@ returns c =
 
 pub last-step-spec : {M : Type 1} → statement M
 last-step-spec =
-    tie.close (tie.spec Inv-loop μ-loop cast-n0 first-requires loop-holds add-if1 next-requires loop-less loop-again returns)
+    tie.close
+    (tie.spec
+    Inv-loop
+    μ-loop
+    (λ c. search needs)
+    (λ c κs. search needs)
+    loop-holds
+    (λ c. search needs)
+    (λ c κs. search needs)
+    loop-less
+    loop-again
+    returns)

@@ -10,12 +10,9 @@ use Rattle.homes.proofs.Shape.stays.Tie as tie
 sub-added : tie.Need-sub-added
 sub-added c = omega (arith, mul-pos (c .before .pre .0 .n0-low) (c .before .pre .0 .N-low))
 
-new-page-requires : tie.Need-new-page-requires
-new-page-requires c κs = search needs
-
 returns : tie.Need-returns
 unfolding staysAt
 returns c = rw (c .new-page .ensures)
 
 pub stays-spec : {M : Type 1} → statement M
-stays-spec = tie.close (tie.spec sub-added new-page-requires returns)
+stays-spec = tie.close (tie.spec sub-added (λ c κs. search needs) returns)

@@ -5,18 +5,6 @@ use Rattle.homes.proofs.Round.{ends, runs}
 use Rattle.homes.proofs.Stage.next.Statement.{statement}
 use Rattle.homes.proofs.Stage.next.Tie as tie
 
-add-self : tie.Need-add-self
-add-self c = search needs
-
-add-self-2 : tie.Need-add-self-2
-add-self-2 c = search needs
-
-mul-if1 : tie.Need-mul-if1
-mul-if1 c = search needs
-
-mul-self : tie.Need-mul-self
-mul-self c = search needs
-
 returns : tie.Need-returns
 returns c = (λ x h e. ends _ x _ h e (c .before .if1 .taken), search needs)
 
@@ -24,4 +12,4 @@ returns-2 : tie.Need-returns-2
 returns-2 c = (λ x h e. runs _ x _ h e (search needs) (c .if1 .left), search needs)
 
 pub next-spec : {M : Type 1} → statement M
-next-spec = tie.close (tie.spec add-self add-self-2 mul-if1 mul-self returns returns-2)
+next-spec = tie.close (tie.spec (λ c. search needs) (λ c. search needs) (λ c. search needs) (λ c. search needs) returns returns-2)

@@ -31,23 +31,8 @@ module _ (a g : ℕ) where
       go false false true e f k = absurd (omega (arith, leb-false g a e, leb-true (3 * g) a k))
       go true false true e f k = absurd (omega (arith, leb-false (2 * g) a f, leb-true (3 * g) a k))
 
-cast-result : tie.Need-cast-result
-cast-result c = search needs
-
-mul-result : tie.Need-mul-result
-mul-result c = search needs
-
-cast-result-2 : tie.Need-cast-result-2
-cast-result-2 c = search needs
-
 add-result : tie.Need-add-result
 add-result c = omega (arith, bit (leb (c .args .g) (c .args .page)), bit (leb (2 * c .args .g) (c .args .page)))
-
-mul-result-2 : tie.Need-mul-result-2
-mul-result-2 c = search needs
-
-cast-result-3 : tie.Need-cast-result-3
-cast-result-3 c = search needs
 
 add-result-2 : tie.Need-add-result-2
 add-result-2 c =
@@ -60,11 +45,11 @@ pub turn-of-spec : {M : Type 1} → statement M
 turn-of-spec =
     tie.close
     (tie.spec
-    cast-result
-    mul-result
-    cast-result-2
+    (λ c. search needs)
+    (λ c. search needs)
+    (λ c. search needs)
     add-result
-    mul-result-2
-    cast-result-3
+    (λ c. search needs)
+    (λ c. search needs)
     add-result-2
     returns)

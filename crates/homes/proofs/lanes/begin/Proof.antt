@@ -47,26 +47,8 @@ Inv-loop m keys start seeds₀ pages₀ i₀ seeds pages i =
 abbrev μ-loop : tie.MeasureT-loop
 μ-loop m keys start seeds₀ pages₀ i₀ seeds pages i = 12 - i
 
-new-requires : tie.Need-new-requires Inv-loop μ-loop
-new-requires c κs = search needs
-
 loop-holds : tie.Need-loop-holds Inv-loop μ-loop
 loop-holds c = (none _ _ refl, none _ _ refl, rest, search needs)
-
-mul-key : tie.Need-mul-key Inv-loop μ-loop
-mul-key c = search needs
-
-array-read-key : tie.Need-array-read-key Inv-loop μ-loop
-array-read-key c = search needs
-
-twice-seed-requires : tie.Need-twice-seed-requires Inv-loop μ-loop
-twice-seed-requires c κs = search needs
-
-mul-seeds : tie.Need-mul-seeds Inv-loop μ-loop
-mul-seeds c = search needs
-
-array-write-seeds : tie.Need-array-write-seeds Inv-loop μ-loop
-array-write-seeds c = search needs
 
 page-requires : tie.Need-page-requires Inv-loop μ-loop
 page-requires c κs =
@@ -77,18 +59,6 @@ cast-pages : tie.Need-cast-pages Inv-loop μ-loop
 cast-pages c =
     let new = c .before .before .before .before in
     omega (arith, c .page .ensures .1, start-by _ _ (new .new .ensures), new .before .pre .1)
-
-mul-pages : tie.Need-mul-pages Inv-loop μ-loop
-mul-pages c = search needs
-
-array-write-pages : tie.Need-array-write-pages Inv-loop μ-loop
-array-write-pages c = search needs
-
-add-i : tie.Need-add-i Inv-loop μ-loop
-add-i c = search needs
-
-loop-less : tie.Need-loop-less Inv-loop μ-loop
-loop-less c = search needs
 
 loop-again : tie.Need-loop-again Inv-loop μ-loop
 loop-again c =
@@ -112,18 +82,18 @@ begin-spec =
     (tie.spec
     Inv-loop
     μ-loop
-    new-requires
+    (λ c κs. search needs)
     loop-holds
-    mul-key
-    array-read-key
-    twice-seed-requires
-    mul-seeds
-    array-write-seeds
+    (λ c. search needs)
+    (λ c. search needs)
+    (λ c κs. search needs)
+    (λ c. search needs)
+    (λ c. search needs)
     page-requires
     cast-pages
-    mul-pages
-    array-write-pages
-    add-i
-    loop-less
+    (λ c. search needs)
+    (λ c. search needs)
+    (λ c. search needs)
+    (λ c. search needs)
     loop-again
     returns)

@@ -49,7 +49,7 @@ sweeps : (c : tie.At-loop Inv-loop2 μ-loop2 Inv-loop μ-loop) → c .before .ne
 sweeps c = sweeps-are _ _ _ (c .before .new .ensures) .0
 
 -- below size p a step is one of the forty, so the table has its power
-small : (c : tie.Then2 Inv-loop2 μ-loop2 Inv-loop μ-loop) → let at = c .before .before .before in (at .loop2 .stage .g ≡ at .before .before .before .before .loop .stage .g) × (at .loop2 .stage .f < at .before .before .before .before .before .before .before .before .before .before .before .before .before .before .before .args .shape .p) × (at .loop2 .stage .f < 4096) × (at .loop2 .x + at .before .before .before .before .before .before .before .before .before .before .before .later .result ≤ 50) × (at .loop2 .stage .np < 8)
+small : (c : tie.Then2 Inv-loop2 μ-loop2 Inv-loop μ-loop) → let at = c .before .before .before in (at .loop2 .stage .g ≡ at .before .before .before .before .loop .stage .g) × (at .loop2 .stage .f < at .before .before .before .before .before .before .before .before .before .before .before .before .before .before .before .args .shape .p) × (at .loop2 .stage .f < 4096) × (at .loop2 .x + at .before .before .before .before .before .before .before .before .before .before .before .later .result < 51) × (at .loop2 .stage .np < 8)
 small c =
     let at = c .before .before .before in
     let ranges = at .before .before .before .before .before .before .before .before .before .before .before .before .before .before .before .pre in
@@ -57,21 +57,6 @@ small c =
     let goes = round-goes (t .g) (at .before .before .before .before .loop .stage .g) (t .f) (at .before .before .before .before .before .before .before .before .before .before .before .before .before .before .before .args .shape .p) (c .if2 .taken) in
     let below : at .loop2 .stage .f < 4096 = omega (arith, goes .1, ranges .P-high) in
     (goes .0, goes .1, below, omega (arith, few (at .loop2 .inv .0) below, at .before .before .before .before .before .before .before .before .before .before .before .later .ensures .1), omega (arith, at .loop2 .inv .0 .sound, ranges .n0-high))
-
-cast-n0 : tie.Need-cast-n0 Inv-loop2 μ-loop2 Inv-loop μ-loop
-cast-n0 c = search needs
-
-powers-requires : tie.Need-powers-requires Inv-loop2 μ-loop2 Inv-loop μ-loop
-powers-requires c κs = search needs
-
-limits-requires : tie.Need-limits-requires Inv-loop2 μ-loop2 Inv-loop μ-loop
-limits-requires c κs = search needs
-
-later-requires : tie.Need-later-requires Inv-loop2 μ-loop2 Inv-loop μ-loop
-later-requires c κs = search needs
-
-first-requires : tie.Need-first-requires Inv-loop2 μ-loop2 Inv-loop μ-loop
-first-requires c κs = search needs
 
 begin-requires : tie.Need-begin-requires Inv-loop2 μ-loop2 Inv-loop μ-loop
 begin-requires c κs = (first c .low, first c .high)
@@ -111,25 +96,10 @@ loop2-holds c =
 cast-if2 : tie.Need-cast-if2 Inv-loop2 μ-loop2 Inv-loop μ-loop
 cast-if2 c = omega (arith, c .before .before .before .before .loop .inv .0 .sound, c .before .before .if1 .taken, c .before .before .before .before .before .before .before .before .before .before .before .before .before .before .before .pre .P-high)
 
-add-movers : tie.Need-add-movers Inv-loop2 μ-loop2 Inv-loop μ-loop
-add-movers c = omega (arith, small c)
-
-mul-movers : tie.Need-mul-movers Inv-loop2 μ-loop2 Inv-loop μ-loop
-mul-movers c = omega (arith, small c)
-
-array-read-movers : tie.Need-array-read-movers Inv-loop2 μ-loop2 Inv-loop μ-loop
-array-read-movers c = omega (arith, small c)
-
-mul-movers-2 : tie.Need-mul-movers-2 Inv-loop2 μ-loop2 Inv-loop μ-loop
-mul-movers-2 c = omega (arith, small c)
-
-array-read-movers-2 : tie.Need-array-read-movers-2 Inv-loop2 μ-loop2 Inv-loop μ-loop
-array-read-movers-2 c = small c .4
-
 movers-requires : tie.Need-movers-requires Inv-loop2 μ-loop2 Inv-loop μ-loop
 movers-requires c κs =
     let at = c .before .before .before in
-    λ i h. draws _ (at .loop2 .x + at .before .before .before .before .before .before .before .before .before .before .before .later .result) _ _ (at .before .before .before .before .before .before .before .before .before .before .before .before .before .powers .ensures (at .loop2 .x + at .before .before .before .before .before .before .before .before .before .before .before .later .result) (omega (arith, small c))) (at .before .before .before .before .before .before .before .before .before .begin .ensures .0 i h .0)
+    λ i h. draws _ (at .loop2 .x + at .before .before .before .before .before .before .before .before .before .before .before .later .result) _ _ (at .before .before .before .before .before .before .before .before .before .before .before .before .before .powers .ensures (at .loop2 .x + at .before .before .before .before .before .before .before .before .before .before .before .later .result) (small c .3)) (at .before .before .before .before .before .before .before .before .before .begin .ensures .0 i h .0)
 
 cast-step-all : tie.Need-cast-step-all Inv-loop2 μ-loop2 Inv-loop μ-loop
 cast-step-all c = omega (arith, small (c .before .before .before))
@@ -174,7 +144,7 @@ loop2-again c =
     let low = sweeps-are _ _ _ (outer .loop .inv .4 (at .before .before .if1 .taken)) .0 in
     let moves = c .before .before .before .before .movers .ensures in (
       stepping-on on after (outer .before .before .before .before .before .before .before .before .before .before .before .pre .n0-low) (fits .2) (c .next .ensures .1),
-      λ i N K h q l. all-on on after _ _ _ _ _ _ _ (fits .0) (placed i (omega arith) .0) (placed i (omega arith) .1) (below i (omega arith)) (step .0 i (omega arith)) (step .1 i (omega arith) .1) d N _ K _ (fits .1) (moves-told _ _ (moves i h) ∙ mover-by d _ _ _ _ _ _ _ _ (outer .before .before .before .before .before .before .before .before .before .powers .ensures (x + d) (omega (arith, fits))) q refl (outer .before .before .before .before .before .before .before .before .limits .ensures np (fits .4)) (on .np-is)) (at .loop2 .inv .1 i N K h q l),
+      λ i N K h q l. all-on on after _ _ _ _ _ _ _ (fits .0) (placed i (omega arith) .0) (placed i (omega arith) .1) (below i (omega arith)) (step .0 i (omega arith)) (step .1 i (omega arith) .1) d N _ K _ (fits .1) (moves-told _ _ (moves i h) ∙ mover-by d _ _ _ _ _ _ _ _ (outer .before .before .before .before .before .before .before .before .before .powers .ensures (x + d) (fits .3)) q refl (outer .before .before .before .before .before .before .before .before .limits .ensures np (fits .4)) (on .np-is)) (at .loop2 .inv .1 i N K h q l),
       step .1,
       λ i h. all-below on after _ _ _ _ _ _ _ (fits .0) (placed i h .0) (placed i h .1) (below i h) (step .0 i h) (step .1 i h .1) (omega (arith, low, sweeps outer, outer .before .before .before .before .before .before .before .before .before .before .before .pre .s-low)),
       rounding-on on after (outer .loop .stage .g) (outer .loop .stage) (fits .0) (at .loop2 .inv .4),
@@ -226,9 +196,6 @@ loop-again c =
 cast-pick : tie.Need-cast-pick Inv-loop2 μ-loop2 Inv-loop μ-loop
 cast-pick c = omega (arith, c .before .before .before .before .before .before .before .before .before .before .before .before .before .before .pre .P-high)
 
-pick-requires : tie.Need-pick-requires Inv-loop2 μ-loop2 Inv-loop μ-loop
-pick-requires c κs = search needs
-
 -- there are twelve keys
 twelve : (c : tie.Start Inv-loop2 μ-loop2 Inv-loop μ-loop) → length (c .args .keys) ≡ 12
 twelve c = search needs
@@ -258,11 +225,11 @@ homes-spec =
     μ-loop2
     Inv-loop
     μ-loop
-    cast-n0
-    powers-requires
-    limits-requires
-    later-requires
-    first-requires
+    (λ c. search needs)
+    (λ c κs. search needs)
+    (λ c κs. search needs)
+    (λ c κs. search needs)
+    (λ c κs. search needs)
     begin-requires
     place-requires
     new-requires
@@ -270,11 +237,11 @@ homes-spec =
     cast-g
     loop2-holds
     cast-if2
-    add-movers
-    mul-movers
-    array-read-movers
-    mul-movers-2
-    array-read-movers-2
+    (λ c. omega (arith, small c))
+    (λ c. omega (arith, small c))
+    (λ c. small c .3)
+    (λ c. omega (arith, small c))
+    (λ c. small c .4)
     movers-requires
     cast-step-all
     step-all-requires
@@ -287,5 +254,5 @@ homes-spec =
     loop-less
     loop-again
     cast-pick
-    pick-requires
+    (λ c κs. search needs)
     returns)

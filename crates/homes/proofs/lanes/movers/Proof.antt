@@ -20,14 +20,6 @@ use Rattle.homes.proofs.lanes.movers.Tie as tie
 abbrev moves-at : (power limit twice : ℕ) → ℕ
 moves-at p l d = cond (leb (p * (d / 2) % 2147483647) l) 1 0
 
--- it is 1 where the draw is no larger,
-goes : (p l d r x : ℕ) → r ≡ p * (d / 2) % 2147483647 → r ≤ l → x ≡ 1 → x ≡ moves-at p l d
-goes p l d r x q h e = rw (le-leb (p * (d / 2) % 2147483647) l (omega (arith, q))) e
-
--- and 0 where it is
-rests : (p l d r x : ℕ) → r ≡ p * (d / 2) % 2147483647 → l < r → x ≡ 0 → x ≡ moves-at p l d
-rests p l d r x q h e = rw (lt-leb (p * (d / 2) % 2147483647) l (omega (arith, q))) e
-
 -- the row with its idle places filled
 abbrev filled : List ℕ → List ℕ
 filled row =
@@ -57,57 +49,16 @@ abbrev μ-loop : tie.MeasureT-loop
 loop-holds : tie.Need-loop-holds Inv-loop μ-loop
 loop-holds c = (none _ _ refl, search needs)
 
-mul-draw : tie.Need-mul-draw Inv-loop μ-loop
-mul-draw c = search needs
-
-array-read-draw : tie.Need-array-read-draw Inv-loop μ-loop
-array-read-draw c = search needs
-
 draw-requires : tie.Need-draw-requires Inv-loop μ-loop
 draw-requires c κs = c .before .before .pre (c .before .loop .i) (c .loop-test .taken)
-
-mul-moves : tie.Need-mul-moves Inv-loop μ-loop
-mul-moves c = search needs
-
-array-write-moves : tie.Need-array-write-moves Inv-loop μ-loop
-array-write-moves c = search needs
-
-add-i : tie.Need-add-i Inv-loop μ-loop
-add-i c = search needs
-
-loop-less : tie.Need-loop-less Inv-loop μ-loop
-loop-less c = search needs
 
 loop-again : tie.Need-loop-again Inv-loop μ-loop
 loop-again c =
     let call = c .before in
     let turn = call .before in
-    let drawn = call .draw .ensures in
-    (one _ _ _ _ (turn .before .loop .inv .0) (omega (arith, turn .loop-test .taken)) (⊎-elim (λ w. goes _ _ _ _ _ drawn (w .0 .taken) (w .1)) (λ w. rests _ _ _ _ _ drawn (w .0 .left) (w .1)) (c .if1 .came)), search needs)
-
-array-read-moves : tie.Need-array-read-moves Inv-loop μ-loop
-array-read-moves c = search needs
-
-array-write-moves-2 : tie.Need-array-write-moves-2 Inv-loop μ-loop
-array-write-moves-2 c = search needs
-
-array-read-moves-2 : tie.Need-array-read-moves-2 Inv-loop μ-loop
-array-read-moves-2 c = search needs
-
-array-write-moves-3 : tie.Need-array-write-moves-3 Inv-loop μ-loop
-array-write-moves-3 c = search needs
-
-array-read-moves-3 : tie.Need-array-read-moves-3 Inv-loop μ-loop
-array-read-moves-3 c = search needs
-
-array-write-moves-4 : tie.Need-array-write-moves-4 Inv-loop μ-loop
-array-write-moves-4 c = search needs
-
-array-read-moves-4 : tie.Need-array-read-moves-4 Inv-loop μ-loop
-array-read-moves-4 c = search needs
-
-array-write-moves-5 : tie.Need-array-write-moves-5 Inv-loop μ-loop
-array-write-moves-5 c = search needs
+    let l = turn .before .before .args .limit in
+    let is : c .if1 .moves ≡ cond (leb (call .draw .result) l) 1 0 = ⊎-elim (λ w. w .1 ∙ rw (le-leb _ l (w .0 .taken))) (λ w. w .1 ∙ rw (lt-leb _ l (w .0 .left))) (c .if1 .came) in
+    (one _ _ _ _ (turn .before .loop .inv .0) (omega (arith, turn .loop-test .taken)) (rw (call .draw .ensures) at is), search needs)
 
 returns : tie.Need-returns Inv-loop μ-loop
 returns c = λ i h. idle (c .before .loop .moves) i _ h (over (c .before .loop .inv .0) (c .loop-test .left) i h)
@@ -119,20 +70,20 @@ movers-spec =
     Inv-loop
     μ-loop
     loop-holds
-    mul-draw
-    array-read-draw
+    (λ c. search needs)
+    (λ c. search needs)
     draw-requires
-    mul-moves
-    array-write-moves
-    add-i
-    loop-less
+    (λ c. search needs)
+    (λ c. search needs)
+    (λ c. search needs)
+    (λ c. search needs)
     loop-again
-    array-read-moves
-    array-write-moves-2
-    array-read-moves-2
-    array-write-moves-3
-    array-read-moves-3
-    array-write-moves-4
-    array-read-moves-4
-    array-write-moves-5
+    (λ c. search needs)
+    (λ c. search needs)
+    (λ c. search needs)
+    (λ c. search needs)
+    (λ c. search needs)
+    (λ c. search needs)
+    (λ c. search needs)
+    (λ c. search needs)
     returns)

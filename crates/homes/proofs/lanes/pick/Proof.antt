@@ -21,42 +21,6 @@ abbrev μ-loop : tie.MeasureT-loop
 loop-holds : tie.Need-loop-holds Inv-loop μ-loop
 loop-holds c = (none _ _ refl, search needs)
 
-mul-if1 : tie.Need-mul-if1 Inv-loop μ-loop
-mul-if1 c = search needs
-
-array-read-if1 : tie.Need-array-read-if1 Inv-loop μ-loop
-array-read-if1 c = search needs
-
-mul-pages : tie.Need-mul-pages Inv-loop μ-loop
-mul-pages c = search needs
-
-array-read-pages : tie.Need-array-read-pages Inv-loop μ-loop
-array-read-pages c = search needs
-
-cast-pages : tie.Need-cast-pages Inv-loop μ-loop
-cast-pages c = search needs
-
-mul-pages-2 : tie.Need-mul-pages-2 Inv-loop μ-loop
-mul-pages-2 c = search needs
-
-array-read-pages-2 : tie.Need-array-read-pages-2 Inv-loop μ-loop
-array-read-pages-2 c = search needs
-
-cast-pages-2 : tie.Need-cast-pages-2 Inv-loop μ-loop
-cast-pages-2 c = search needs
-
-mul-pages-3 : tie.Need-mul-pages-3 Inv-loop μ-loop
-mul-pages-3 c = search needs
-
-array-write-pages : tie.Need-array-write-pages Inv-loop μ-loop
-array-write-pages c = search needs
-
-add-i : tie.Need-add-i Inv-loop μ-loop
-add-i c = search needs
-
-loop-less : tie.Need-loop-less Inv-loop μ-loop
-loop-less c = search needs
-
 loop-again : tie.Need-loop-again Inv-loop μ-loop
 loop-again c =
     let turn = c .before in
@@ -78,17 +42,17 @@ pick-spec =
     Inv-loop
     μ-loop
     loop-holds
-    mul-if1
-    array-read-if1
-    mul-pages
-    array-read-pages
-    cast-pages
-    mul-pages-2
-    array-read-pages-2
-    cast-pages-2
-    mul-pages-3
-    array-write-pages
-    add-i
-    loop-less
+    (λ c. search needs)
+    (λ c. search needs)
+    (λ c. search needs)
+    (λ c. search needs)
+    (λ c. search needs)
+    (λ c. search needs)
+    (λ c. search needs)
+    (λ c. search needs)
+    (λ c. search needs)
+    (λ c. search needs)
+    (λ c. search needs)
+    (λ c. search needs)
     loop-again
     returns)

@@ -28,34 +28,10 @@ abbrev μ-loop : tie.MeasureT-loop
 loop-holds : tie.Need-loop-holds Inv-loop μ-loop
 loop-holds c = (none _ _ refl, none _ _ refl, search needs)
 
-mul-new : tie.Need-mul-new Inv-loop μ-loop
-mul-new c = search needs
-
-array-read-new : tie.Need-array-read-new Inv-loop μ-loop
-array-read-new c = search needs
-
 new-requires : tie.Need-new-requires Inv-loop μ-loop
 new-requires c κs =
     let start = c .before .before in
     (start .pre .0, start .pre .1, start .pre .2 (c .before .loop .i) (c .loop-test .taken))
-
-mul-turns : tie.Need-mul-turns Inv-loop μ-loop
-mul-turns c = search needs
-
-array-write-turns : tie.Need-array-write-turns Inv-loop μ-loop
-array-write-turns c = search needs
-
-mul-groups : tie.Need-mul-groups Inv-loop μ-loop
-mul-groups c = search needs
-
-array-write-groups : tie.Need-array-write-groups Inv-loop μ-loop
-array-write-groups c = search needs
-
-add-i : tie.Need-add-i Inv-loop μ-loop
-add-i c = search needs
-
-loop-less : tie.Need-loop-less Inv-loop μ-loop
-loop-less c = search needs
 
 loop-again : tie.Need-loop-again Inv-loop μ-loop
 loop-again c =
@@ -78,14 +54,14 @@ place-spec =
     Inv-loop
     μ-loop
     loop-holds
-    mul-new
-    array-read-new
+    (λ c. search needs)
+    (λ c. search needs)
     new-requires
-    mul-turns
-    array-write-turns
-    mul-groups
-    array-write-groups
-    add-i
-    loop-less
+    (λ c. search needs)
+    (λ c. search needs)
+    (λ c. search needs)
+    (λ c. search needs)
+    (λ c. search needs)
+    (λ c. search needs)
     loop-again
     returns)

@@ -28,40 +28,10 @@ abbrev μ-loop : tie.MeasureT-loop
 loop-holds : tie.Need-loop-holds Inv-loop μ-loop
 loop-holds c = (none _ _ refl, none _ _ refl, search needs)
 
-mul-t12 : tie.Need-mul-t12 Inv-loop μ-loop
-mul-t12 c = search needs
-
-array-read-t15 : tie.Need-array-read-t15 Inv-loop μ-loop
-array-read-t15 c = search needs
-
-mul-t16 : tie.Need-mul-t16 Inv-loop μ-loop
-mul-t16 c = search needs
-
-array-read-t19 : tie.Need-array-read-t19 Inv-loop μ-loop
-array-read-t19 c = search needs
-
 regroup-requires : tie.Need-regroup-requires Inv-loop μ-loop
 regroup-requires c κs =
     let start = c .before .before .before .before .before in
     (start .pre .0, start .pre .1 (c .before .loop .i) (c .loop-test .taken) .0)
-
-mul-turns : tie.Need-mul-turns Inv-loop μ-loop
-mul-turns c = search needs
-
-array-write-turns : tie.Need-array-write-turns Inv-loop μ-loop
-array-write-turns c = search needs
-
-mul-groups : tie.Need-mul-groups Inv-loop μ-loop
-mul-groups c = search needs
-
-array-write-groups : tie.Need-array-write-groups Inv-loop μ-loop
-array-write-groups c = search needs
-
-add-i : tie.Need-add-i Inv-loop μ-loop
-add-i c = search needs
-
-loop-less : tie.Need-loop-less Inv-loop μ-loop
-loop-less c = search needs
 
 loop-again : tie.Need-loop-again Inv-loop μ-loop
 loop-again c =
@@ -84,16 +54,16 @@ regroup-spec =
     Inv-loop
     μ-loop
     loop-holds
-    mul-t12
-    array-read-t15
-    mul-t16
-    array-read-t19
+    (λ c. search needs)
+    (λ c. search needs)
+    (λ c. search needs)
+    (λ c. search needs)
     regroup-requires
-    mul-turns
-    array-write-turns
-    mul-groups
-    array-write-groups
-    add-i
-    loop-less
+    (λ c. search needs)
+    (λ c. search needs)
+    (λ c. search needs)
+    (λ c. search needs)
+    (λ c. search needs)
+    (λ c. search needs)
     loop-again
     returns)

@@ -2,7 +2,7 @@
 -- places below i are those after the step.
 -- The measure is what is left of the sixteen.
 use mathlib.Core.Path.{_≡_, refl, _∙_}
-use mathlib.Core.Bool.{true, false}
+use mathlib.Core.Bool.{Bool, true, false, cond}
 use mathlib.Core.Logic.{⊎-elim}
 use Prim.Native.Nat.{ℕ, _+_, _-_, _*_, _≤_, _<_}
 use native.Mathlib.Omega.{arith}
@@ -11,7 +11,7 @@ use lib.Dec.{eqb}
 use lib.ListN.{getD}
 use Rattle.homes.specs.declared.lane.Lane.{Lane}
 use Rattle.homes.specs.Homes.{swept}
-use Rattle.homes.specs.steps.Lanes.{InGroup, addressOf, goneTo}
+use Rattle.homes.specs.steps.Lanes.{InGroup, addressOf, aimed, goneTo}
 use Rattle.homes.proofs.Beginning.{page-fits}
 use Rattle.homes.proofs.Rowed.{Passed, none, one, over, same}
 use Rattle.homes.proofs.Together.{gone-fits}
@@ -25,24 +25,14 @@ use Rattle.homes.proofs.sweeps.Sweeps.target.Reads as target-reads
 abbrev after : (s g np m turn group : ℕ) → Lane
 after s g np m u r = goneTo s g np m (record { turn = u; group = r })
 
--- one that goes has turn np,
-went-turn : (s g np m u r x : ℕ) → eqb m 1 ≡ true → x ≡ np → x ≡ after s g np m u r .turn
+-- it has turn np and the group of the new page where it goes, and else its own
+after-is : (s g np m u r to x y : ℕ) → to ≡ swept s 0 g (g - 1 - r) → x ≡ cond (eqb m 1) np u → y ≡ cond (eqb m 1) to r → (x ≡ after s g np m u r .turn) × (y ≡ after s g np m u r .group)
 unfolding goneTo
-went-turn s g np m u r x t e = rw t e
-
--- and the group of the new page;
-went-group : (s g np m u r to x : ℕ) → to ≡ swept s 0 g (g - 1 - r) → eqb m 1 ≡ true → x ≡ to → x ≡ after s g np m u r .group
-unfolding goneTo
-went-group s g np m u r to x q t e = rw t (e ∙ q)
-
--- others keep theirs
-kept-turn : (s g np m u r x : ℕ) → eqb m 1 ≡ false → x ≡ u → x ≡ after s g np m u r .turn
-unfolding goneTo
-kept-turn s g np m u r x t e = rw t e
-
-kept-group : (s g np m u r x : ℕ) → eqb m 1 ≡ false → x ≡ r → x ≡ after s g np m u r .group
-unfolding goneTo
-kept-group s g np m u r x t e = rw t e
+after-is s g np m u r to x y q = go (eqb m 1)
+  where
+    go : (t : Bool) → x ≡ cond t np u → y ≡ cond t to r → let l = cond t (aimed s g np (record { turn = u; group = r })) (record { turn = u; group = r }) in (x ≡ l .turn) × (y ≡ l .group)
+    go true e f = (e, f ∙ q)
+    go false e f = (e, f)
 
 -- the page of a lane, by its numbers
 page-is : (g t r : ℕ) (l : Lane) → t ≡ l .turn → r ≡ l .group → t * g + r ≡ addressOf g l
@@ -73,72 +63,25 @@ made c =
     let u = getD (at .lanes .turns) (loop .loop .i) 0 in
     let r = getD (at .lanes .groups) (loop .loop .i) 0 in
     let l = after (at .sweeps .s) (at .g) (at .np) m u r in
-    let turn : c .before .if1 .turn ≡ l .turn = ⊎-elim (λ w. went-turn (at .sweeps .s) (at .g) (at .np) m u r _ (w .0 .taken) (w .1)) (λ w. kept-turn (at .sweeps .s) (at .g) (at .np) m u r _ (w .0 .left) (w .1)) (c .before .if1 .came) in
-    let group : c .if2 .group ≡ l .group = ⊎-elim (λ w. went-group (at .sweeps .s) (at .g) (at .np) m u r _ _ (call .target .ensures .0) (w .0 .taken) (w .1)) (λ w. kept-group (at .sweeps .s) (at .g) (at .np) m u r _ (w .0 .left) (w .1)) (c .if2 .came) in
+    let turn : c .before .if1 .turn ≡ cond (eqb m 1) (at .np) u = ⊎-elim (λ w. w .1 ∙ rw (w .0 .taken)) (λ w. w .1 ∙ rw (w .0 .left)) (c .before .if1 .came) in
+    let group : c .if2 .group ≡ cond (eqb m 1) (call .target .result) r = ⊎-elim (λ w. w .1 ∙ rw (w .0 .taken)) (λ w. w .1 ∙ rw (w .0 .left)) (c .if2 .came) in
+    let is = after-is (at .sweeps .s) (at .g) (at .np) m u r _ _ _ (call .target .ensures .0) turn group in
     let fits : InGroup (at .g) l = gone-fits (at .sweeps .s) (at .g) (at .np) m (record { turn = u; group = r }) (start .pre .0 .0) (start .pre .0 .4) (start .pre .1 (loop .loop .i) (call .before .loop-test .taken)) in
-    (turn, group, page-fits _ _ _ (omega (arith, start .pre .0 .3)) (omega (arith, turn, fits .0)) (omega (arith, group, fits .1)))
+    (is .0, is .1, page-fits _ _ _ (omega (arith, start .pre .0 .3)) (omega (arith, is .0, fits .0)) (omega (arith, is .1, fits .1)))
 
 loop-holds : tie.Need-loop-holds Inv-loop μ-loop
 loop-holds c = (none _ _ refl, none _ _ refl, none _ _ refl, search needs)
-
-mul-target : tie.Need-mul-target Inv-loop μ-loop
-mul-target c = search needs
-
-array-read-target : tie.Need-array-read-target Inv-loop μ-loop
-array-read-target c = search needs
 
 target-requires : tie.Need-target-requires Inv-loop μ-loop
 target-requires c κs =
     let start = c .before .before .before .before in
     (start .pre .0 .0, start .pre .0 .1, start .pre .0 .2, start .pre .1 (c .before .loop .i) (c .loop-test .taken) .1, start .pre .0 .3)
 
-mul-goes : tie.Need-mul-goes Inv-loop μ-loop
-mul-goes c = search needs
-
-array-read-goes : tie.Need-array-read-goes Inv-loop μ-loop
-array-read-goes c = search needs
-
-mul-turn : tie.Need-mul-turn Inv-loop μ-loop
-mul-turn c = search needs
-
-array-read-turn : tie.Need-array-read-turn Inv-loop μ-loop
-array-read-turn c = search needs
-
-mul-group : tie.Need-mul-group Inv-loop μ-loop
-mul-group c = search needs
-
-array-read-group : tie.Need-array-read-group Inv-loop μ-loop
-array-read-group c = search needs
-
-mul-turns : tie.Need-mul-turns Inv-loop μ-loop
-mul-turns c = search needs
-
-array-write-turns : tie.Need-array-write-turns Inv-loop μ-loop
-array-write-turns c = search needs
-
-mul-groups : tie.Need-mul-groups Inv-loop μ-loop
-mul-groups c = search needs
-
-array-write-groups : tie.Need-array-write-groups Inv-loop μ-loop
-array-write-groups c = search needs
-
 mul-pages : tie.Need-mul-pages Inv-loop μ-loop
 mul-pages c = omega (arith, made (c .before) .2)
 
 add-pages : tie.Need-add-pages Inv-loop μ-loop
 add-pages c = omega (arith, made (c .before .before) .2)
-
-mul-pages-2 : tie.Need-mul-pages-2 Inv-loop μ-loop
-mul-pages-2 c = search needs
-
-array-write-pages : tie.Need-array-write-pages Inv-loop μ-loop
-array-write-pages c = search needs
-
-add-i : tie.Need-add-i Inv-loop μ-loop
-add-i c = search needs
-
-loop-less : tie.Need-loop-less Inv-loop μ-loop
-loop-less c = search needs
 
 loop-again : tie.Need-loop-again Inv-loop μ-loop
 loop-again c =
@@ -164,24 +107,24 @@ step-all-spec =
     Inv-loop
     μ-loop
     loop-holds
-    mul-target
-    array-read-target
+    (λ c. search needs)
+    (λ c. search needs)
     target-requires
-    mul-goes
-    array-read-goes
-    mul-turn
-    array-read-turn
-    mul-group
-    array-read-group
-    mul-turns
-    array-write-turns
-    mul-groups
-    array-write-groups
+    (λ c. search needs)
+    (λ c. search needs)
+    (λ c. search needs)
+    (λ c. search needs)
+    (λ c. search needs)
+    (λ c. search needs)
+    (λ c. search needs)
+    (λ c. search needs)
+    (λ c. search needs)
+    (λ c. search needs)
     mul-pages
     add-pages
-    mul-pages-2
-    array-write-pages
-    add-i
-    loop-less
+    (λ c. search needs)
+    (λ c. search needs)
+    (λ c. search needs)
+    (λ c. search needs)
     loop-again
     returns)

@@ -43,9 +43,6 @@ mul-product c = omega (arith, bounded (c .args .twice) (c .args .power) (c .pre)
 cast-sum : tie.Need-cast-sum
 cast-sum c = omega (arith, bounded (c .args .twice) (c .args .power) (c .pre))
 
-cast-sum-2 : tie.Need-cast-sum-2
-cast-sum-2 c = search needs
-
 add-sum : tie.Need-add-sum
 add-sum c = omega (arith, bounded (c .args .twice) (c .args .power) (c .pre))
 
@@ -56,4 +53,4 @@ returns : tie.Need-returns
 returns c = twice _ _ (doubled (c .args .twice) (c .args .power) (c .pre)) (bounded (c .args .twice) (c .args .power) (c .pre)) (c .pre .3)
 
 pub draw-spec : {M : Type 1} → statement M
-draw-spec = tie.close (tie.spec mul-product cast-sum cast-sum-2 add-sum add-result returns)
+draw-spec = tie.close (tie.spec mul-product cast-sum (λ c. search needs) add-sum add-result returns)

@@ -7,9 +7,6 @@ use Rattle.homes.proofs.Rests.{quotient, remainder}
 use Rattle.homes.proofs.starts.rest.Statement.{statement}
 use Rattle.homes.proofs.starts.rest.Tie as tie
 
-add-result : tie.Need-add-result
-add-result c = search needs
-
 mul-result : tie.Need-mul-result
 mul-result c =
     let wide : (c .args .x + 1) * c .args .by ≤ 67108864 * 17179869183 = mul-le-mul {n₂ = 67108864} {m₂ = 17179869183} (omega arith) (omega (arith, div-le-self 17179869183 (c .args .m))) in
@@ -27,4 +24,4 @@ returns : tie.Need-returns
 returns c = let p = c .pre in remainder (c .args .m) (c .args .by) (p .0) (p .2) (p .1) (c .args .x) (p .3)
 
 pub rest-spec : {M : Type 1} → statement M
-rest-spec = tie.close (tie.spec add-result mul-result mul-result-2 sub-result returns)
+rest-spec = tie.close (tie.spec (λ c. search needs) mul-result mul-result-2 sub-result returns)

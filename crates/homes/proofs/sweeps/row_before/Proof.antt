@@ -17,8 +17,5 @@ mul-result c = omega (arith, product (c .args .next) (c .args .share) (search ne
 cast-result : tie.Need-cast-result
 cast-result c = omega (arith, product (c .args .next) (c .args .share) (search needs) (search needs))
 
-returns : tie.Need-returns
-returns c = refl
-
 pub row-before-spec : {M : Type 1} → statement M
-row-before-spec = tie.close (tie.spec mul-result cast-result returns)
+row-before-spec = tie.close (tie.spec mul-result cast-result (λ c. refl))

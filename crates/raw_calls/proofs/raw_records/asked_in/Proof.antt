@@ -5,30 +5,6 @@ use borrow.Author.Needs.{needs}
 use Rattle.raw_calls.proofs.raw_records.asked_in.Statement.{statement}
 use Rattle.raw_calls.proofs.raw_records.asked_in.Tie as tie
 
-end-of-requires : tie.Need-end-of-requires
-end-of-requires c κs = search needs
-
-end-of-requires-2 : tie.Need-end-of-requires-2
-end-of-requires-2 c κs = search needs
-
-end-of-requires-3 : tie.Need-end-of-requires-3
-end-of-requires-3 c κs = search needs
-
-end-of-requires-4 : tie.Need-end-of-requires-4
-end-of-requires-4 c κs = search needs
-
-get-u16-requires : tie.Need-get-u16-requires
-get-u16-requires c κs = search needs
-
-get-state-requires : tie.Need-get-state-requires
-get-state-requires c κs = search needs
-
-get-u64-requires : tie.Need-get-u64-requires
-get-u64-requires c κs = search needs
-
-get-u64-requires-2 : tie.Need-get-u64-requires-2
-get-u64-requires-2 c κs = search needs
-
 returns : tie.Need-returns
 returns c = λ h.
     let e₄ = c .before .before .before .before in
@@ -53,12 +29,12 @@ pub asked-in-spec : {M : Type 1} → statement M
 asked-in-spec =
     tie.close
     (tie.spec
-    end-of-requires
-    end-of-requires-2
-    end-of-requires-3
-    end-of-requires-4
-    get-u16-requires
-    get-state-requires
-    get-u64-requires
-    get-u64-requires-2
+    (λ c κs. search needs)
+    (λ c κs. search needs)
+    (λ c κs. search needs)
+    (λ c κs. search needs)
+    (λ c κs. search needs)
+    (λ c κs. search needs)
+    (λ c κs. search needs)
+    (λ c κs. search needs)
     returns)

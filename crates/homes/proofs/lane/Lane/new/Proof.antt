@@ -13,9 +13,6 @@ use Rattle.homes.proofs.lane.Lane.new.Tie as tie
 leaves : (c : tie.After-turn-of) → let at = c .before .args in let q = c .turn-of .result in (q * at .g ≤ at .page) × (at .page - q * at .g ≡ at .page % at .g)
 leaves c = remains (c .before .args .page) (c .before .args .g) (c .turn-of .result) (c .turn-of .ensures)
 
-turn-of-requires : tie.Need-turn-of-requires
-turn-of-requires c κs = search needs
-
 mul-t4 : tie.Need-mul-t4
 mul-t4 c = omega (arith, leaves c)
 
@@ -26,4 +23,4 @@ returns : tie.Need-returns
 returns c = same (c .turn-of .ensures) (leaves c .1)
 
 pub new-spec : {M : Type 1} → statement M
-new-spec = tie.close (tie.spec turn-of-requires mul-t4 sub-t5 returns)
+new-spec = tie.close (tie.spec (λ c κs. search needs) mul-t4 sub-t5 returns)

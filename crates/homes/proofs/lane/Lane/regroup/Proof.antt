@@ -18,8 +18,5 @@ mul-t5 c = omega (arith, fits (c .before .before))
 add-t6 : tie.Need-add-t6
 add-t6 c = omega (arith, fits (c .before .before .before))
 
-returns : tie.Need-returns
-returns c = search needs
-
 pub regroup-spec : {M : Type 1} → statement M
-regroup-spec = tie.close (tie.spec mul-t5 add-t6 returns)
+regroup-spec = tie.close (tie.spec mul-t5 add-t6 (λ c. search needs))

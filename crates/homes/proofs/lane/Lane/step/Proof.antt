@@ -37,21 +37,6 @@ module _ (s P : ℕ) (t : Stage) (moves : Bool) (l : Lane) where
 returns : tie.Need-returns
 returns c = stays _ _ _ _ _ (not-true _ (c .if1 .taken))
 
-cast-target : tie.Need-cast-target
-cast-target c = search needs
-
-target-requires : tie.Need-target-requires
-target-requires c κs = search needs
-
-cast-if2 : tie.Need-cast-if2
-cast-if2 c = search needs
-
-add-if2 : tie.Need-add-if2
-add-if2 c = search needs
-
-cast-t12 : tie.Need-cast-t12
-cast-t12 c = search needs
-
 returns-2 : tie.Need-returns-2
 returns-2 c =
     let to = c .before .before .before .target .ensures .0 in
@@ -65,4 +50,12 @@ returns-3 c =
 pub step-spec : {M : Type 1} → statement M
 step-spec =
     tie.close
-    (tie.spec returns cast-target target-requires cast-if2 add-if2 cast-t12 returns-2 returns-3)
+    (tie.spec
+    returns
+    (λ c. search needs)
+    (λ c κs. search needs)
+    (λ c. search needs)
+    (λ c. search needs)
+    (λ c. search needs)
+    returns-2
+    returns-3)

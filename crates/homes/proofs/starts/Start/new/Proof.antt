@@ -5,12 +5,6 @@ use borrow.Author.Needs.{needs}
 use Rattle.homes.proofs.starts.Start.new.Statement.{statement}
 use Rattle.homes.proofs.starts.Start.new.Tie as tie
 
-div-by : tie.Need-div-by
-div-by c = search needs
-
-rest-requires : tie.Need-rest-requires
-rest-requires c κs = search needs
-
 mul-t4 : tie.Need-mul-t4
 mul-t4 c = omega (arith, div-mul-le-self 17179869183 (c .before .args .m))
 
@@ -21,4 +15,4 @@ returns : tie.Need-returns
 returns c = rw (c .rest .ensures)
 
 pub new-spec : {M : Type 1} → statement M
-new-spec = tie.close (tie.spec div-by rest-requires mul-t4 sub-t5 returns)
+new-spec = tie.close (tie.spec (λ c. search needs) (λ c κs. search needs) mul-t4 sub-t5 returns)

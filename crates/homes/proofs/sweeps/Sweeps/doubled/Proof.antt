@@ -34,15 +34,6 @@ twice s g each more less a b h = go (leb s (2 * more)) refl
 less-is : (c : tie.After-row-known) → let self = c .before .before .before .before .args .self in c .before .before .if1 .less ≡ cond (leb (self .s) (2 * self .more)) (self .s) 0
 less-is c = ⊎-elim (λ w. w .1 ∙ rw (w .0 .taken)) (λ w. w .1 ∙ rw (w .0 .left)) (c .before .before .if1 .came)
 
-mul-twice : tie.Need-mul-twice
-mul-twice c = search needs
-
-mul-t8 : tie.Need-mul-t8
-mul-t8 c = search needs
-
-cast-t9 : tie.Need-cast-t9
-cast-t9 c = search needs
-
 add-t10 : tie.Need-add-t10
 add-t10 c =
     let self = c .before .before .before .args .self in
@@ -61,4 +52,4 @@ returns c g e =
     λ i. record { s = self .s; share = e i .share; each = new .0 i; more = new .1 i }
 
 pub doubled-spec : {M : Type 1} → statement M
-doubled-spec = tie.close (tie.spec mul-twice mul-t8 cast-t9 add-t10 sub-t11 returns)
+doubled-spec = tie.close (tie.spec (λ c. search needs) (λ c. search needs) (λ c. search needs) add-t10 sub-t11 returns)

@@ -31,18 +31,6 @@ each-is c =
 leaves : (c : tie.After-row-before) → let at = c .before .args in let q = c .row-before .result in (q * at .s ≤ at .g) × (at .g - q * at .s ≡ at .g % at .s)
 leaves c = remains (c .before .args .g) (c .before .args .s) (c .row-before .result) (each-is c)
 
-mul-share : tie.Need-mul-share
-mul-share c = search needs
-
-array-read-share : tie.Need-array-read-share
-array-read-share c = search needs
-
-add-row-before : tie.Need-add-row-before
-add-row-before c = search needs
-
-row-before-requires : tie.Need-row-before-requires
-row-before-requires c κs = search needs
-
 mul-t11 : tie.Need-mul-t11
 mul-t11 c = omega (arith, leaves c)
 
@@ -58,10 +46,10 @@ pub new-spec : {M : Type 1} → statement M
 new-spec =
     tie.close
     (tie.spec
-    mul-share
-    array-read-share
-    add-row-before
-    row-before-requires
+    (λ c. search needs)
+    (λ c. search needs)
+    (λ c. search needs)
+    (λ c κs. search needs)
     mul-t11
     sub-t12
     returns)

@@ -51,29 +51,8 @@ result-is c =
     let least : c .if1 .least ≡ min (over t) (self .more) = ⊎-elim (λ w. omega arith) (λ w. omega arith) (c .if1 .came) in
     sums (self .s) (start .args .g) (self .each) (self .more) (order t) (t .row-before .result) (over t) (c .if1 .least) (start .pre .0) (omega arith) (ap (λ (w : Sweeps). w .each) e) (ap (λ (w : Sweeps). w .more) e) (row-is t .0) (row-is t .2) least
 
-sub-next : tie.Need-sub-next
-sub-next c = search needs
-
-row-before-requires : tie.Need-row-before-requires
-row-before-requires c κs = search needs
-
-mul-w : tie.Need-mul-w
-mul-w c = omega (arith, row-is (c .before))
-
-sub-w : tie.Need-sub-w
-sub-w c = omega (arith, row-is (c .before))
-
-sub-w-2 : tie.Need-sub-w-2
-sub-w-2 c = omega (arith, row-is (c .before))
-
 mul-result : tie.Need-mul-result
 mul-result c = omega (arith, result-is (c .before))
-
-add-result : tie.Need-add-result
-add-result c = omega (arith, result-is (c .before .before))
-
-add-result-2 : tie.Need-add-result-2
-add-result-2 c = omega (arith, result-is (c .before .before))
 
 returns : tie.Need-returns
 returns c = result-is (c .before .before)
@@ -82,12 +61,12 @@ pub target-spec : {M : Type 1} → statement M
 target-spec =
     tie.close
     (tie.spec
-    sub-next
-    row-before-requires
-    mul-w
-    sub-w
-    sub-w-2
+    (λ c. search needs)
+    (λ c κs. search needs)
+    (λ c. omega (arith, row-is (c .before)))
+    (λ c. omega (arith, row-is (c .before)))
+    (λ c. omega (arith, row-is (c .before)))
     mul-result
-    add-result
-    add-result-2
+    (λ c. omega (arith, result-is (c .before .before)))
+    (λ c. omega (arith, result-is (c .before .before)))
     returns)

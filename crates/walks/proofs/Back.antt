@@ -10,13 +10,14 @@ use native.Mathlib.Omega.{arith}
 use lib.Dec.{leb, ltb, eqb}
 use lib.ListN.{length, getD}
 use borrow.Author.Tests.{ltb-true, ltb-false, not-true, not-false, lt-ltb, le-ltb, le-leb, lt-leb, ne-eqb}
+use Rattle.layouts.specs.Layout.{inUse}
 use Rattle.pages.specs.declared.Judged.{Judged}
 use Rattle.pages.specs.Page.{Record, key, inMemory, judged, readPage}
 use Rattle.pages.specs.Area.{partAt, pagesFrom}
 use Rattle.state.specs.declared.Answer.the-variants.{Broken}
 use Rattle.walks.specs.declared.Plan.{Plan}
 use Rattle.walks.specs.declared.Plan.the-variants.{Go, Stop}
-use Rattle.walks.specs.steps.Plans.{reachedBack}
+use Rattle.walks.specs.steps.Plans.{slots, reachedBack}
 
 -- the test of a judged page: it holds no record, or the home of its first is above page a
 abbrev pub apart : ℕ → Judged → Bool
@@ -43,19 +44,19 @@ next-page b h f at a n (some (y ∷ q)) ps = rw (ne-eqb (suc (length q)) 0 (λ e
 module _ (h : ℕ → ℕ) (area : List ℕ) (cap f at : ℕ) where
   -- the plan from page a on
   abbrev pub planFrom : (a n : ℕ) → Plan
-  planFrom a n = reachedBack 12 h f at a n (pagesFrom h area (cap - suc a) (suc a))
+  planFrom a n = reachedBack slots h f at a n (pagesFrom inUse h area (cap - suc a) (suc a))
 
   pub plan-ends : (a n : ℕ) → cap ≤ a + 1 → Go f at a n ≡ planFrom a n
   plan-ends a n l = let z : cap - suc a ≡ 0 = omega arith in rw z
 
-  module _ (a n : ℕ) (j : Judged) (e : j ≡ judged h (readPage h (a + 1) (partAt area (a + 1)))) (l : a + 1 < cap) where
+  module _ (a n : ℕ) (j : Judged) (e : j ≡ judged h (readPage inUse h (a + 1) (partAt area (a + 1)))) (l : a + 1 < cap) where
     plan-next : planFrom a n
-        ≡ cond (j .good) (cond (apart a j) (Go f at a (n + 1)) (cond (ltb (j .page .count) 12) (Go f at (a + 1) (n + 1)) (planFrom (a + 1) (n + 1))))
+        ≡ cond (j .good) (cond (apart a j) (Go f at a (n + 1)) (cond (ltb (j .page .count) slots) (Go f at (a + 1) (n + 1)) (planFrom (a + 1) (n + 1))))
         (Stop (Broken (a + 1) (n + 1)))
     plan-next =
         let m : cap - suc a ≡ suc (cap - suc (suc a)) = omega arith in
-        let k : j ≡ judged h (readPage h (suc a) (partAt area (suc a))) = rw add-one at e in
-        rw (add-one a, add-one n, k, m) (next-page 12 h f at a n (readPage h (suc a) (partAt area (suc a))) (pagesFrom h area (cap - suc (suc a)) (suc (suc a))))
+        let k : j ≡ judged h (readPage inUse h (suc a) (partAt area (suc a))) = rw add-one at e in
+        rw (add-one a, add-one n, k, m) (next-page slots h f at a n (readPage inUse h (suc a) (partAt area (suc a))) (pagesFrom inUse h area (cap - suc (suc a)) (suc (suc a))))
 
     pub plan-broken : not (j .good) ≡ true → Stop (Broken (a + 1) (n + 1)) ≡ planFrom a n
     plan-broken g = sym (plan-next ∙ rw (not-true (j .good) g))
@@ -64,8 +65,8 @@ module _ (h : ℕ → ℕ) (area : List ℕ) (cap f at : ℕ) where
       pub plan-apart : apart a j ≡ true → Go f at a (n + 1) ≡ planFrom a n
       plan-apart t = sym (plan-next ∙ rw (not-false (j .good) g, t))
 
-      pub plan-short : apart a j ≡ false → j .page .count < 12 → Go f at (a + 1) (n + 1) ≡ planFrom a n
-      plan-short t c = sym (plan-next ∙ rw (not-false (j .good) g, t, lt-ltb (j .page .count) 12 c))
+      pub plan-short : apart a j ≡ false → j .page .count < slots → Go f at (a + 1) (n + 1) ≡ planFrom a n
+      plan-short t c = sym (plan-next ∙ rw (not-false (j .good) g, t, lt-ltb (j .page .count) slots c))
 
-      pub plan-full : apart a j ≡ false → 12 ≤ j .page .count → planFrom (a + 1) (n + 1) ≡ planFrom a n
-      plan-full t c = sym (plan-next ∙ rw (not-false (j .good) g, t, le-ltb (j .page .count) 12 c))
+      pub plan-full : apart a j ≡ false → slots ≤ j .page .count → planFrom (a + 1) (n + 1) ≡ planFrom a n
+      plan-full t c = sym (plan-next ∙ rw (not-false (j .good) g, t, le-ltb (j .page .count) slots c))

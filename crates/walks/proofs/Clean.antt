@@ -6,65 +6,68 @@ use Prim.Native.Nat.{ℕ, zero, suc, _+_, _-_, _^_, _≤_, _<_}
 use native.Mathlib.Omega.{arith}
 use lib.ListN.{length, drop, length-append, drop-of-length-le}
 use lib.Seq.{drop-cons, drop-at, getD-at}
+use Rattle.layouts.specs.Layout.{slotsOf}
+use Rattle.layouts.specs.declared.Layout.{Layout}
+use Rattle.walks.specs.steps.Plans.{slots}
 use Rattle.placing.specs.Image.{All, cat, page, Distinct, RecordSet, Image}
 use Rattle.placing.specs.Lay.{rankIn}
-use Rattle.placing.proofs.Lists.{all-right, all-map₂, all-page}
+use Rattle.placing.proofs.Lists.{all-right, all-page}
 use Rattle.placing.proofs.Order.{Sorted, sorted-left, sorted-right}
 use Rattle.placing.proofs.Perms.{perm-all, perm-distinct}
 use Rattle.placing.proofs.Strays.{all-pages, distinct-right}
 use Rattle.placing.proofs.Tidy.{image-tidy}
-use Rattle.pages.specs.Page.{Record, key, value, recordsIn, readPage}
+use Rattle.pages.specs.Page.{Record, key, recordsIn, readPage}
 use Rattle.pages.specs.Area.{partAt, pagesFrom, heldFrom, areaFrom}
 use Rattle.pages.proofs.Areas.{part-area}
-use Rattle.pages.proofs.Bounds.{Small as Formed}
+use Rattle.pages.specs.Small.{Small as Formed}
 use Rattle.pages.proofs.RoundTrip.{bytes-read, read-good}
 use Rattle.pages.proofs.Rules.{all-homes, sorted-rises}
 use Rattle.walks.proofs.Holds.{Small}
 
 -- n pages that are read back from their bytes
-pub record Clean (h : ℕ → ℕ) (n : ℕ) (ps : List (List Record)) : Type 0 where
+pub record Clean (form : Layout) (h : ℕ → ℕ) (n : ℕ) (ps : List (List Record)) : Type 0 where
   pub many : length ps ≡ n
-  pub each : (a : ℕ) → a < n → readPage h a (partAt (areaFrom 0 ps) a) ≡ some (page ps a)
+  pub each : (a : ℕ) → a < n → readPage form h a (partAt (areaFrom form 0 ps) a) ≡ some (page ps a)
 
 -- what is read page by page is what stands there
-pub read-held : (h : ℕ → ℕ) (area : List ℕ) (n a : ℕ) (ps : List (List Record)) → pagesFrom h area n a ≡ map some ps → heldFrom area n a ≡ ps
-read-held h area zero a [] e = refl
-read-held h area zero a (p ∷ ps) e = absurd (let z : _≡_ {A = ℕ} 0 1 = cc in omega arith)
-read-held h area (suc n) a [] e = absurd (let z : _≡_ {A = ℕ} 0 1 = cc in omega arith)
-read-held h area (suc n) a (p ∷ ps) e =
-    let here : readPage h a (partAt area a) ≡ some p = cc in
-    let rest : pagesFrom h area n (suc a) ≡ map some ps = cc in
-    rw (← read-good h a (partAt area a) p here .records, read-held h area n (suc a) ps rest)
+pub read-held : (form : Layout) (h : ℕ → ℕ) (area : List ℕ) (n a : ℕ) (ps : List (List Record)) → pagesFrom form h area n a ≡ map some ps → heldFrom form area n a ≡ ps
+read-held form h area zero a [] e = refl
+read-held form h area zero a (p ∷ ps) e = absurd (let z : _≡_ {A = ℕ} 0 1 = cc in omega arith)
+read-held form h area (suc n) a [] e = absurd (let z : _≡_ {A = ℕ} 0 1 = cc in omega arith)
+read-held form h area (suc n) a (p ∷ ps) e =
+    let here : readPage form h a (partAt area a) ≡ some p = cc in
+    let rest : pagesFrom form h area n (suc a) ≡ map some ps = cc in
+    rw (← read-good form h a (partAt area a) p here .records, read-held form h area n (suc a) ps rest)
 
-module _ {h : ℕ → ℕ} {n : ℕ} {ps : List (List Record)} (c : Clean h n ps) where
-  reads : (k a : ℕ) → a + k ≡ n → pagesFrom h (areaFrom 0 ps) k a ≡ map some (drop a ps)
+module _ {form : Layout} {h : ℕ → ℕ} {n : ℕ} {ps : List (List Record)} (c : Clean form h n ps) where
+  reads : (k a : ℕ) → a + k ≡ n → pagesFrom form h (areaFrom form 0 ps) k a ≡ map some (drop a ps)
   reads zero a e = rw (drop-of-length-le ps {i = a} (omega (arith, c .many)))
   reads (suc k) a e = rw (c .each a (omega arith), reads k (suc a) (omega arith), drop-cons ps a [] (omega (arith, c .many)))
 
   -- all of them are read back, and those from any page on
-  pub clean-pass : pagesFrom h (areaFrom 0 ps) n 0 ≡ map some ps
+  pub clean-pass : pagesFrom form h (areaFrom form 0 ps) n 0 ≡ map some ps
   clean-pass = reads n 0 (omega arith)
 
-  pub clean-from : (a : ℕ) → a ≤ n → pagesFrom h (areaFrom 0 ps) (n - a) a ≡ map some (drop a ps)
+  pub clean-from : (a : ℕ) → a ≤ n → pagesFrom form h (areaFrom form 0 ps) (n - a) a ≡ map some (drop a ps)
   clean-from a l = reads (n - a) a (omega arith)
 
   -- they stand where they are read, each at its address
-  pub clean-held : heldFrom (areaFrom 0 ps) n 0 ≡ ps
-  clean-held = read-held h (areaFrom 0 ps) n 0 ps clean-pass
+  pub clean-held : heldFrom form (areaFrom form 0 ps) n 0 ≡ ps
+  clean-held = read-held form h (areaFrom form 0 ps) n 0 ps clean-pass
 
-  pub clean-part : (a : ℕ) → a < n → recordsIn (partAt (areaFrom 0 ps) a) ≡ page ps a
-  clean-part a l = sym (read-good h a (partAt (areaFrom 0 ps) a) (page ps a) (c .each a l) .records)
+  pub clean-part : (a : ℕ) → a < n → recordsIn form (partAt (areaFrom form 0 ps) a) ≡ page ps a
+  clean-part a l = sym (read-good form h a (partAt (areaFrom form 0 ps) a) (page ps a) (c .each a l) .records)
 
 -- and those after some in front
-module _ {h : ℕ → ℕ} {n : ℕ} (front : List (List Record)) (a : ℕ) (at : length front ≡ a) where
-  pub clean-after : (qs : List (List Record)) → Clean h n (front ++ qs) → pagesFrom h (areaFrom 0 (front ++ qs)) (n - a) a ≡ map some qs
+module _ {form : Layout} {h : ℕ → ℕ} {n : ℕ} (front : List (List Record)) (a : ℕ) (at : length front ≡ a) where
+  pub clean-after : (qs : List (List Record)) → Clean form h n (front ++ qs) → pagesFrom form h (areaFrom form 0 (front ++ qs)) (n - a) a ≡ map some qs
   clean-after qs c = clean-from c a (omega (arith, c .many, length-append front qs)) ∙ ap (map some) (drop-at front qs a at)
 
-  module _ (p : List Record) (qs : List (List Record)) (c : Clean h n (front ++ (p ∷ qs))) where
-    pub clean-here : recordsIn (partAt (areaFrom 0 (front ++ (p ∷ qs))) a) ≡ p
+  module _ (p : List Record) (qs : List (List Record)) (c : Clean form h n (front ++ (p ∷ qs))) where
+    pub clean-here : recordsIn form (partAt (areaFrom form 0 (front ++ (p ∷ qs))) a) ≡ p
     clean-here = clean-part c a (omega (arith, c .many, length-append front (p ∷ qs))) ∙ getD-at front p qs [] a at
 
-    pub clean-next : pagesFrom h (areaFrom 0 (front ++ (p ∷ qs))) (n - suc a) (suc a) ≡ map some qs
+    pub clean-next : pagesFrom form h (areaFrom form 0 (front ++ (p ∷ qs))) (n - suc a) (suc a) ≡ map some qs
     clean-next =
         let m : n - a ≡ suc (n - suc a) = omega (arith, c .many, length-append front (p ∷ qs)) in
         let t = rw m at (clean-after (p ∷ qs) c) in
@@ -104,7 +107,7 @@ all-from P zero ps s = s
 all-from P (suc a) [] s = tt
 all-from P (suc a) (p ∷ ps) s = all-from P a ps (all-right P p (cat ps []) s)
 
--- an image of 64-bit records is clean, and in order
+-- an image of records that the layout takes is clean, and in order
 module _ {h : ℕ → ℕ} {n : ℕ} {s : List Record} {ps : List (List Record)} (f : RecordSet key s) where
   pub image-order : {b : ℕ} → Image key h b n s ps → InOrder b h ps
   image-order {b} i =
@@ -115,15 +118,15 @@ module _ {h : ℕ → ℕ} {n : ℕ} {s : List Record} {ps : List (List Record)}
         once = perm-distinct key (Permᴰ·symm (i .arranged .holds)) (f .once);
       }
 
-  pub image-clean : n ≤ 4096 → All (λ x. value x < 2 ^ 64) s → Image key h 12 n s ps → Clean h n ps
-  image-clean l v i = record { many = i .arranged .many; each = read }
+  pub image-clean : {form : Layout} → n ≤ 4096 → All (Formed form) s → Image key h (slotsOf form) n s ps → Clean form h n ps
+  image-clean {form} l v i = record { many = i .arranged .many; each = read }
     where
-      both : All Formed (cat ps [])
-      both = perm-all Formed (Permᴰ·symm (i .arranged .holds)) (all-map₂ Small (λ x. value x < 2 ^ 64) Formed (λ x k w. (k, w)) s (f .keys) v)
+      both : All (Formed form) (cat ps [])
+      both = perm-all (Formed form) (Permᴰ·symm (i .arranged .holds)) v
 
-      read : (a : ℕ) → a < n → readPage h a (partAt (areaFrom 0 ps) a) ≡ some (page ps a)
+      read : (a : ℕ) → a < n → readPage form h a (partAt (areaFrom form 0 ps) a) ≡ some (page ps a)
       read a k =
-          rw (part-area a ps (omega (arith, i .arranged .many)))
-          (bytes-read a (page ps a) (i .arranged .slots a) (all-page Formed ps a both) h (omega arith)
+          rw (part-area form a ps (omega (arith, i .arranged .many)))
+          (bytes-read form a (page ps a) (i .arranged .slots a) (all-page (Formed form) ps a both) h (omega arith)
           (all-homes h a (page ps a) (i .arranged .lies a))
           (sorted-rises h (page ps a) (sorted-page (rankIn key h) ps a (image-order i .sorted))))

@@ -8,6 +8,7 @@ use native.Mathlib.Omega.{arith}
 use lib.Dec.{ltb}
 use lib.ListN.{length, take, drop, getD, length-append, length-take, length-drop, drop-of-length-le}
 use lib.Seq.{take-all}
+use Rattle.layouts.specs.Layout.{inUse}
 use Rattle.placing.specs.Lay.{ranked, rankIn}
 use Rattle.pages.specs.declared.Page.{Page}
 use Rattle.pages.specs.declared.Pushed.{Pushed}
@@ -18,7 +19,7 @@ use Rattle.pages.specs.Area.{withPage}
 use Rattle.pages.proofs.Memory.{page-count, page-records}
 use Rattle.pages.proofs.Read.{ready}
 use Rattle.walks.specs.Walks.{writes}
-use Rattle.walks.specs.steps.Plans.{held, firstOf, backed, drawn}
+use Rattle.walks.specs.steps.Plans.{slots, held, firstOf, backed, drawn}
 use Rattle.walks.proofs.Pouring.{Kept, Untouched}
 
 -- closing up a slot that holds no record changes nothing
@@ -38,11 +39,11 @@ pub shut-kept : (p q : Page) (slot : ℕ) → Kept p → q ≡ inMemory (closed 
 shut-kept p q slot k e =
     ready q (closed slot (recordsOf p)) e (omega (arith, closed-few slot (recordsOf p), page-count p (recordsOf p) (k .1)))
 
-pub full-kept : (h : ℕ → ℕ) (next shut full : Page) → full ≡ inMemory (backed 12 h (firstOf (recordsOf next)) (recordsOf shut)) → Kept full
+pub full-kept : (h : ℕ → ℕ) (next shut full : Page) → full ≡ inMemory (backed slots h (firstOf (recordsOf next)) (recordsOf shut)) → Kept full
 full-kept h next shut full e =
     let y : Record = firstOf (recordsOf next) in
     let s : List Record = recordsOf shut in
-    ready full (backed 12 h y s) e (omega (arith, length-take 12 (opened (upToBack (rankIn key h) (rankIn key h y) vacant s (length s)) y s)))
+    ready full (backed slots h y s) e (omega (arith, length-take slots (opened (upToBack (rankIn key h) (rankIn key h y) vacant s (length s)) y s)))
 
 -- a place from the back is one among the records
 back-le : {R : Type 0} (rank : R → ℕ) (r : ℕ) (d : R) (s : List R) (n : ℕ) → upToBack rank r d s n ≤ n
@@ -53,8 +54,8 @@ back-le rank r d s (suc n) = go (ltb (rank (getD s n d)) r) (back-le rank r d s 
     go true ih = omega arith
     go false ih = omega arith
 
--- the first of a page's two rows is its first record
-first-rows : (rs : List Record) → recordWith (getD (inMemory rs .keys) 0 0) (getD (inMemory rs .values) 0 0) ≡ firstOf rs
+-- the first of a page's rows is its first record
+first-rows : (rs : List Record) → recordWith (getD (inMemory rs .keys) 0 0) (getD (inMemory rs .values) 0 0) (getD (inMemory rs .runs) 0 0) ≡ firstOf rs
 unfolding inMemory
 first-rows [] = refl
 first-rows (x ∷ rs) = refl
@@ -69,25 +70,25 @@ module _ (h : ℕ → ℕ) (p next : Page) (home place : ℕ) where
   place-le e = rw e (back-le (rank h) (ranked home (getD (next .keys) 0 0)) vacant (recordsOf p) (p .count))
 
   pub pushed-back : (q : Pushed) → home ≡ h (getD (next .keys) 0 0) → place ≡ sought → p ≡ inMemory (recordsOf p) → next ≡ inMemory (recordsOf next)
-      → q ≡ pushed place (recordWith (getD (next .keys) 0 0) (getD (next .values) 0 0)) (recordsOf p)
-      → q .page ≡ inMemory (backed 12 h (firstOf (recordsOf next)) (recordsOf p))
+      → q ≡ pushed place (recordWith (getD (next .keys) 0 0) (getD (next .values) 0 0) (getD (next .runs) 0 0)) (recordsOf p)
+      → q .page ≡ inMemory (backed slots h (firstOf (recordsOf next)) (recordsOf p))
   pushed-back q d g e f k =
-      let z : firstOf (recordsOf next) ≡ recordWith (getD (next .keys) 0 0) (getD (next .values) 0 0) = sym (first-rows (recordsOf next)) ∙ rw (← f) in
+      let z : firstOf (recordsOf next) ≡ recordWith (getD (next .keys) 0 0) (getD (next .values) 0 0) (getD (next .runs) 0 0) = sym (first-rows (recordsOf next)) ∙ rw (← f) in
       let n : p .count ≡ length (recordsOf p) = page-count p (recordsOf p) e in
       rw (z, ← n, k, g, d)
 
 -- page a is written to an area that agrees with the first area from there on
 module _ (h : ℕ → ℕ) (entry area : List ℕ) (last a slot : ℕ) (same : Untouched entry area a) where
-  pub draw-turn : (page next shut full : Page) (new : List ℕ) → new ≡ withPage area a (recordsOf full)
+  pub draw-turn : (page next shut full : Page) (new : List ℕ) → new ≡ withPage inUse area a (recordsOf full)
       → page ≡ inMemory (held area a) → next ≡ inMemory (held area (a + 1)) → shut ≡ inMemory (closed slot (recordsOf page))
-      → full ≡ inMemory (backed 12 h (firstOf (recordsOf next)) (recordsOf shut)) → a < last
-      → writes new (drawn h entry (last - (a + 1)) (a + 1) 0) ≡ writes area (drawn h entry (last - a) a slot)
+      → full ≡ inMemory (backed slots h (firstOf (recordsOf next)) (recordsOf shut)) → a < last
+      → writes inUse new (drawn h entry (last - (a + 1)) (a + 1) 0) ≡ writes inUse area (drawn h entry (last - a) a slot)
   draw-turn page next shut full new d e f g k l =
       let n : last - a ≡ suc (last - (a + 1)) = omega arith in
       let m : a + 1 ≡ suc a = omega arith in
       rw (
         d,
-        page-records full (backed 12 h (firstOf (recordsOf next)) (recordsOf shut)) k,
+        page-records full (backed slots h (firstOf (recordsOf next)) (recordsOf shut)) k,
         page-records shut (closed slot (recordsOf page)) g,
         page-records page (held area a) e,
         page-records next (held area (a + 1)) f,
@@ -97,8 +98,8 @@ module _ (h : ℕ → ℕ) (entry area : List ℕ) (last a slot : ℕ) (same : U
         m,
       )
 
-  pub draw-last : (page shut : Page) (new : List ℕ) → last ≡ a → new ≡ withPage area last (recordsOf shut)
-      → page ≡ inMemory (held area last) → shut ≡ inMemory (closed slot (recordsOf page)) → new ≡ writes area (drawn h entry (last - a) a slot)
+  pub draw-last : (page shut : Page) (new : List ℕ) → last ≡ a → new ≡ withPage inUse area last (recordsOf shut)
+      → page ≡ inMemory (held area last) → shut ≡ inMemory (closed slot (recordsOf page)) → new ≡ writes inUse area (drawn h entry (last - a) a slot)
   draw-last page shut new l d e g =
       let n : a - a ≡ 0 = omega arith in
       rw (d, page-records shut (closed slot (recordsOf page)) g, page-records page (held area last) e, l, n, same a (omega arith))

@@ -8,6 +8,9 @@ use Prim.Native.Nat.{ℕ, suc, _+_, _^_, _≤_, _<_}
 use native.Mathlib.Omega.{arith}
 use lib.ListN.{length, take, drop, length-append, take-append-drop}
 use lib.Seq.{append-snoc, length-take-le, getD-at, getD-append-add}
+use Rattle.layouts.proofs.Slots.{slots-few}
+use Rattle.layouts.specs.Layout.{slotsOf}
+use Rattle.layouts.specs.declared.Layout.{Layout}
 use Rattle.placing.specs.Image.{All, cat, page}
 use Rattle.placing.specs.Lay.{rankIn}
 use Rattle.placing.specs.Walks.{seek, endsOn, find, findIn, carry as carried, put, putIn}
@@ -69,7 +72,7 @@ module _ (b : ℕ) (pos : 0 < b) (h : ℕ → ℕ) (x : Record) (l : key x < 2 ^
           → ((find rank b (rank x) qs ≡ none → Others qs) → Goes g (front ++ (p ∷ [])) qs (put rank b x qs) on)
           → Goes g front (p ∷ qs) (cond u (carried rank b x (p ∷ qs)) (p ∷ put rank b x qs .0, put rank b x qs .1))
           (onHeld o (λ i v. Found a i (length p) v (suc j)) (cond u (Ends a (ahead rank (rank x) p) (length p) (suc j)) on))
-      go (some w) u e d ih = rw (here-rank (key x) h p l small e) (few, (a, omega arith, ap (λ (s : List Record). seek key (key x) s) (getD-at front p qs [] a at) ∙ here (key x) p e))
+      go (some w) u e d ih = rw (here-rank (key x) h p l small e) (few, (a, omega arith, ap (λ (s : List Record). seek key (key x) s) (getD-at front p qs [] a at) ∙ here (key x) p e .1))
       go none true e d ih =
           let new : Others (p ∷ qs) = f (rw (away-rank (key x) h p l small e, d)) in
           let q : List (List Record) = carried rank b x (p ∷ qs) .0 in
@@ -84,13 +87,13 @@ module _ (b : ℕ) (pos : 0 < b) (h : ℕ → ℕ) (x : Record) (l : key x < 2 ^
           rw (away-rank (key x) h p l small e, d) (simp append-snoc at (ih others))
 
 -- on good bytes: no more than there are
-pub find-judges : {h : ℕ → ℕ} {n : ℕ} {ps : List (List Record)} → Clean h n ps → InOrder 12 h ps → (x : Record) (l : key x < 2 ^ 64) → h (key x) ≤ n
-    → (findIn key h 12 (key x) ps ≡ none → All (λ y. key y ≡ key x → ⊥) (cat ps []))
-    → (h (key x) + readBy (walk h (areaFrom 0 ps) n (key x)) ≤ n)
-    × JudgesTo 12 (omega arith) h x l ps (putIn key h 12 x ps) (findIn key h 12 (key x) ps) (h (key x) + readBy (walk h (areaFrom 0 ps) n (key x)))
+pub find-judges : {form : Layout} {h : ℕ → ℕ} {n : ℕ} {ps : List (List Record)} → Clean form h n ps → InOrder (slotsOf form) h ps → (x : Record) (l : key x < 2 ^ 64) → h (key x) ≤ n
+    → (findIn key h (slotsOf form) (key x) ps ≡ none → All (λ y. key y ≡ key x → ⊥) (cat ps []))
+    → (h (key x) + readBy (walk form h (areaFrom form 0 ps) n (key x)) ≤ n)
+    × JudgesTo (slotsOf form) (slots-few form .0) h x l ps (putIn key h (slotsOf form) x ps) (findIn key h (slotsOf form) (key x) ps) (h (key x) + readBy (walk form h (areaFrom form 0 ps) n (key x)))
 unfolding walk
-find-judges {h} {n} {ps} c i x l g f =
+find-judges {form} {h} {n} {ps} c i x l g f =
     let a : ℕ = h (key x) in
     let at : length (take a ps) ≡ a = length-take-le a ps (omega (arith, c .many)) in
-    let t = judges 12 (omega arith) h x l a (take a ps) (drop a ps) a 0 at (omega arith) (order-from a ps i) (λ z. all-from (λ y. key y ≡ key x → ⊥) a ps (f z)) in
+    let t = judges (slotsOf form) (slots-few form .0) h x l a (take a ps) (drop a ps) a 0 at (omega arith) (order-from a ps i) (λ z. all-from (λ y. key y ≡ key x → ⊥) a ps (f z)) in
     rw (clean-from c a g) (rw (take-append-drop a ps, c .many) at t)

@@ -5,6 +5,8 @@ use mathlib.Core.Option.{Option, none, some}
 use mathlib.Core.List.{List, [], _∷_, map}
 use Prim.Native.Nat.{ℕ, suc, _^_, _≤_, _<_}
 use lib.ListN.{length, drop}
+use Rattle.layouts.specs.Layout.{slotsOf}
+use Rattle.layouts.specs.declared.Layout.{Layout}
 use Rattle.placing.specs.Image.{All, cat}
 use Rattle.placing.specs.Lay.{rankOf, rankIn}
 use Rattle.placing.specs.Walks.{endsOn, find, findIn}
@@ -44,7 +46,7 @@ find-goes b h k l a n (p ∷ qs) s =
     go none true e d t = rw (away-rank k h p l small e, d) (suc n, refl)
     go none false e d t = rw (away-rank k h p l small e, d) t
 
-pub find-clean : {h : ℕ → ℕ} {n : ℕ} {ps : List (List Record)} → Clean h n ps → InOrder 12 h ps → (k : ℕ) → k < 2 ^ 64 → h k ≤ n
-    → FindGoes (findIn key h 12 k ps) (findAnswer (walk h (areaFrom 0 ps) n k))
+pub find-clean : {form : Layout} {h : ℕ → ℕ} {n : ℕ} {ps : List (List Record)} → Clean form h n ps → InOrder (slotsOf form) h ps → (k : ℕ) → k < 2 ^ 64 → h k ≤ n
+    → FindGoes (findIn key h (slotsOf form) k ps) (findAnswer (walk form h (areaFrom form 0 ps) n k))
 unfolding walk
-find-clean {h} {n} {ps} c o k l g = rw (clean-from c (h k) g) (find-goes 12 h k l (h k) 0 (drop (h k) ps) (order-from (h k) ps o .small))
+find-clean {form} {h} {n} {ps} c o k l g = rw (clean-from c (h k) g) (find-goes (slotsOf form) h k l (h k) 0 (drop (h k) ps) (order-from (h k) ps o .small))

@@ -10,6 +10,7 @@ use native.Mathlib.Omega.{arith}
 use borrow.Author.Tests.{ltb-true, ltb-false, lt-ltb, le-ltb}
 use lib.Dec.{ltb}
 use lib.ListN.{length, drop, getD}
+use Rattle.layouts.specs.Layout.{inUse}
 use Rattle.homes.specs.declared.Shape.{Shape}
 use Rattle.homes.specs.Homes.{Ready, homeIn}
 use Rattle.homes.proofs.Homes.{home-below}
@@ -32,7 +33,7 @@ use Rattle.walks.specs.declared.Met.{Met}
 use Rattle.walks.specs.declared.Met.the-variants.{Found, Ends}
 use Rattle.walks.specs.declared.Met.the-variants as mets
 use Rattle.walks.specs.Walks.{heldAt, onHeld, meets, walk}
-use Rattle.walks.specs.steps.Plans.{held}
+use Rattle.walks.specs.steps.Plans.{slots, held}
 use Rattle.walks.proofs.Holds.{away}
 use Rattle.walks.proofs.Scanning.{differ, records-count, After, ToScan, left-away, left-place, Rows}
 
@@ -57,28 +58,28 @@ judged-homes : (h : ℕ → ℕ) (j : Judged) → j ≡ judged h (some (recordsO
     → getD (j .homes) i 0 ≡ h (getD (j .page .keys) i 0)
 unfolding judged recordsOf
 judged-homes h j e i l =
-    homes-key h (j .page .count) (j .page .keys) (j .page .values) (j .homes) (ap (λ (w : Judged). w .homes) e) i l
+    homes-key h (j .page .count) (j .page .keys) (j .page .values) (j .page .runs) (j .homes) (ap (λ (w : Judged). w .homes) e) i l
 
 -- page a of the area, as it was judged
 pub record Seen (h : ℕ → ℕ) (area : List ℕ) (cap a : ℕ) (j : Judged) : Type 0 where
   pub lies : a < cap
-  pub is : j ≡ judged h (readPage h a (partAt area a))
+  pub is : j ≡ judged h (readPage inUse h a (partAt area a))
 
 module _ {h : ℕ → ℕ} {area : List ℕ} {cap a : ℕ} {j : Judged} (seen : Seen h area cap a j) where
   -- it stands first of the pages from it on
-  pub pages-next : pagesFrom h area (cap - a) a ≡ readPage h a (partAt area a) ∷ pagesFrom h area (cap - (a + 1)) (a + 1)
+  pub pages-next : pagesFrom inUse h area (cap - a) a ≡ readPage inUse h a (partAt area a) ∷ pagesFrom inUse h area (cap - (a + 1)) (a + 1)
   pages-next =
       let e : cap - a ≡ suc (cap - (a + 1)) = omega (arith, seen .lies) in
       rw (e, add-one)
 
-  pub page-broken : j .good ≡ false → readPage h a (partAt area a) ≡ none
-  page-broken g = judged-broken h (readPage h a (partAt area a)) j (seen .is) g
+  pub page-broken : j .good ≡ false → readPage inUse h a (partAt area a) ≡ none
+  page-broken g = judged-broken h (readPage inUse h a (partAt area a)) j (seen .is) g
 
-  pub page-read : j .good ≡ true → readPage h a (partAt area a) ≡ some (recordsOf (j .page))
-  page-read g = judged-good h (readPage h a (partAt area a)) j (seen .is) g
+  pub page-read : j .good ≡ true → readPage inUse h a (partAt area a) ≡ some (recordsOf (j .page))
+  page-read g = judged-good h (readPage inUse h a (partAt area a)) j (seen .is) g
 
-  page-known : j .good ≡ true → Good h a (partAt area a) (recordsOf (j .page))
-  page-known g = read-good h a (partAt area a) (recordsOf (j .page)) (page-read g)
+  page-known : j .good ≡ true → Good inUse h a (partAt area a) (recordsOf (j .page))
+  page-known g = read-good inUse h a (partAt area a) (recordsOf (j .page)) (page-read g)
 
   pub page-few : j .good ≡ true → j .page .count ≤ 12
   page-few g = omega (arith, records-count (j .page), page-known g .few)
@@ -87,7 +88,7 @@ module _ {h : ℕ → ℕ} {area : List ℕ} {cap a : ℕ} {j : Judged} (seen : 
   pub page-rows : j .good ≡ true → 256 * (a + 1) ≤ length area → ((i : ℕ) → getD area i 0 < 256) → Rows h (j .page) (j .homes)
   page-rows g fits bytes = record {
     homes = judged-homes h j (seen .is ∙ ap (judged h) (page-read g));
-    small = rw (page-known g .records) (keys-small area a fits (λ i l. bytes i));
+    small = rw (page-known g .records) (keys-small inUse area a fits (λ i l. bytes i));
     rising = rises-sorted h (recordsOf (j .page)) (page-known g .rising);
   }
 
@@ -104,11 +105,11 @@ ends-test b h k rs few up e = go (ltb (length rs) b) refl
 
 -- what is left of the walk from page a on, where n pages were read
 abbrev pub walkLeft : (ℕ → ℕ) → List ℕ → (cap k a n : ℕ) → Met
-walkLeft h area cap k a n = meets 12 h k a n (pagesFrom h area (cap - a) a)
+walkLeft h area cap k a n = meets slots h k a n (pagesFrom inUse h area (cap - a) a)
 
 module _ (h : ℕ → ℕ) (area : List ℕ) (cap k a n : ℕ) where
   -- at the home the whole of it is left
-  pub walk-starts : a ≡ h k → n ≡ 0 → walkLeft h area cap k a n ≡ walk h area cap k
+  pub walk-starts : a ≡ h k → n ≡ 0 → walkLeft h area cap k a n ≡ walk inUse h area cap k
   unfolding walk
   walk-starts e z = rw (e, z)
 
@@ -130,7 +131,7 @@ module _ {h : ℕ → ℕ} {area : List ℕ} {cap a : ℕ} {j : Judged} (seen : 
     -- the walk at a good page
     at-page : walkLeft h area cap k a n
         ≡ onHeld (heldAt k 0 rs) (λ i v. Found a i (j .page .count) v (n + 1))
-        (cond (endsOn (rankIn key h) 12 (rankOf h k) rs) (Ends a (ahead (rankIn key h) (rankOf h k) rs) (j .page .count) (n + 1)) (walkLeft h area cap k (a + 1) (n + 1)))
+        (cond (endsOn (rankIn key h) slots (rankOf h k) rs) (Ends a (ahead (rankIn key h) (rankOf h k) rs) (j .page .count) (n + 1)) (walkLeft h area cap k (a + 1) (n + 1)))
     at-page = rw (pages-next seen, page-read seen g, records-count (j .page), add-one n, add-one a)
 
     -- a slot that holds the key ends it
@@ -142,22 +143,22 @@ module _ {h : ℕ → ℕ} {area : List ℕ} {cap a : ℕ} {j : Judged} (seen : 
       place-is : at ≡ ahead (rankIn key h) (rankOf h k) rs
       place-is = left-place h k w f
 
-      ends : endsOn (rankIn key h) 12 (rankOf h k) rs ≡ ltb at 12
+      ends : endsOn (rankIn key h) slots (rankOf h k) rs ≡ ltb at slots
       ends =
           let sought : seek (rankIn key h) (rankOf h k) rs ≡ none = seek-key key h k rs small (rows .small) ∙ away k rs (left-away h k w f) in
-          rw place-is (ends-test 12 h k rs (page-known seen g .few) (rows .rising) sought)
+          rw place-is (ends-test slots h k rs (page-known seen g .few) (rows .rising) sought)
 
       -- a page with the place ends the walk
-      pub walk-ends : at < 12 → Ends a at (j .page .count) (n + 1) ≡ walkLeft h area cap k a n
-      walk-ends l = sym (at-page ∙ rw (left-away h k w f, ends, lt-ltb at 12 l, ← place-is))
+      pub walk-ends : at < slots → Ends a at (j .page .count) (n + 1) ≡ walkLeft h area cap k a n
+      walk-ends l = sym (at-page ∙ rw (left-away h k w f, ends, lt-ltb at slots l, ← place-is))
 
       -- else it goes on
-      pub walk-on : 12 ≤ at → walkLeft h area cap k (a + 1) (n + 1) ≡ walkLeft h area cap k a n
-      walk-on l = sym (at-page ∙ rw (left-away h k w f, ends, le-ltb at 12 l))
+      pub walk-on : slots ≤ at → walkLeft h area cap k (a + 1) (n + 1) ≡ walkLeft h area cap k a n
+      walk-on l = sym (at-page ∙ rw (left-away h k w f, ends, le-ltb at slots l))
 
 -- a page that is good, and counted
 pub record Counted (h : ℕ → ℕ) (area : List ℕ) (a c : ℕ) : Type 0 where
-  pub read : readPage h a (partAt area a) ≡ some (held area a)
+  pub read : readPage inUse h a (partAt area a) ≡ some (held area a)
   pub count : c ≡ length (held area a)
 
 module _ (h : ℕ → ℕ) (area : List ℕ) (k : ℕ) where
@@ -168,12 +169,12 @@ module _ (h : ℕ → ℕ) (area : List ℕ) (k : ℕ) where
   Known (Ends a i c n) = Counted h area a c × (i ≡ ahead (rankIn key h) (rankOf h k) (held area a))
   Known (mets.AtEnd n) = Unit {0}
 
-  meets-known : (m a n : ℕ) → Known (meets 12 h k a n (pagesFrom h area m a))
+  meets-known : (m a n : ℕ) → Known (meets slots h k a n (pagesFrom inUse h area m a))
   meets-known zero a n = tt
-  meets-known (suc m) a n = go (readPage h a (partAt area a)) refl (meets-known m (suc a) (suc n))
+  meets-known (suc m) a n = go (readPage inUse h a (partAt area a)) refl (meets-known m (suc a) (suc n))
     where
       on : Met
-      on = meets 12 h k (suc a) (suc n) (pagesFrom h area m (suc a))
+      on = meets slots h k (suc a) (suc n) (pagesFrom inUse h area m (suc a))
 
       good : (p : List Record) → Counted h area a (length p) → p ≡ held area a → (o : Option (ℕ × ℕ)) (u : Bool) → Known on
           → Known (onHeld o (λ i v. Found a i (length p) v (suc n)) (cond u (Ends a (ahead (rankIn key h) (rankOf h k) p) (length p) (suc n)) on))
@@ -181,12 +182,12 @@ module _ (h : ℕ → ℕ) (area : List ℕ) (k : ℕ) where
       good p w e none true t = (w, ap (ahead (rankIn key h) (rankOf h k)) e)
       good p w e none false t = t
 
-      go : (o : Option (List Record)) → readPage h a (partAt area a) ≡ o → Known on → Known (meets 12 h k a n (o ∷ pagesFrom h area m (suc a)))
+      go : (o : Option (List Record)) → readPage inUse h a (partAt area a) ≡ o → Known on → Known (meets slots h k a n (o ∷ pagesFrom inUse h area m (suc a)))
       go none e t = tt
       go (some p) e t =
-          let s : p ≡ held area a = read-good h a (partAt area a) p e .records in
-          good p (record { read = rw s at e; count = ap length s }) s (heldAt k 0 p) (endsOn (rankIn key h) 12 (rankOf h k) p) t
+          let s : p ≡ held area a = read-good inUse h a (partAt area a) p e .records in
+          good p (record { read = rw s at e; count = ap length s }) s (heldAt k 0 p) (endsOn (rankIn key h) slots (rankOf h k) p) t
 
-  pub walk-known : (cap : ℕ) {m : Met} (e : Met) → m ≡ walk h area cap k → m ≡ e → Known e
+  pub walk-known : (cap : ℕ) {m : Met} (e : Met) → m ≡ walk inUse h area cap k → m ≡ e → Known e
   unfolding walk
   walk-known cap e is q = subst Known (sym is ∙ q) (meets-known (cap - h k) (h k) 0)

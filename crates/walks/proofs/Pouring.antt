@@ -8,6 +8,7 @@ use native.Mathlib.Omega.{arith}
 use borrow.Author.Tests.{eqb-true}
 use lib.Dec.{eqb}
 use lib.ListN.{length, take, getD, length-take}
+use Rattle.layouts.specs.Layout.{inUse}
 use Rattle.placing.specs.Lay.{rankIn, ins, ranked}
 use Rattle.pages.specs.declared.Page.{Page}
 use Rattle.pages.specs.declared.Pushed.{Pushed}
@@ -20,7 +21,7 @@ use Rattle.pages.proofs.Read.{held-few, ready}
 use Rattle.pages.proofs.Places.{ins-opened, ahead-le}
 use Rattle.pages.proofs.Areas.{with-length, part-other}
 use Rattle.walks.specs.Walks.{writes}
-use Rattle.walks.specs.steps.Plans.{held, poured}
+use Rattle.walks.specs.steps.Plans.{slots, held, poured}
 use Rattle.walks.proofs.Scanning.{records-count}
 
 -- the place on a page after the first is sought
@@ -33,20 +34,20 @@ abbrev pub Untouched : (start area : List ℕ) → ℕ → Type 0
 Untouched start area a = (b : ℕ) → a ≤ b → partAt area b ≡ partAt start b
 
 -- a page stored in an area leaves the length and the pages after it
-module _ (area new : List ℕ) (a : ℕ) (p : List Record) (e : new ≡ withPage area a p) (fits : 256 * (a + 1) ≤ length area) where
+module _ (area new : List ℕ) (a : ℕ) (p : List Record) (e : new ≡ withPage inUse area a p) (fits : 256 * (a + 1) ≤ length area) where
   pub stored-length : length new ≡ length area
-  stored-length = ap length e ∙ with-length area a p fits
+  stored-length = ap length e ∙ with-length inUse area a p fits
 
   pub stored-same : (entry : List ℕ) → Untouched entry area a → Untouched entry new (a + 1)
-  stored-same entry same b l = rw e (part-other area a p fits b (λ q. omega arith)) ∙ same b (omega arith)
+  stored-same entry same b l = rw e (part-other inUse area a p fits b (λ q. omega arith)) ∙ same b (omega arith)
 
 -- a page that may be changed and stored
 abbrev pub Kept : Page → Type 0
 Kept p = (p .count ≤ 12) × (p ≡ inMemory (recordsOf p))
 
 -- as it is when it is read
-pub read-kept : (p : Page) (l : List ℕ) → p ≡ inMemory (recordsIn l) → Kept p
-read-kept p l e = ready p (recordsIn l) e (held-few l)
+pub read-kept : (p : Page) (l : List ℕ) → p ≡ inMemory (recordsIn inUse l) → Kept p
+read-kept p l e = ready p (recordsIn inUse l) e (held-few inUse l)
 
 -- a turn puts record x at its place on page a
 pub record Turn (h : ℕ → ℕ) (start area : List ℕ) (a : ℕ) (x : Record) (page : Page) (place : ℕ) : Type 0 where
@@ -75,7 +76,7 @@ module _ {h : ℕ → ℕ} {start area : List ℕ} {a : ℕ} {x : Record} {page 
   q = ins (rankIn key h) x (held start a)
 
   holds : recordsOf page ≡ held start a
-  holds = page-records page (held area a) (t .is) ∙ ap recordsIn (t .rest a (omega arith))
+  holds = page-records page (held area a) (t .is) ∙ ap (recordsIn inUse) (t .rest a (omega arith))
 
   pub place-within : place ≤ page .count
   place-within = omega (arith, t .at, ahead-le (rank h) (rank h x) (held start a), ap length holds, records-count page)
@@ -84,34 +85,34 @@ module _ {h : ℕ → ℕ} {start area : List ℕ} {a : ℕ} {x : Record} {page 
     opens : opened place x (recordsOf page) ≡ q
     opens = rw (holds, t .at) (sym (ins-opened (rankIn key h) x (held start a)))
 
-    next-is : out .page ≡ inMemory (take 12 q)
+    next-is : out .page ≡ inMemory (take slots q)
     next-is = rw opens at (ap (λ (o : Pushed). o .page) gives)
 
     -- the page may be stored
     pub next-fits : (out .page .count ≤ 12) × (out .page ≡ inMemory (recordsOf (out .page)))
-    next-fits = ready (out .page) (take 12 q) next-is (omega (arith, length-take 12 q))
+    next-fits = ready (out .page) (take slots q) next-is (omega (arith, length-take slots q))
 
-    goes-on : out .over ≡ getD q 12 x
+    goes-on : out .over ≡ getD q slots x
     goes-on = rw opens at (ap (λ (o : Pushed). o .over) gives)
 
-    module _ (to : List ℕ) (stored : to ≡ withPage area a (recordsOf (out .page))) (fits : 256 * (a + 1) ≤ length area) where
+    module _ (to : List ℕ) (stored : to ≡ withPage inUse area a (recordsOf (out .page))) (fits : 256 * (a + 1) ≤ length area) where
       -- what is left to write is the same
       pub pour-turn : (last : ℕ) → a ≤ last
-          → writes to (poured h start (suc last - (a + 1)) (a + 1) (out .over)) ≡ writes area (poured h start (suc last - a) a x)
+          → writes inUse to (poured h start (suc last - (a + 1)) (a + 1) (out .over)) ≡ writes inUse area (poured h start (suc last - a) a x)
       pour-turn last l =
           let e : suc last - a ≡ suc (suc last - (a + 1)) = omega arith in
-          let p : recordsOf (out .page) ≡ take 12 q = page-records (out .page) (take 12 q) next-is in
+          let p : recordsOf (out .page) ≡ take slots q = page-records (out .page) (take slots q) next-is in
           rw (e, stored, p, goes-on, add-one)
 
 -- at the start all is left to write
 pub pour-starts : (h : ℕ → ℕ) (area : List ℕ) (first last : ℕ) (x : Record) → first ≤ last
-    → writes area (poured h area (suc last - first) first x) ≡ writes area (poured h area (suc (last - first)) first x)
+    → writes inUse area (poured h area (suc last - first) first x) ≡ writes inUse area (poured h area (suc (last - first)) first x)
 pour-starts h area first last x l =
     let e : suc last - first ≡ suc (last - first) = omega arith in
     rw e
 
 -- at the end nothing is left to write
-pub pour-ends : (h : ℕ → ℕ) (start area : List ℕ) (last a : ℕ) (x : Record) → last < a → writes area (poured h start (suc last - a) a x) ≡ area
+pub pour-ends : (h : ℕ → ℕ) (start area : List ℕ) (last a : ℕ) (x : Record) → last < a → writes inUse area (poured h start (suc last - a) a x) ≡ area
 pour-ends h start area last a x l =
     let e : suc last - a ≡ 0 = omega arith in
     rw e

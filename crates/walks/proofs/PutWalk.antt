@@ -8,6 +8,9 @@ use native.Mathlib.Omega.{arith}
 use lib.Dec.{ltb}
 use lib.ListN.{length, take, drop, getD, length-append, take-append-drop}
 use lib.Seq.{append-snoc, length-take-le}
+use Rattle.layouts.proofs.Slots.{slots-few}
+use Rattle.layouts.specs.Layout.{slotsOf}
+use Rattle.layouts.specs.declared.Layout.{Layout}
 use Rattle.placing.specs.Image.{All, cat}
 use Rattle.placing.specs.Lay.{rankIn, ins}
 use Rattle.placing.specs.Rows.{strayed}
@@ -28,28 +31,28 @@ use Rattle.walks.proofs.Went.{Went, wrote-went, one-went}
 
 -- a walk with a record at hand makes of the pages ps the pages qs where no record is left over, and
 -- tells m records moved; else it finds no room
-abbrev pub Poured : (ps qs : List (List Record)) → List Record → (m : ℕ) → Walked → Type 0
-Poured ps qs [] m w = Went ps qs m w
-Poured ps qs (y ∷ over) m w = (n : ℕ) × (w ≡ stopped (NoRoom n))
+abbrev pub Poured : Layout → (ps qs : List (List Record)) → List Record → (m : ℕ) → Walked → Type 0
+Poured form ps qs [] m w = Went form ps qs m w
+Poured form ps qs (y ∷ over) m w = (n : ℕ) × (w ≡ stopped (NoRoom n))
 
 -- how a put of x goes, by the record found, if any, and by what the walk on the pages comes to: it
 -- tells as many records as lay on another page before it
-abbrev pub PutGoes : List (List Record) → Record → Option Record → (List (List Record) × List Record) → Walked → Type 0
-PutGoes ps x (some y) o w = (n : ℕ) × (w ≡ stopped (again (value x) (value y) n))
-PutGoes ps x none o w = Poured ps (o .0) (o .1) (strayed key (o .0) ps) w
+abbrev pub PutGoes : Layout → List (List Record) → Record → Option Record → (List (List Record) × List Record) → Walked → Type 0
+PutGoes form ps x (some y) o w = (n : ℕ) × (w ≡ stopped (again (value x) (value y) n))
+PutGoes form ps x none o w = Poured form ps (o .0) (o .1) (strayed key (o .0) ps) w
 
 -- the first page that a walk writes
-poured-on : (front : List (List Record)) (a : ℕ) → length front ≡ a → (was p : List Record) (qs new : List (List Record)) (over : List Record) (m : ℕ) (w : Walked)
-    → Poured (front ++ (p ∷ qs)) new over m w → Poured (front ++ (was ∷ qs)) new over m (andPage a p w)
-poured-on front a at was p qs new [] m w t = wrote-went front a at was p qs t
-poured-on front a at was p qs new (y ∷ over) m w t = (t .0, ap (andPage a p) (t .1))
+poured-on : (form : Layout) (front : List (List Record)) (a : ℕ) → length front ≡ a → (was p : List Record) (qs new : List (List Record)) (over : List Record) (m : ℕ) (w : Walked)
+    → Poured form (front ++ (p ∷ qs)) new over m w → Poured form (front ++ (was ∷ qs)) new over m (andPage a p w)
+poured-on form front a at was p qs new [] m w t = wrote-went form front a at was p qs t
+poured-on form front a at was p qs new (y ∷ over) m w t = (t .0, ap (andPage a p) (t .1))
 
 -- a record is carried alike on bytes and on pages, and each time that one is handed on counts
-carry-goes : (b : ℕ) (h : ℕ → ℕ) (front : List (List Record)) (a n m t : ℕ) → length front ≡ a → (x : Record) (qs : List (List Record)) → m + hops (rankIn key h) b x qs ≡ t
-    → Poured (front ++ qs) (front ++ carried (rankIn key h) b x qs .0) (carried (rankIn key h) b x qs .1) t (carry b h a n m x (map some qs))
-carry-goes b h front a n m t at x [] e = (n, refl)
-carry-goes b h front a n m t at x (p ∷ qs) e =
-    go (ltb (length p) b) e (carry-goes b h (front ++ (kept ∷ [])) (suc a) (suc n) (suc m) t (omega (arith, length-append front (kept ∷ []))) y qs)
+carry-goes : (form : Layout) (b : ℕ) (h : ℕ → ℕ) (front : List (List Record)) (a n m t : ℕ) → length front ≡ a → (x : Record) (qs : List (List Record)) → m + hops (rankIn key h) b x qs ≡ t
+    → Poured form (front ++ qs) (front ++ carried (rankIn key h) b x qs .0) (carried (rankIn key h) b x qs .1) t (carry b h a n m x (map some qs))
+carry-goes form b h front a n m t at x [] e = (n, refl)
+carry-goes form b h front a n m t at x (p ∷ qs) e =
+    go (ltb (length p) b) e (carry-goes form b h (front ++ (kept ∷ [])) (suc a) (suc n) (suc m) t (omega (arith, length-append front (kept ∷ []))) y qs)
   where
     q : List Record
     q = ins (rankIn key h) x p
@@ -70,13 +73,13 @@ carry-goes b h front a n m t at x (p ∷ qs) e =
     came u = cond u (q ∷ qs, []) (kept ∷ on .0, on .1)
 
     go : (u : Bool) → m + cond u 0 (suc (hops (rankIn key h) b y qs)) ≡ t
-        → (suc m + hops (rankIn key h) b y qs ≡ t → Poured (front ++ (kept ∷ []) ++ qs) (front ++ (kept ∷ []) ++ on .0) (on .1) t walked)
-        → Poured (front ++ (p ∷ qs)) (front ++ came u .0) (came u .1) t (cond u (went ((a, q) ∷ []) (suc n) m) (andPage a kept walked))
-    go true e ih = one-went front a at p q qs (suc n) m (omega arith)
+        → (suc m + hops (rankIn key h) b y qs ≡ t → Poured form (front ++ (kept ∷ []) ++ qs) (front ++ (kept ∷ []) ++ on .0) (on .1) t walked)
+        → Poured form (front ++ (p ∷ qs)) (front ++ came u .0) (came u .1) t (cond u (went ((a, q) ∷ []) (suc n) m) (andPage a kept walked))
+    go true e ih = one-went form front a at p q qs (suc n) m (omega arith)
     go false e ih =
-        poured-on front a at p kept qs (front ++ (kept ∷ on .0)) (on .1) t walked (rw (append-snoc front kept qs, append-snoc front kept (on .0)) at (ih (omega arith)))
+        poured-on form front a at p kept qs (front ++ (kept ∷ on .0)) (on .1) t walked (rw (append-snoc front kept qs, append-snoc front kept (on .0)) at (ih (omega arith)))
 
-module _ (h : ℕ → ℕ) (n : ℕ) (x : Record) (l : key x < 2 ^ 64) where
+module _ (form : Layout) (h : ℕ → ℕ) (n : ℕ) (x : Record) (l : key x < 2 ^ 64) where
   abbrev rank : Record → ℕ
   rank = rankIn key h
 
@@ -86,39 +89,39 @@ module _ (h : ℕ → ℕ) (n : ℕ) (x : Record) (l : key x < 2 ^ 64) where
 
   -- how a put goes from page a on, which comes after those in front
   abbrev Goes : (front qs : List (List Record)) → (List (List Record) × List Record) → Met → Type 0
-  Goes front qs o m = PutGoes (front ++ qs) x (find rank 12 (rank x) qs) (front ++ o .0, o .1) (putMet h (areaFrom 0 (front ++ qs)) n x m)
+  Goes front qs o m = PutGoes form (front ++ qs) x (find rank (slotsOf form) (rank x) qs) (front ++ o .0, o .1) (putMet form h (areaFrom form 0 (front ++ qs)) n x m)
 
-  put-goes : (front qs : List (List Record)) (a j : ℕ) → length front ≡ a → Clean h n (front ++ qs) → InOrder 12 h qs
-      → (find rank 12 (rank x) qs ≡ none → Others qs) → Goes front qs (put rank 12 x qs) (meets 12 h (key x) a j (map some qs))
+  put-goes : (front qs : List (List Record)) (a j : ℕ) → length front ≡ a → Clean form h n (front ++ qs) → InOrder (slotsOf form) h qs
+      → (find rank (slotsOf form) (rank x) qs ≡ none → Others qs) → Goes front qs (put rank (slotsOf form) x qs) (meets (slotsOf form) h (key x) a j (map some qs))
   put-goes front [] a j at c i f = (j, refl)
   put-goes front (p ∷ qs) a j at c i f =
-      go (heldAt (key x) 0 p) (endsOn rank 12 (rank x) p) refl refl
+      go (heldAt (key x) 0 p) (endsOn rank (slotsOf form) (rank x) p) refl refl
       (put-goes (front ++ (p ∷ [])) qs (suc a) (suc j) (omega (arith, length-append front (p ∷ []))) (rw (append-snoc front p qs) c) (order-next i))
     where
       small : All Small p
       small = all-left Small p (cat qs []) (i .small)
 
       on : Met
-      on = meets 12 h (key x) (suc a) (suc j) (map some qs)
+      on = meets (slotsOf form) h (key x) (suc a) (suc j) (map some qs)
 
-      go : (o : Option (ℕ × ℕ)) (u : Bool) → heldAt (key x) 0 p ≡ o → endsOn rank 12 (rank x) p ≡ u
-          → ((find rank 12 (rank x) qs ≡ none → Others qs) → Goes (front ++ (p ∷ [])) qs (put rank 12 x qs) on)
-          → Goes front (p ∷ qs) (cond u (carried rank 12 x (p ∷ qs)) (p ∷ put rank 12 x qs .0, put rank 12 x qs .1))
+      go : (o : Option (ℕ × ℕ)) (u : Bool) → heldAt (key x) 0 p ≡ o → endsOn rank (slotsOf form) (rank x) p ≡ u
+          → ((find rank (slotsOf form) (rank x) qs ≡ none → Others qs) → Goes (front ++ (p ∷ [])) qs (put rank (slotsOf form) x qs) on)
+          → Goes front (p ∷ qs) (cond u (carried rank (slotsOf form) x (p ∷ qs)) (p ∷ put rank (slotsOf form) x qs .0, put rank (slotsOf form) x qs .1))
           (onHeld o (λ i v. Found a i (length p) v (suc j)) (cond u (Ends a (ahead rank (rank x) p) (length p) (suc j)) on))
       go (some w) u e d ih = rw (here-rank (key x) h p l small e) (suc j, refl)
       go none true e d ih =
           let new : Others (p ∷ qs) = f (rw (away-rank (key x) h p l small e, d)) in
-          let moved = hops-strayed key rank 12 (omega arith) x (p ∷ qs) (i .slots) d (i .sorted) (new, i .once) in
+          let moved = hops-strayed key rank (slotsOf form) (slots-few form .0) x (p ∷ qs) (i .slots) d (i .sorted) (new, i .once) in
           rw (away-rank (key x) h p l small e, d, clean-after front a at (p ∷ qs) c)
-          (carry-goes 12 h front a (suc j - 1) 0 _ at x (p ∷ qs) (omega (arith, moved, strayed-after key front (carried rank 12 x (p ∷ qs) .0) (p ∷ qs))))
+          (carry-goes form (slotsOf form) h front a (suc j - 1) 0 _ at x (p ∷ qs) (omega (arith, moved, strayed-after key front (carried rank (slotsOf form) x (p ∷ qs) .0) (p ∷ qs))))
       go none false e d ih =
-          let others : find rank 12 (rank x) qs ≡ none → Others qs = λ z. all-right (λ y. key y ≡ key x → ⊥) p (cat qs []) (f (rw (away-rank (key x) h p l small e, d) z)) in
+          let others : find rank (slotsOf form) (rank x) qs ≡ none → Others qs = λ z. all-right (λ y. key y ≡ key x → ⊥) p (cat qs []) (f (rw (away-rank (key x) h p l small e, d) z)) in
           rw (away-rank (key x) h p l small e, d) (simp append-snoc at (ih others))
 
   -- put makes of good bytes what the walk on the pages makes, where a key that is not found is not
   -- there
-  pub put-clean : {ps : List (List Record)} → Clean h n ps → InOrder 12 h ps → h (key x) ≤ n → (findIn key h 12 (key x) ps ≡ none → Others ps)
-      → PutGoes ps x (findIn key h 12 (key x) ps) (putIn key h 12 x ps) (putWalk h (areaFrom 0 ps) n x)
+  pub put-clean : {ps : List (List Record)} → Clean form h n ps → InOrder (slotsOf form) h ps → h (key x) ≤ n → (findIn key h (slotsOf form) (key x) ps ≡ none → Others ps)
+      → PutGoes form ps x (findIn key h (slotsOf form) (key x) ps) (putIn key h (slotsOf form) x ps) (putWalk form h (areaFrom form 0 ps) n x)
   unfolding putWalk walk
   put-clean {ps} c i g f =
       let a : ℕ = h (key x) in

@@ -9,6 +9,7 @@ use native.Mathlib.Omega.{arith}
 use lib.Dec.{leb, ltb}
 use lib.ListN.{length}
 use lib.Seq.{take-all}
+use Rattle.layouts.specs.Layout.{inUse}
 use Rattle.placing.specs.Image.{All}
 use Rattle.placing.specs.Lay.{rankIn, ins}
 use Rattle.placing.proofs.Order.{Sorted, ins-length}
@@ -22,7 +23,7 @@ use Rattle.pages.proofs.Places.{back-ahead, ins-opened}
 use Rattle.walks.specs.declared.Plan.{Plan}
 use Rattle.walks.specs.declared.Plan.the-variants.{Go, Stop}
 use Rattle.walks.specs.Walks.{Walked, went, stopped, andPage, pullBack}
-use Rattle.walks.specs.steps.Plans.{held, firstOf, backed, drawn, reachedBack, planned}
+use Rattle.walks.specs.steps.Plans.{slots, held, firstOf, backed, drawn, reachedBack, planned}
 use Rattle.walks.proofs.PutPlan.{LastFrom, later}
 
 -- a record at its place from the back, where there is room for it
@@ -77,7 +78,7 @@ module _ (h : ℕ → ℕ) (area : List ℕ) where
 
   -- page a is filled, and the plan goes on from the next page
   from-next : (f at a slot m : ℕ) (p : Plan) → LastFrom f at (suc a) p
-      → from a slot m p ≡ andPage a (backed 12 h (firstOf (held area (suc a))) (closed slot (held area a))) (from (suc a) 0 (suc m) p)
+      → from a slot m p ≡ andPage a (backed slots h (firstOf (held area (suc a))) (closed slot (held area a))) (from (suc a) 0 (suc m) p)
   from-next f at a slot m (Go f′ at′ last read) b =
       let e : last - a ≡ suc (last - suc a) = omega arith in
       let k : m + suc (last - suc a) ≡ suc m + (last - suc a) = omega arith in
@@ -92,51 +93,51 @@ module _ (h : ℕ → ℕ) (area : List ℕ) where
       rw (e, k)
 
   -- from a page that lost a record on, the plan comes to the walk
-  pulled : (k f at a slot n m : ℕ) → Sorted (rankIn key h) (closed slot (held area a)) → length (closed slot (held area a)) < 12
-      → from a slot m (reachedBack 12 h f at a n (pagesFrom h area k (suc a))) ≡ pullBack 12 h a n m (closed slot (held area a)) (pagesFrom h area k (suc a))
+  pulled : (k f at a slot n m : ℕ) → Sorted (rankIn key h) (closed slot (held area a)) → length (closed slot (held area a)) < slots
+      → from a slot m (reachedBack slots h f at a n (pagesFrom inUse h area k (suc a))) ≡ pullBack slots h a n m (closed slot (held area a)) (pagesFrom inUse h area k (suc a))
   pulled zero f at a slot n m s l = from-last f at a slot n m
-  pulled (suc k) f at a slot n m s l = go (readPage h (suc a) (partAt area (suc a))) refl (pulled k f at (suc a) 0 (suc n) (suc m))
+  pulled (suc k) f at a slot n m s l = go (readPage inUse h (suc a) (partAt area (suc a))) refl (pulled k f at (suc a) 0 (suc n) (suc m))
     where
       ps : List (Option (List Record))
-      ps = pagesFrom h area k (suc (suc a))
+      ps = pagesFrom inUse h area k (suc (suc a))
 
       p : List Record
       p = closed slot (held area a)
 
       -- the record that comes back is the first of the next page, which then is without it
       on : (u v : Bool) (y : Record) (q : List Record) → held area (suc a) ≡ y ∷ q
-          → from (suc a) 0 (suc m) (reachedBack 12 h f at (suc a) (suc n) ps) ≡ pullBack 12 h (suc a) (suc n) (suc m) (closed 0 (held area (suc a))) ps
-          → from a slot m (cond u (cond v (Go f at (suc a) (suc n)) (reachedBack 12 h f at (suc a) (suc n) ps)) (Go f at a (suc n)))
-          ≡ cond u (andPage a (ins (rankIn key h) y p) (cond v (went ((suc a, q) ∷ []) (suc n) (suc m)) (pullBack 12 h (suc a) (suc n) (suc m) q ps)))
+          → from (suc a) 0 (suc m) (reachedBack slots h f at (suc a) (suc n) ps) ≡ pullBack slots h (suc a) (suc n) (suc m) (closed 0 (held area (suc a))) ps
+          → from a slot m (cond u (cond v (Go f at (suc a) (suc n)) (reachedBack slots h f at (suc a) (suc n) ps)) (Go f at a (suc n)))
+          ≡ cond u (andPage a (ins (rankIn key h) y p) (cond v (went ((suc a, q) ∷ []) (suc n) (suc m)) (pullBack slots h (suc a) (suc n) (suc m) q ps)))
           (went ((a, p) ∷ []) (suc n) m)
       on false v y q e ih = from-last f at a slot (suc n) m
       on true true y q e ih =
           from-next f at a slot m (Go f at (suc a) (suc n)) (refl, refl, omega arith)
-          ∙ ap (andPage a (backed 12 h (firstOf (held area (suc a))) p)) (from-last f at (suc a) 0 (suc n) (suc m))
-          ∙ rw (e, back-ins 12 h y p s l, closed-first y q)
+          ∙ ap (andPage a (backed slots h (firstOf (held area (suc a))) p)) (from-last f at (suc a) 0 (suc n) (suc m))
+          ∙ rw (e, back-ins slots h y p s l, closed-first y q)
       on true false y q e ih =
-          from-next f at a slot m (reachedBack 12 h f at (suc a) (suc n) ps) (begins 12 h f at (suc a) (suc n) ps)
-          ∙ rw (ih, e, back-ins 12 h y p s l, closed-first y q)
+          from-next f at a slot m (reachedBack slots h f at (suc a) (suc n) ps) (begins slots h f at (suc a) (suc n) ps)
+          ∙ rw (ih, e, back-ins slots h y p s l, closed-first y q)
 
-      go : (o : Option (List Record)) → readPage h (suc a) (partAt area (suc a)) ≡ o
-          → (Sorted (rankIn key h) (closed 0 (held area (suc a))) → length (closed 0 (held area (suc a))) < 12
-          → from (suc a) 0 (suc m) (reachedBack 12 h f at (suc a) (suc n) ps) ≡ pullBack 12 h (suc a) (suc n) (suc m) (closed 0 (held area (suc a))) ps)
-          → from a slot m (reachedBack 12 h f at a n (o ∷ ps)) ≡ pullBack 12 h a n m p (o ∷ ps)
+      go : (o : Option (List Record)) → readPage inUse h (suc a) (partAt area (suc a)) ≡ o
+          → (Sorted (rankIn key h) (closed 0 (held area (suc a))) → length (closed 0 (held area (suc a))) < slots
+          → from (suc a) 0 (suc m) (reachedBack slots h f at (suc a) (suc n) ps) ≡ pullBack slots h (suc a) (suc n) (suc m) (closed 0 (held area (suc a))) ps)
+          → from a slot m (reachedBack slots h f at a n (o ∷ ps)) ≡ pullBack slots h a n m p (o ∷ ps)
       go none e ih = refl
       go (some []) e ih = from-last f at a slot (suc n) m
       go (some (y ∷ q)) e ih =
-          let g : Good h (suc a) (partAt area (suc a)) (y ∷ q) = read-good h (suc a) (partAt area (suc a)) (y ∷ q) e in
+          let g : Good inUse h (suc a) (partAt area (suc a)) (y ∷ q) = read-good inUse h (suc a) (partAt area (suc a)) (y ∷ q) e in
           let r : held area (suc a) ≡ y ∷ q = sym (g .records) in
-          on (leb (h (key y)) a) (ltb (suc (length q)) 12) y q r
+          on (leb (h (key y)) a) (ltb (suc (length q)) slots) y q r
           (ih (rw (r, closed-first y q) (rises-sorted h (y ∷ q) (g .rising) .1)) (rw (r, closed-first y q) (g .few)))
 
   -- the plan of a remove from a page of twelve records comes to the walk
-  pub remove-plan : (cap first slot n : ℕ) → rises h (held area first) ≡ true → length (held area first) ≡ 12 → slot < 12
-      → planned (drawn h area) (reachedBack 12 h first slot first n (pagesFrom h area (cap - suc first) (suc first)))
-      ≡ pullBack 12 h first n 0 (closed slot (held area first)) (pagesFrom h area (cap - suc first) (suc first))
+  pub remove-plan : (cap first slot n : ℕ) → rises h (held area first) ≡ true → length (held area first) ≡ slots → slot < slots
+      → planned (drawn h area) (reachedBack slots h first slot first n (pagesFrom inUse h area (cap - suc first) (suc first)))
+      ≡ pullBack slots h first n 0 (closed slot (held area first)) (pagesFrom inUse h area (cap - suc first) (suc first))
   remove-plan cap first slot n r e l =
-      let ps : List (Option (List Record)) = pagesFrom h area (cap - suc first) (suc first) in
-      from-first first slot (reachedBack 12 h first slot first n ps) (begins 12 h first slot first n ps)
+      let ps : List (Option (List Record)) = pagesFrom inUse h area (cap - suc first) (suc first) in
+      from-first first slot (reachedBack slots h first slot first n ps) (begins slots h first slot first n ps)
       ∙ pulled (cap - suc first) first slot first slot n 0
       (sorted-closed (rankIn key h) slot (held area first) (rises-sorted h (held area first) r))
       (omega (arith, closed-length slot (held area first) (omega arith)))

@@ -5,6 +5,7 @@ use Prim.Native.Nat.{ℕ, suc, _-_, _≤_, _<_}
 use native.Mathlib.Omega.{arith}
 use lib.ListN.{length}
 use borrow.Author.Tests.{lt-ltb, le-ltb}
+use Rattle.layouts.specs.Layout.{inUse}
 use Rattle.pages.specs.Area.{partAt, pagesFrom}
 use Rattle.pages.proofs.RoundTrip.{read-good}
 use Rattle.walks.specs.declared.Met.{Met}
@@ -13,7 +14,7 @@ use Rattle.walks.specs.declared.Met.the-variants as mets
 use Rattle.walks.specs.declared.Plan.{Plan}
 use Rattle.walks.specs.declared.Plan.the-variants.{Go}
 use Rattle.walks.specs.Walks.{walk, removeMet, removeWalk}
-use Rattle.walks.specs.steps.Plans.{held, drawn, reachedBack, planned, metIn}
+use Rattle.walks.specs.steps.Plans.{slots, held, drawn, reachedBack, planned, metIn}
 use Rattle.walks.proofs.Meeting.{Counted, walk-known}
 use Rattle.walks.proofs.RemovePlan.{remove-plan}
 
@@ -24,9 +25,9 @@ found-in cap met a i c v n e w = rw e at w
 pub sick-in : (cap : ℕ) (met : Met) (a n : ℕ) → met ≡ mets.Broken a n → metIn cap met → a < cap
 sick-in cap met a n e w = rw e at w .0
 
-module _ (h : ℕ → ℕ) (area : List ℕ) (cap k : ℕ) (met : Met) (is : met ≡ walk h area cap k) where
+module _ (h : ℕ → ℕ) (area : List ℕ) (cap k : ℕ) (met : Met) (is : met ≡ walk inUse h area cap k) where
   -- the whole walk goes by what was met
-  pub remove-met : (m : Met) → met ≡ m → removeMet h area cap m ≡ removeWalk h area cap k
+  pub remove-met : (m : Met) → met ≡ m → removeMet inUse h area cap m ≡ removeWalk inUse h area cap k
   unfolding removeWalk
   remove-met m e = rw (← is, ← e)
 
@@ -35,15 +36,15 @@ module _ (h : ℕ → ℕ) (area : List ℕ) (cap k : ℕ) (met : Met) (is : met
     found-counted = walk-known h area k cap (Found a i c v n) is e
 
     -- a page that was not full only closes up
-    pub remove-short : c < 12 → planned (drawn h area) (Go a i a n) ≡ removeWalk h area cap k
+    pub remove-short : c < slots → planned (drawn h area) (Go a i a n) ≡ removeWalk inUse h area cap k
     remove-short l =
         let z : a - a ≡ 0 = omega arith in
-        rw z (rw (lt-ltb (length (held area a)) 12 (omega (arith, found-counted .count))) at (remove-met (Found a i c v n) e))
+        rw z (rw (lt-ltb (length (held area a)) slots (omega (arith, found-counted .count))) at (remove-met (Found a i c v n) e))
 
     -- a full page is the first of the plan
-    pub remove-full : (p : Plan) → 12 ≤ c → c ≤ 12 → i < c → p ≡ reachedBack 12 h a i a n (pagesFrom h area (cap - suc a) (suc a))
-        → planned (drawn h area) p ≡ removeWalk h area cap k
+    pub remove-full : (p : Plan) → slots ≤ c → c ≤ 12 → i < c → p ≡ reachedBack slots h a i a n (pagesFrom inUse h area (cap - suc a) (suc a))
+        → planned (drawn h area) p ≡ removeWalk inUse h area cap k
     remove-full p l m j q =
         ap (planned (drawn h area)) q
-        ∙ remove-plan h area cap a i n (read-good h a (partAt area a) (held area a) (found-counted .read) .rising) (omega (arith, found-counted .count)) (omega arith)
-        ∙ rw (le-ltb (length (held area a)) 12 (omega (arith, found-counted .count))) at (remove-met (Found a i c v n) e)
+        ∙ remove-plan h area cap a i n (read-good inUse h a (partAt area a) (held area a) (found-counted .read) .rising) (omega (arith, found-counted .count)) (omega arith)
+        ∙ rw (le-ltb (length (held area a)) slots (omega (arith, found-counted .count))) at (remove-met (Found a i c v n) e)

@@ -30,31 +30,31 @@ differ e = let z : _≡_ {A = ℕ} 0 1 = cc in omega arith
 -- a page in memory has as many records as it counts
 pub records-count : (p : Page) → length (recordsOf p) ≡ p .count
 unfolding recordsOf
-records-count p = paired-length (p .count) (p .keys) (p .values)
+records-count p = paired-length (p .count) (p .keys) (p .values) (p .runs)
 
-drop-paired : (i n : ℕ) (ks vs : List ℕ) → drop i (paired n ks vs) ≡ paired (n - i) (drop i ks) (drop i vs)
-drop-paired zero n ks vs = rw sub-zero
-drop-paired (suc i) zero ks vs =
+drop-paired : (i n : ℕ) (ks vs us : List ℕ) → drop i (paired n ks vs us) ≡ paired (n - i) (drop i ks) (drop i vs) (drop i us)
+drop-paired zero n ks vs us = rw sub-zero
+drop-paired (suc i) zero ks vs us =
     let e : 0 - suc i ≡ 0 = omega arith in
     rw e
-drop-paired (suc i) (suc n) ks vs =
+drop-paired (suc i) (suc n) ks vs us =
     let e : suc n - suc i ≡ n - i = omega arith in
     let f : 1 + i ≡ suc i = omega arith in
-    rw (e, drop-paired i n (drop 1 ks) (drop 1 vs), drop-drop i 1 ks, drop-drop i 1 vs, f)
+    rw (e, drop-paired i n (drop 1 ks) (drop 1 vs) (drop 1 us), drop-drop i 1 ks, drop-drop i 1 vs, drop-drop i 1 us, f)
 
 -- the record of a slot stands first of those from it on
-slot-first : (p : Page) (i : ℕ) → i < p .count → drop i (recordsOf p) ≡ recordWith (getD (p .keys) i 0) (getD (p .values) i 0) ∷ drop (suc i) (recordsOf p)
+slot-first : (p : Page) (i : ℕ) → i < p .count → drop i (recordsOf p) ≡ recordWith (getD (p .keys) i 0) (getD (p .values) i 0) (getD (p .runs) i 0) ∷ drop (suc i) (recordsOf p)
 unfolding recordsOf
 slot-first p i l =
     let e : p .count - i ≡ suc (p .count - suc i) = omega arith in
     let f : i + 1 ≡ suc i = omega arith in
-    rw (drop-paired i (p .count) (p .keys) (p .values), drop-paired (suc i) (p .count) (p .keys) (p .values), e)
-    (rw (drop-drop 1 i (p .keys), drop-drop 1 i (p .values), f, getD-drop i (p .keys) 0 0, getD-drop i (p .values) 0 0, add-zero))
+    rw (drop-paired i (p .count) (p .keys) (p .values) (p .runs), drop-paired (suc i) (p .count) (p .keys) (p .values) (p .runs), e)
+    (rw (drop-drop 1 i (p .keys), drop-drop 1 i (p .values), drop-drop 1 i (p .runs), f, getD-drop i (p .keys) 0 0, getD-drop i (p .values) 0 0, getD-drop i (p .runs) 0 0, add-zero))
 
 -- and has its key from the row
 slot-key : (p : Page) (i : ℕ) → i < p .count → key (getD (recordsOf p) i vacant) ≡ getD (p .keys) i 0
 unfolding recordsOf
-slot-key p i l = paired-key (p .count) (p .keys) (p .values) i l
+slot-key p i l = paired-key (p .count) (p .keys) (p .values) (p .runs) i l
 
 module _ (h : ℕ → ℕ) (k : ℕ) where
   -- these stand after the sought (home, key)
@@ -148,7 +148,7 @@ module _ {h : ℕ → ℕ} {p : Page} {hs : List ℕ} {k home i : ℕ} {t : Bool
           let rest = slot-first p i l in
           let up = rw rest at (sorted-drop (rankIn key h) i (recordsOf p) (w .rows .rising)) in
           rw rest
-          (lower (rankIn key h) (rankOf h k) (recordWith (getD (p .keys) i 0) (getD (p .values) i 0)) (drop (suc i) (recordsOf p)) up
+          (lower (rankIn key h) (rankOf h k) (recordWith (getD (p .keys) i 0) (getD (p .values) i 0) (getD (p .runs) i 0)) (drop (suc i) (recordsOf p)) up
           (ltb-true (rankOf h k) (rankOf h (getD (p .keys) i 0)) (sym (told-rank l) ∙ b)))
       go false false a b c = absurd (differ (sym c))
 

@@ -7,6 +7,8 @@ use mathlib.Core.Option.{Option, none, some}
 use mathlib.Core.List.{List, [], _∷_}
 use lib.ListN.{length, take, getD}
 use lib.Dec.{leb, ltb, eqb}
+use Rattle.layouts.specs.declared.Layout.{Layout}
+use Rattle.layouts.specs.Layout.{slotsOf}
 use Rattle.placing.specs.Lay.{rankOf, rankIn, ins}
 use Rattle.placing.specs.Walks.{endsOn}
 use Rattle.pages.specs.Page.{Record, key, value, recordsIn}
@@ -42,8 +44,8 @@ module _ (b : ℕ) (h : ℕ → ℕ) where
       (cond (endsOn (rankIn key h) b (rankOf h k) p) (Ends a (ahead (rankIn key h) (rankOf h k) p) (length p) (suc n)) on)
 
 -- "Find starts at the home.": the walk in an area of cap pages
-unfoldable pub walk : (ℕ → ℕ) → List ℕ → (cap k : ℕ) → Met
-walk h area cap k = meets 12 h k (h k) 0 (pagesFrom h area (cap - h k) (h k))
+unfoldable pub walk : Layout → (ℕ → ℕ) → List ℕ → (cap k : ℕ) → Met
+walk f h area cap k = meets (slotsOf f) h k (h k) 0 (pagesFrom f h area (cap - h k) (h k))
 
 -- Find: what the walk meets is the answer.
 abbrev pub findAnswer : Met → Answer
@@ -57,9 +59,9 @@ abbrev pub Pages : Type 0
 Pages = List (ℕ × List Record)
 
 -- the area with these pages written
-abbrev pub writes : List ℕ → Pages → List ℕ
-writes area [] = area
-writes area (w ∷ ws) = writes (withPage area (w .0) (w .1)) ws
+abbrev pub writes : Layout → List ℕ → Pages → List ℕ
+writes f area [] = area
+writes f area (w ∷ ws) = writes f (withPage f area (w .0) (w .1)) ws
 
 -- the whole walk of a put or a remove: the pages to be written, with how many were read and how
 -- many records moved, or why not. "every page looked at is judged before any is written"
@@ -97,27 +99,27 @@ module _ (b : ℕ) (h : ℕ → ℕ) where
       (andPage a (ins (rankIn key h) y p) (cond (ltb (suc (length q)) b) (went ((suc a, q) ∷ []) (suc n) (suc m)) on))
       (went ((a, p) ∷ []) (suc n) m)
 
-module _ (h : ℕ → ℕ) where
+module _ (f : Layout) (h : ℕ → ℕ) where
   -- "Put walks likewise; a found key is 6, with the value held", or a clash (02, request 1: "13 ..
   -- stands where 6 stood in the walk; 6 is now given only for equal values"); "where the walk met
   -- only full pages to the end of the area: 7". The ending page counts once.
   abbrev pub putMet : List ℕ → (cap : ℕ) → Record → Met → Walked
   putMet area cap x (Found a i c v n) = stopped (again (value x) v n)
   putMet area cap x (mets.Broken a n) = stopped (Broken a n)
-  putMet area cap x (Ends a i c n) = carry 12 h a (n - 1) 0 x (pagesFrom h area (cap - a) a)
+  putMet area cap x (Ends a i c n) = carry (slotsOf f) h a (n - 1) 0 x (pagesFrom f h area (cap - a) a)
   putMet area cap x (mets.AtEnd n) = stopped (NoRoom n)
 
   unfoldable pub putWalk : List ℕ → (cap : ℕ) → Record → Walked
-  putWalk area cap x = putMet area cap x (walk h area cap (key x))
+  putWalk area cap x = putMet area cap x (walk f h area cap (key x))
 
   -- "Remove finds the key and closes the slots up."
   abbrev pub removeMet : List ℕ → (cap : ℕ) → Met → Walked
   removeMet area cap (Found a i c v n) =
-      let p = recordsIn (partAt area a) in
-      cond (ltb (length p) 12) (went ((a, closed i p) ∷ []) n 0) (pullBack 12 h a n 0 (closed i p) (pagesFrom h area (cap - suc a) (suc a)))
+      let p = recordsIn f (partAt area a) in
+      cond (ltb (length p) (slotsOf f)) (went ((a, closed i p) ∷ []) n 0) (pullBack (slotsOf f) h a n 0 (closed i p) (pagesFrom f h area (cap - suc a) (suc a)))
   removeMet area cap (mets.Broken a n) = stopped (Broken a n)
   removeMet area cap (Ends a i c n) = stopped (Absent n)
   removeMet area cap (mets.AtEnd n) = stopped (Absent n)
 
   unfoldable pub removeWalk : List ℕ → (cap k : ℕ) → Walked
-  removeWalk area cap k = removeMet area cap (walk h area cap k)
+  removeWalk area cap k = removeMet area cap (walk f h area cap k)

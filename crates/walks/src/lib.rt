@@ -4,10 +4,13 @@ pub mod put;
 pub mod remove;
 
 use homes::Shape;
+use layouts::IN_USE;
+use layouts::SLOTS;
 use state::Answer;
 ghost use mathlib.Core.Path.{_≡_};
 ghost use Prim.Native.Nat.{_*_, _≤_};
 ghost use lib.ListN.{length};
+ghost use Rattle.layouts.specs.Layout.{inUse};
 ghost use Rattle.homes.specs.Homes.{Ready, homeIn};
 ghost use Rattle.walks.specs.Walks.{walk};
 ghost use Rattle.walks.specs.steps.Plans.{metIn};
@@ -55,7 +58,7 @@ pub enum Plan {
 // is empty or stands after the sought (home, key), and at the key.
 pub fn meet_from(area: &[u8], cap: usize, shape: Shape, home: u64, key: u64) -> Met
     requires { ⌜ (cap ≤ 4096) × (length (now area) ≡ 256 * cap) × Ready shape × (shape .p ≤ cap) × (home ≡ homeIn shape key) ⌝ }
-    ensures { λ r. ⌜ r ≡ walk (homeIn shape) (now (area .entry)) cap key ⌝ }
+    ensures { λ r. ⌜ r ≡ walk inUse (homeIn shape) (now (area .entry)) cap key ⌝ }
     ensures within { λ r. ⌜ metIn cap r ⌝ }
 {
     let mut a = home as usize;
@@ -64,17 +67,16 @@ pub fn meet_from(area: &[u8], cap: usize, shape: Shape, home: u64, key: u64) -> 
         if cap <= a {
             break 'pages Met::AtEnd { read };
         }
-        let judged = pages::judge_at(area, a, shape);
+        let judged = pages::judge_at(area, a, IN_USE, shape);
         read += 1;
         if !judged.good {
             break 'pages Met::Broken { page: a, read };
         }
-        let count = judged.page.count;
-        let keys = judged.page.keys;
-        let values = judged.page.values;
+        let page = judged.page;
+        let count = page.count;
         let homes = judged.homes;
-        for slot in 0..12 {
-            if (slot == count) | pages::before(home, key, homes[slot], keys[slot]) {
+        for slot in 0..SLOTS {
+            if (slot == count) | pages::before(home, key, homes[slot], page.keys[slot]) {
                 break 'pages Met::Ends {
                     page: a,
                     at: slot,
@@ -82,8 +84,8 @@ pub fn meet_from(area: &[u8], cap: usize, shape: Shape, home: u64, key: u64) -> 
                     read,
                 };
             }
-            if keys[slot] == key {
-                let value = values[slot];
+            if page.keys[slot] == key {
+                let value = page.values[slot];
                 break 'pages Met::Found {
                     page: a,
                     slot,
@@ -100,7 +102,7 @@ pub fn meet_from(area: &[u8], cap: usize, shape: Shape, home: u64, key: u64) -> 
 // The walk to a key whose home isn't known yet.
 pub fn meet(area: &[u8], cap: usize, shape: Shape, key: u64) -> Met
     requires { ⌜ (cap ≤ 4096) × (length (now area) ≡ 256 * cap) × Ready shape × (shape .p ≤ cap) ⌝ }
-    ensures { λ r. ⌜ r ≡ walk (homeIn shape) (now (area .entry)) cap key ⌝ }
+    ensures { λ r. ⌜ r ≡ walk inUse (homeIn shape) (now (area .entry)) cap key ⌝ }
     ensures within { λ r. ⌜ metIn cap r ⌝ }
 {
     let home = shape.home(key);

@@ -3,6 +3,8 @@
 use crate::Met;
 use crate::Plan;
 use homes::Shape;
+use layouts::IN_USE;
+use layouts::SLOTS;
 use pages::Page;
 use pages::Record;
 use state::Answer;
@@ -10,6 +12,7 @@ ghost use mathlib.Core.Path.{_≡_};
 ghost use mathlib.Core.Bool.{cond};
 ghost use Prim.Native.Nat.{suc, _+_, _-_, _*_, _≤_, _<_};
 ghost use lib.ListN.{length};
+ghost use Rattle.layouts.specs.Layout.{inUse};
 ghost use Rattle.homes.specs.Homes.{Ready, homeIn};
 ghost use Rattle.pages.specs.Page.{rank};
 ghost use Rattle.placing.specs.Lay.{ranked};
@@ -17,18 +20,18 @@ ghost use Rattle.pages.specs.Places.{ahead};
 ghost use Rattle.pages.specs.steps.Slots.{recordsOf};
 ghost use Rattle.pages.specs.Area.{pagesFrom};
 ghost use Rattle.walks.specs.Walks.{putWalk, writes};
-ghost use Rattle.walks.specs.steps.Plans.{poured, reached, planned, planIn, placedIn, held};
+ghost use Rattle.walks.specs.steps.Plans.{slots, poured, reached, planned, planIn, placedIn, held};
 
 // From a full page on to the first page that isn't full.
 fn reach(area: &[u8], cap: usize, shape: Shape, first: usize, at: usize, seen: u32) -> Plan
     requires { ⌜ (cap ≤ 4096) × (length (now area) ≡ 256 * cap) × Ready shape × (first < cap) × (at ≤ 12) × (seen ≤ first + 1) ⌝ }
-    ensures { λ r. ⌜ r ≡ reached 12 first at (suc first) seen (pagesFrom (homeIn shape) (now (area .entry)) (cap - suc first) (suc first)) ⌝ }
+    ensures { λ r. ⌜ r ≡ reached slots first at (suc first) seen (pagesFrom inUse (homeIn shape) (now (area .entry)) (cap - suc first) (suc first)) ⌝ }
     ensures within { λ r. ⌜ planIn cap r ⌝ }
 {
     let mut read = seen;
     let mut a = first + 1;
     while a < cap {
-        let judged = pages::judge_at(area, a, shape);
+        let judged = pages::judge_at(area, a, IN_USE, shape);
         read += 1;
         if !judged.good {
             return Plan::Stop {
@@ -39,7 +42,7 @@ fn reach(area: &[u8], cap: usize, shape: Shape, first: usize, at: usize, seen: u
             };
         }
         let page = judged.page;
-        if page.count < 12 {
+        if page.count < SLOTS {
             return Plan::Go {
                 first,
                 at,
@@ -57,7 +60,7 @@ fn reach(area: &[u8], cap: usize, shape: Shape, first: usize, at: usize, seen: u
 // The first phase of a put, of a record whose home is known.
 pub fn plan_put(area: &[u8], cap: usize, shape: Shape, home: u64, new: Record) -> Plan
     requires { ⌜ (cap ≤ 4096) × (length (now area) ≡ 256 * cap) × Ready shape × (shape .p ≤ cap) × (home ≡ homeIn shape (new .key)) ⌝ }
-    ensures { λ r. ⌜ planned (λ n a i. poured (homeIn shape) (now (area .entry)) (suc n) a new) r ≡ putWalk (homeIn shape) (now (area .entry)) cap new ⌝ }
+    ensures { λ r. ⌜ planned (λ n a i. poured (homeIn shape) (now (area .entry)) (suc n) a new) r ≡ putWalk inUse (homeIn shape) (now (area .entry)) cap new ⌝ }
     ensures within { λ r. ⌜ planIn cap r × placedIn (homeIn shape) (now (area .entry)) (new .key) r ⌝ }
 {
     match crate::meet_from(area, cap, shape, home, new.key) {
@@ -85,7 +88,7 @@ pub fn plan_put(area: &[u8], cap: usize, shape: Shape, home: u64, new: Record) -
             count,
             read,
         } => {
-            if count < 12 {
+            if count < SLOTS {
                 return Plan::Go {
                     first: page,
                     at,
@@ -114,16 +117,16 @@ fn place_on(page: Page, shape: Shape, known: bool, at: usize, key: u64) -> usize
 pub fn pour(area: &mut [u8], shape: Shape, first: usize, at: usize, last: usize, new: Record)
     requires { ⌜ (first ≤ last) × (last < 4096) × (256 * (last + 1) ≤ length (now area)) × Ready shape ⌝ }
     requires { ⌜ at ≡ ahead (rank (homeIn shape)) (rank (homeIn shape) new) (held (now area) first) ⌝ }
-    ensures { λ _. ⌜ now (area .exit) ≡ writes (now (area .entry)) (poured (homeIn shape) (now (area .entry)) (suc (last - first)) first new) ⌝ }
+    ensures { λ _. ⌜ now (area .exit) ≡ writes inUse (now (area .entry)) (poured (homeIn shape) (now (area .entry)) (suc (last - first)) first new) ⌝ }
 {
     let mut a = first;
     let mut x = new;
     while a <= last {
-        let page = pages::parse_at(&area[..], a);
+        let page = pages::parse_at(&area[..], a, IN_USE);
         let place = place_on(page, shape, a == first, at, x.key);
         let pushed = pages::slots::push(page, place, x);
         let next = pushed.page;
-        pages::store_at(area, a, next);
+        pages::store_at(area, a, IN_USE, next);
         x = pushed.over;
         a += 1;
     }

@@ -2,31 +2,34 @@
 use crate::Met;
 use crate::Plan;
 use homes::Shape;
+use layouts::IN_USE;
+use layouts::SLOTS;
 use pages::Page;
 use pages::Record;
 use state::Answer;
 ghost use mathlib.Core.Path.{_≡_};
 ghost use Prim.Native.Nat.{suc, _+_, _-_, _*_, _≤_, _<_};
 ghost use lib.ListN.{length};
+ghost use Rattle.layouts.specs.Layout.{inUse};
 ghost use Rattle.homes.specs.Homes.{Ready, homeIn};
 ghost use Rattle.pages.specs.Page.{inMemory};
 ghost use Rattle.pages.specs.Places.{closed};
 ghost use Rattle.pages.specs.steps.Slots.{recordsOf};
 ghost use Rattle.pages.specs.Area.{pagesFrom};
 ghost use Rattle.walks.specs.Walks.{removeWalk, writes};
-ghost use Rattle.walks.specs.steps.Plans.{backed, drawn, reachedBack, planned, planIn, firstOf};
+ghost use Rattle.walks.specs.steps.Plans.{slots, backed, drawn, reachedBack, planned, planIn, firstOf};
 
 // From a full page on, page by page, while the next page's first record has a home no higher than
 // the page before it.
 fn reach_back(area: &[u8], cap: usize, shape: Shape, first: usize, at: usize, seen: u32) -> Plan
     requires { ⌜ (cap ≤ 4096) × (length (now area) ≡ 256 * cap) × Ready shape × (first < cap) × (at ≤ 12) × (seen ≤ first + 1) ⌝ }
-    ensures { λ r. ⌜ r ≡ reachedBack 12 (homeIn shape) first at first seen (pagesFrom (homeIn shape) (now (area .entry)) (cap - suc first) (suc first)) ⌝ }
+    ensures { λ r. ⌜ r ≡ reachedBack slots (homeIn shape) first at first seen (pagesFrom inUse (homeIn shape) (now (area .entry)) (cap - suc first) (suc first)) ⌝ }
     ensures within { λ r. ⌜ planIn cap r ⌝ }
 {
     let mut read = seen;
     let mut a = first;
     while a + 1 < cap {
-        let judged = pages::judge_at(area, a + 1, shape);
+        let judged = pages::judge_at(area, a + 1, IN_USE, shape);
         read += 1;
         if !judged.good {
             return Plan::Stop {
@@ -47,7 +50,7 @@ fn reach_back(area: &[u8], cap: usize, shape: Shape, first: usize, at: usize, se
             };
         }
         a += 1;
-        if page.count < 12 {
+        if page.count < SLOTS {
             return Plan::Go {
                 first,
                 at,
@@ -67,7 +70,7 @@ fn reach_back(area: &[u8], cap: usize, shape: Shape, first: usize, at: usize, se
 // The first phase of a remove.
 pub fn plan_remove(area: &[u8], cap: usize, shape: Shape, key: u64) -> Plan
     requires { ⌜ (cap ≤ 4096) × (length (now area) ≡ 256 * cap) × Ready shape × (shape .p ≤ cap) ⌝ }
-    ensures { λ r. ⌜ planned (drawn (homeIn shape) (now (area .entry))) r ≡ removeWalk (homeIn shape) (now (area .entry)) cap key ⌝ }
+    ensures { λ r. ⌜ planned (drawn (homeIn shape) (now (area .entry))) r ≡ removeWalk inUse (homeIn shape) (now (area .entry)) cap key ⌝ }
     ensures within { λ r. ⌜ planIn cap r ⌝ }
 {
     match crate::meet(area, cap, shape, key) {
@@ -78,7 +81,7 @@ pub fn plan_remove(area: &[u8], cap: usize, shape: Shape, key: u64) -> Plan
             value: _,
             read,
         } => {
-            if count < 12 {
+            if count < SLOTS {
                 return Plan::Go {
                     first: page,
                     at: slot,
@@ -122,14 +125,16 @@ fn close_up(page: Page, slot: usize) -> Page
 // A page with the first record of the page after it in its place, sought from the back.
 fn take_back(page: Page, next: Page, shape: Shape) -> Page
     requires { ⌜ (page .count ≤ 12) × (page ≡ inMemory (recordsOf page)) × (next ≡ inMemory (recordsOf next)) × Ready shape ⌝ }
-    ensures { λ r. ⌜ r ≡ inMemory (backed 12 (homeIn shape) (firstOf (recordsOf next)) (recordsOf page)) ⌝ }
+    ensures { λ r. ⌜ r ≡ inMemory (backed slots (homeIn shape) (firstOf (recordsOf next)) (recordsOf page)) ⌝ }
 {
     let keys = next.keys;
     let values = next.values;
+    let runs = next.runs;
     let key = keys[0];
     let value = values[0];
+    let run = runs[0];
     let place = pages::slots::place_back(page, shape, shape.home(key), key);
-    let pushed = pages::slots::push(page, place, Record { key, value });
+    let pushed = pages::slots::push(page, place, Record { key, value, run });
     pushed.page
 }
 
@@ -137,20 +142,20 @@ fn take_back(page: Page, next: Page, shape: Shape) -> Page
 // record of the next. It is total on any bytes.
 pub fn draw_back(area: &mut [u8], shape: Shape, first: usize, at: usize, last: usize)
     requires { ⌜ (first ≤ last) × (last < 4096) × (256 * (last + 1) ≤ length (now area)) × Ready shape ⌝ }
-    ensures { λ _. ⌜ now (area .exit) ≡ writes (now (area .entry)) (drawn (homeIn shape) (now (area .entry)) (last - first) first at) ⌝ }
+    ensures { λ _. ⌜ now (area .exit) ≡ writes inUse (now (area .entry)) (drawn (homeIn shape) (now (area .entry)) (last - first) first at) ⌝ }
 {
     let mut slot = at;
     let mut a = first;
     while a < last {
-        let page = pages::parse_at(&area[..], a);
-        let next = pages::parse_at(&area[..], a + 1);
+        let page = pages::parse_at(&area[..], a, IN_USE);
+        let next = pages::parse_at(&area[..], a + 1, IN_USE);
         let closed = close_up(page, slot);
         let full = take_back(closed, next, shape);
-        pages::store_at(area, a, full);
+        pages::store_at(area, a, IN_USE, full);
         slot = 0;
         a += 1;
     }
-    let page = pages::parse_at(&area[..], last);
+    let page = pages::parse_at(&area[..], last, IN_USE);
     let closed = close_up(page, slot);
-    pages::store_at(area, last, closed);
+    pages::store_at(area, last, IN_USE, closed);
 }

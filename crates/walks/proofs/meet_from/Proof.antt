@@ -7,22 +7,24 @@ use native.Mathlib.Omega.{arith}
 use borrow.Author.Needs.{needs}
 use borrow.Author.Tests.{not-true, not-false}
 use denote.Ref.{now}
+use Rattle.layouts.specs.Layout.{inUse}
 use Rattle.homes.specs.Homes.{homeIn}
 use Rattle.walks.specs.Walks.{walk}
+use Rattle.walks.specs.steps.Plans.{slots}
 use Rattle.walks.proofs.Scanning.{ToScan, Rows, Tested, left-all, after-last, slot-after, slot-used, slot-hit, slot-on}
 use Rattle.walks.proofs.Meeting.{home-fits, Seen, page-few, page-rows, walkLeft, walk-starts, walk-past, walk-sick, walk-found, walk-ends, walk-on}
 use Rattle.walks.proofs.meet_from.Statement.{statement}
 use Rattle.walks.proofs.meet_from.Tie as tie
 
 abbrev Inv-loop : tie.InvT-loop
-Inv-loop area cap shape home key a read count keys values homes slot₀ slot = ToScan (homeIn shape) key (record { count = count; keys = keys; values = values }) slot
+Inv-loop area cap shape home key a read page count homes slot₀ slot = ToScan (homeIn shape) key page slot
 
 abbrev μ-loop : tie.MeasureT-loop
-μ-loop area cap shape home key a read count keys values homes slot₀ slot = 12 - slot
+μ-loop area cap shape home key a read page count homes slot₀ slot = slots - slot
 
 abbrev Inv-pages : tie.InvT-pages
 Inv-pages area cap shape home key a₀ read₀ a read =
-    (a ≤ cap) × (read ≤ a) × (walkLeft (homeIn shape) area cap key a read ≡ walk (homeIn shape) area cap key)
+    (a ≤ cap) × (read ≤ a) × (walkLeft (homeIn shape) area cap key a read ≡ walk inUse (homeIn shape) area cap key)
 
 abbrev μ-pages : tie.MeasureT-pages
 μ-pages area cap shape home key a₀ read₀ a read = cap - a
@@ -60,7 +62,7 @@ rows c =
     let s = w .before .before in
     page-rows (seen j) (good c) (omega (arith, s .pre, w .pages .inv, j .before .if1)) (λ i. omega (arith, w .before .shared-slice-known .given i))
 
--- and has twelve records at most
+-- and has no more records than places
 few : (c : tie.Else2 Inv-loop μ-loop Inv-pages μ-pages) → c .before .before .judge-at .result .page .count ≤ 12
 few c = page-few (seen (c .before .before)) (good c)
 
@@ -71,13 +73,13 @@ tested : (c : tie.After-before2 Inv-loop μ-loop Inv-pages μ-pages)
     (c .before .before .before .before .before .before .before .before .judge-at .result .homes)
     (c .before .before .before .before .before .before .before .before .before .before .before .before .args .key)
     (c .before .before .before .before .before .before .before .before .before .before .before .before .args .home)
-    (c .before .before .loop .slot) (c .before2 .result)
+    (c .before .before .before .loop .slot) (c .before2 .result)
 tested c =
     let d = c .before .before .before .before .before .before in
     let w = d .before .before .before .before in
     record {
       rows = rows d;
-      left = c .before .before .loop .inv;
+      left = c .before .before .before .loop .inv;
       small = omega (arith, w .before .before .fits);
       lives = w .before .before .pre .4;
       told = c .before2 .ensures;
@@ -95,8 +97,8 @@ array-read-before c = search needs
 mul-before-2 : tie.Need-mul-before-2 Inv-loop μ-loop Inv-pages μ-pages
 mul-before-2 c = search needs
 
-array-read-before-2 : tie.Need-array-read-before-2 Inv-loop μ-loop Inv-pages μ-pages
-array-read-before-2 c = search needs
+element-copy-out-before : tie.Need-element-copy-out-before Inv-loop μ-loop Inv-pages μ-pages
+element-copy-out-before c = search needs
 
 before-requires : tie.Need-before-requires Inv-loop μ-loop Inv-pages μ-pages
 before-requires c κs = search needs
@@ -104,14 +106,14 @@ before-requires c κs = search needs
 mul-if4 : tie.Need-mul-if4 Inv-loop μ-loop Inv-pages μ-pages
 mul-if4 c = search needs
 
-array-read-if4 : tie.Need-array-read-if4 Inv-loop μ-loop Inv-pages μ-pages
-array-read-if4 c = search needs
+element-copy-out-if4 : tie.Need-element-copy-out-if4 Inv-loop μ-loop Inv-pages μ-pages
+element-copy-out-if4 c = search needs
 
 mul-value : tie.Need-mul-value Inv-loop μ-loop Inv-pages μ-pages
 mul-value c = search needs
 
-array-read-value : tie.Need-array-read-value Inv-loop μ-loop Inv-pages μ-pages
-array-read-value c = search needs
+element-copy-out-value : tie.Need-element-copy-out-value Inv-loop μ-loop Inv-pages μ-pages
+element-copy-out-value c = search needs
 
 add-slot : tie.Need-add-slot Inv-loop μ-loop Inv-pages μ-pages
 add-slot c = search needs
@@ -120,7 +122,7 @@ loop-less : tie.Need-loop-less Inv-loop μ-loop Inv-pages μ-pages
 loop-less c = search needs
 
 loop-again : tie.Need-loop-again Inv-loop μ-loop Inv-pages μ-pages
-loop-again c = slot-on (tested (c .before .before)) (c .before .if3 .left) (c .if4 .left)
+loop-again c = slot-on (tested (c .before .before .before)) (c .before .before .if3 .left) (c .if4 .left)
 
 add-a : tie.Need-add-a Inv-loop μ-loop Inv-pages μ-pages
 add-a c = search needs
@@ -130,7 +132,7 @@ pages-less c = search needs
 
 pages-again : tie.Need-pages-again Inv-loop μ-loop Inv-pages μ-pages
 pages-again c =
-    let d = c .before .before .before .before .before in
+    let d = c .before .before .before .before in
     let j = d .before .before in
     let w = j .before .before in
     let s = w .before .before in
@@ -164,21 +166,21 @@ returns-3 c =
     let w = j .before .before in
     let s = w .before .before in
     let t = tested b in (
-      walk-ends (seen j) (s .args .key) (w .pages .read) (good d) (rows d) (t .small) (t .left) (slot-after t (c .if3 .taken)) (b .before .loop-test .taken)
+      walk-ends (seen j) (s .args .key) (w .pages .read) (good d) (rows d) (t .small) (t .left) (slot-after t (c .if3 .taken)) (b .before .before .loop-test .taken)
           ∙ w .pages .inv .2,
       (j .before .if1 .left, t .left .upto, few d, omega arith, omega arith),
     )
 
 returns-4 : tie.Need-returns-4 Inv-loop μ-loop Inv-pages μ-pages
 returns-4 c =
-    let b = c .before .before in
+    let b = c .before .before .before .before in
     let d = b .before .before .before .before .before .before in
     let j = d .before .before in
     let w = j .before .before in
     let s = w .before .before in
     let t = tested b in (
-      walk-found (seen j) (s .args .key) (w .pages .read) (good d) _ _ (slot-hit t (c .before .if3 .left) (c .if4 .taken)) ∙ w .pages .inv .2,
-      (j .before .if1 .left, slot-used t (c .before .if3 .left), few d, omega arith),
+      walk-found (seen j) (s .args .key) (w .pages .read) (good d) _ _ (slot-hit t (c .before .before .before .if3 .left) (c .before .if4 .taken)) ∙ w .pages .inv .2,
+      (j .before .if1 .left, slot-used t (c .before .before .before .if3 .left), few d, omega arith),
     )
 
 pub meet-from-spec : {M : Type 1} → statement M
@@ -196,12 +198,12 @@ meet-from-spec =
     mul-before
     array-read-before
     mul-before-2
-    array-read-before-2
+    element-copy-out-before
     before-requires
     mul-if4
-    array-read-if4
+    element-copy-out-if4
     mul-value
-    array-read-value
+    element-copy-out-value
     add-slot
     loop-less
     loop-again

@@ -7,6 +7,7 @@ use mathlib.Core.Option.{Option, none, some}
 use mathlib.Core.List.{List, [], _∷_}
 use lib.ListN.{length, take, getD}
 use lib.Dec.{leb, ltb}
+use Rattle.layouts.specs.Layout.{inUse, slotsOf}
 use Rattle.placing.specs.Lay.{rankOf, rankIn, ins}
 use Rattle.pages.specs.Page.{Record, key, vacant, recordsIn}
 use Rattle.pages.specs.Places.{closed, ahead}
@@ -20,9 +21,13 @@ use Rattle.walks.specs.declared.Plan.{Plan}
 use Rattle.walks.specs.declared.Plan.the-variants.{Go, Stop}
 use Rattle.walks.specs.Walks.{Pages, Walked, went, stopped}
 
+-- how many slots a page has in the files that the code walks
+abbrev pub slots : ℕ
+slots = slotsOf inUse
+
 -- what any bytes hold on a page
 abbrev pub held : List ℕ → ℕ → List Record
-held area a = recordsIn (partAt area a)
+held area a = recordsIn inUse (partAt area a)
 
 -- the first record of a page
 abbrev pub firstOf : List Record → Record
@@ -36,13 +41,13 @@ module _ (h : ℕ → ℕ) (area : List ℕ) where
   -- n pages from a on, each with one record more; its last goes on
   abbrev pub poured : (n a : ℕ) → Record → Pages
   poured zero a x = []
-  poured (suc n) a x = let q = ins (rankIn key h) x (held area a) in (a, take 12 q) ∷ poured n (suc a) (getD q 12 x)
+  poured (suc n) a x = let q = ins (rankIn key h) x (held area a) in (a, take slots q) ∷ poured n (suc a) (getD q slots x)
 
   -- page a with a slot closed up, then the first record of the next page in its place, for n pages;
   -- the last is closed up only
   abbrev pub drawn : (n a slot : ℕ) → Pages
   drawn zero a slot = (a, closed slot (held area a)) ∷ []
-  drawn (suc n) a slot = (a, backed 12 h (firstOf (held area (suc a))) (closed slot (held area a))) ∷ drawn n (suc a) 0
+  drawn (suc n) a slot = (a, backed slots h (firstOf (held area (suc a))) (closed slot (held area a))) ∷ drawn n (suc a) 0
 
 module _ (b : ℕ) where
   -- the first phase of a put from page a on: the pages from the first to the one before it are full

@@ -6,6 +6,7 @@ use native.Mathlib.Omega.{arith}
 use borrow.Author.Needs.{needs}
 use denote.Ref.{now}
 use lib.ListN.{length}
+use Rattle.layouts.specs.Layout.{inUse}
 use Rattle.homes.specs.Homes.{homeIn}
 use Rattle.walks.specs.Walks.{writes}
 use Rattle.walks.specs.steps.Plans.{poured}
@@ -16,7 +17,7 @@ use Rattle.walks.proofs.put.pour.Tie as tie
 abbrev Inv-loop : tie.InvT-loop
 Inv-loop area₀ shape first at last a₀ x₀ area a x =
     (first ≤ a) × (a ≤ last + 1) × (length area ≡ length area₀) × Untouched area₀ area a × (a ≡ first → x ≡ x₀)
-    × (writes area (poured (homeIn shape) area₀ (suc last - a) a x) ≡ writes area₀ (poured (homeIn shape) area₀ (suc (last - first)) first x₀))
+    × (writes inUse area (poured (homeIn shape) area₀ (suc last - a) a x) ≡ writes inUse area₀ (poured (homeIn shape) area₀ (suc (last - first)) first x₀))
 
 abbrev μ-loop : tie.MeasureT-loop
 μ-loop area₀ shape first at last a₀ x₀ area a x = last + 1 - a

@@ -38,8 +38,8 @@ judge-at-requires c κs = search needs
 add-read : tie.Need-add-read Inv-loop μ-loop
 add-read c = search needs
 
-cast-t12 : tie.Need-cast-t12 Inv-loop μ-loop
-cast-t12 c = search needs
+cast-t13 : tie.Need-cast-t13 Inv-loop μ-loop
+cast-t13 c = search needs
 
 returns : tie.Need-returns Inv-loop μ-loop
 returns c =
@@ -94,7 +94,7 @@ reach-spec =
     loop-holds
     judge-at-requires
     add-read
-    cast-t12
+    cast-t13
     returns
     returns-2
     add-a-2

@@ -5,6 +5,7 @@ use Prim.Native.Nat.{ℕ, _-_, _≤_}
 use native.Mathlib.Omega.{arith}
 use lib.ListN.{length}
 use borrow.Author.Needs.{needs}
+use Rattle.layouts.specs.Layout.{inUse}
 use Rattle.homes.specs.Homes.{homeIn}
 use Rattle.pages.specs.Area.{partAt}
 use Rattle.walks.specs.Walks.{writes}
@@ -17,7 +18,7 @@ use Rattle.walks.proofs.remove.draw_back.Tie as tie
 abbrev Inv-loop : tie.InvT-loop
 Inv-loop area₀ shape first at last slot₀ a₀ area slot a =
     (first ≤ a) × (a ≤ last) × (length area ≡ length area₀) × ((b : ℕ) → a ≤ b → partAt area b ≡ partAt area₀ b)
-    × (writes area (drawn (homeIn shape) area₀ (last - a) a slot) ≡ writes area₀ (drawn (homeIn shape) area₀ (last - first) first at))
+    × (writes inUse area (drawn (homeIn shape) area₀ (last - a) a slot) ≡ writes inUse area₀ (drawn (homeIn shape) area₀ (last - first) first at))
 
 abbrev μ-loop : tie.MeasureT-loop
 μ-loop area₀ shape first at last slot₀ a₀ area slot a = last - a

@@ -32,11 +32,11 @@ judge-at-requires c κs = search needs
 add-read : tie.Need-add-read Inv-loop μ-loop
 add-read c = search needs
 
-add-t14 : tie.Need-add-t14 Inv-loop μ-loop
-add-t14 c = search needs
+add-t15 : tie.Need-add-t15 Inv-loop μ-loop
+add-t15 c = search needs
 
-cast-t15 : tie.Need-cast-t15 Inv-loop μ-loop
-cast-t15 c = search needs
+cast-t16 : tie.Need-cast-t16 Inv-loop μ-loop
+cast-t16 c = search needs
 
 returns : tie.Need-returns Inv-loop μ-loop
 returns c =
@@ -109,8 +109,8 @@ reach-back-spec =
     add-judge-at
     judge-at-requires
     add-read
-    add-t14
-    cast-t15
+    add-t15
+    cast-t16
     returns
     array-read-if2
     returns-2

@@ -12,6 +12,9 @@ array-read-key c = search needs
 array-read-value : tie.Need-array-read-value
 array-read-value c = search needs
 
+array-read-run : tie.Need-array-read-run
+array-read-run c = search needs
+
 home-requires : tie.Need-home-requires
 home-requires c κs = search needs
 
@@ -20,12 +23,12 @@ place-back-requires c κs = search needs
 
 push-requires : tie.Need-push-requires
 push-requires c κs =
-    let g = c .before .before .before .before in
+    let g = c .before .before .before .before .before in
     (g .pre .0, place-le (homeIn (g .args .shape)) (g .args .page) (g .args .next) _ _ (c .place-back .ensures), g .pre .1)
 
 returns : tie.Need-returns
 returns c =
-    let g = c .before .before .before .before .before .before in
+    let g = c .before .before .before .before .before .before .before in
     pushed-back (homeIn (g .args .shape)) (g .args .page) (g .args .next) _ _ (c .before .push .result)
     (c .before .before .before .home .ensures) (c .before .before .place-back .ensures) (g .pre .1) (g .pre .2) (c .before .push .ensures)
 
@@ -35,6 +38,7 @@ take-back-spec =
     (tie.spec
     array-read-key
     array-read-value
+    array-read-run
     home-requires
     place-back-requires
     push-requires

@@ -7,7 +7,7 @@ use native.Mathlib.Decide.{ℕ-discrete}
 use native.Mathlib.Omega.{arith}
 use lib.ListN.{length, length-append}
 use borrow.Author.Tests.{ne-eqb}
-use Rattle.placing.specs.Image.{All, cat, page, RecordSet, homeOf, Room}
+use Rattle.placing.specs.Image.{cat, page, RecordSet, homeOf, Room}
 use Rattle.placing.specs.Lay.{taken}
 use Rattle.placing.specs.Rows.{strayed}
 use Rattle.placing.specs.Walks.{seek, del, findIn, putIn, removeIn}
@@ -24,6 +24,7 @@ use Rattle.state.specs.State.{homes, oneMore, oneLess}
 use Rattle.state.specs.Answer.{again}
 use Rattle.state.proofs.Ranges.{more-range, less-range}
 use Rattle.walks.specs.Walks.{stopped, walk, findAnswer, putWalk, removeWalk}
+use Rattle.walks.proofs.Clean.{Others}
 use Rattle.walks.proofs.Went.{Went}
 use Rattle.walks.proofs.FindWalk.{FindGoes, find-clean}
 use Rattle.walks.proofs.PutWalk.{Poured, PutGoes, put-clean}
@@ -126,7 +127,7 @@ module _ {s : State} {rs : List Record} {ps : List (List Record)} (w : OnImage s
 
   module _ (x : Record) (l : key x < 2 ^ 64) where
     -- a key that is not found is not there
-    pub others : findIn key h 12 (key x) ps ≡ none → All (λ y. key y ≡ key x → ⊥) (cat ps [])
+    pub others : findIn key h 12 (key x) ps ≡ none → Others x ps
     others e =
         perm-all (λ y. key y ≡ key x → ⊥) (Permᴰ·symm (w .image .arranged .holds)) (seek-ne key (key x) rs (sym (finds (key x) l) ∙ e))
 

@@ -23,7 +23,7 @@ use Rattle.walks.specs.declared.Met.{Met}
 use Rattle.walks.specs.declared.Met.the-variants.{Found, Ends}
 use Rattle.walks.specs.Walks.{heldAt, onHeld, meets, walk, Walked, went, stopped, andPage, carry, putMet, putWalk}
 use Rattle.walks.proofs.Holds.{Small, away-rank, here-rank}
-use Rattle.walks.proofs.Clean.{Clean, clean-from, clean-after, InOrder, order-next, order-from, all-from}
+use Rattle.walks.proofs.Clean.{Clean, clean-from, clean-after, InOrder, order-next, order-from, Others, others-from}
 use Rattle.walks.proofs.Went.{Went, wrote-went, one-went}
 
 -- a walk with a record at hand makes of the pages ps the pages qs where no record is left over, and
@@ -80,16 +80,12 @@ module _ (h : ℕ → ℕ) (n : ℕ) (x : Record) (l : key x < 2 ^ 64) where
   abbrev rank : Record → ℕ
   rank = rankIn key h
 
-  -- none of these has the key
-  abbrev Others : List (List Record) → Type 0
-  Others qs = All (λ y. key y ≡ key x → ⊥) (cat qs [])
-
   -- how a put goes from page a on, which comes after those in front
   abbrev Goes : (front qs : List (List Record)) → (List (List Record) × List Record) → Met → Type 0
   Goes front qs o m = PutGoes (front ++ qs) x (find rank 12 (rank x) qs) (front ++ o .0, o .1) (putMet h (areaFrom 0 (front ++ qs)) n x m)
 
   put-goes : (front qs : List (List Record)) (a j : ℕ) → length front ≡ a → Clean h n (front ++ qs) → InOrder 12 h qs
-      → (find rank 12 (rank x) qs ≡ none → Others qs) → Goes front qs (put rank 12 x qs) (meets 12 h (key x) a j (map some qs))
+      → (find rank 12 (rank x) qs ≡ none → Others x qs) → Goes front qs (put rank 12 x qs) (meets 12 h (key x) a j (map some qs))
   put-goes front [] a j at c i f = (j, refl)
   put-goes front (p ∷ qs) a j at c i f =
       go (heldAt (key x) 0 p) (endsOn rank 12 (rank x) p) refl refl
@@ -102,26 +98,26 @@ module _ (h : ℕ → ℕ) (n : ℕ) (x : Record) (l : key x < 2 ^ 64) where
       on = meets 12 h (key x) (suc a) (suc j) (map some qs)
 
       go : (o : Option (ℕ × ℕ)) (u : Bool) → heldAt (key x) 0 p ≡ o → endsOn rank 12 (rank x) p ≡ u
-          → ((find rank 12 (rank x) qs ≡ none → Others qs) → Goes (front ++ (p ∷ [])) qs (put rank 12 x qs) on)
+          → ((find rank 12 (rank x) qs ≡ none → Others x qs) → Goes (front ++ (p ∷ [])) qs (put rank 12 x qs) on)
           → Goes front (p ∷ qs) (cond u (carried rank 12 x (p ∷ qs)) (p ∷ put rank 12 x qs .0, put rank 12 x qs .1))
           (onHeld o (λ i v. Found a i (length p) v (suc j)) (cond u (Ends a (ahead rank (rank x) p) (length p) (suc j)) on))
       go (some w) u e d ih = rw (here-rank (key x) h p l small e) (suc j, refl)
       go none true e d ih =
-          let new : Others (p ∷ qs) = f (rw (away-rank (key x) h p l small e, d)) in
+          let new : Others x (p ∷ qs) = f (rw (away-rank (key x) h p l small e, d)) in
           let moved = hops-strayed key rank 12 (omega arith) x (p ∷ qs) (i .slots) d (i .sorted) (new, i .once) in
           rw (away-rank (key x) h p l small e, d, clean-after front a at (p ∷ qs) c)
           (carry-goes 12 h front a (suc j - 1) 0 _ at x (p ∷ qs) (omega (arith, moved, strayed-after key front (carried rank 12 x (p ∷ qs) .0) (p ∷ qs))))
       go none false e d ih =
-          let others : find rank 12 (rank x) qs ≡ none → Others qs = λ z. all-right (λ y. key y ≡ key x → ⊥) p (cat qs []) (f (rw (away-rank (key x) h p l small e, d) z)) in
+          let others : find rank 12 (rank x) qs ≡ none → Others x qs = λ z. all-right (λ y. key y ≡ key x → ⊥) p (cat qs []) (f (rw (away-rank (key x) h p l small e, d) z)) in
           rw (away-rank (key x) h p l small e, d) (simp append-snoc at (ih others))
 
   -- put makes of good bytes what the walk on the pages makes, where a key that is not found is not
   -- there
-  pub put-clean : {ps : List (List Record)} → Clean h n ps → InOrder 12 h ps → h (key x) ≤ n → (findIn key h 12 (key x) ps ≡ none → Others ps)
+  pub put-clean : {ps : List (List Record)} → Clean h n ps → InOrder 12 h ps → h (key x) ≤ n → (findIn key h 12 (key x) ps ≡ none → Others x ps)
       → PutGoes ps x (findIn key h 12 (key x) ps) (putIn key h 12 x ps) (putWalk h (areaFrom 0 ps) n x)
   unfolding putWalk walk
   put-clean {ps} c i g f =
       let a : ℕ = h (key x) in
       let at : length (take a ps) ≡ a = length-take-le a ps (omega (arith, c .many)) in
       rw (clean-from c a g)
-      (rw (take-append-drop a ps) at (put-goes (take a ps) (drop a ps) a 0 at (rw take-append-drop c) (order-from a ps i) (λ z. all-from (λ y. key y ≡ key x → ⊥) a ps (f z))))
+      (rw (take-append-drop a ps) at (put-goes (take a ps) (drop a ps) a 0 at (rw take-append-drop c) (order-from a ps i) (λ z. others-from x a ps (f z))))

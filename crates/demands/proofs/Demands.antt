@@ -20,11 +20,12 @@ use Rattle.demands.specs.ReadMoved.{ReadHeld, ReadAbsent, ReadWithin, Mo
 use Rattle.demands.proofs.InOrder.{none-of}
 use Rattle.walks.proofs.Clean.{clean-pass}
 use Rattle.register.proofs.OnImage.{on-clean}
+use Rattle.register.proofs.ImageCalls.{room-told}
 use Rattle.register.proofs.GrownImage.{check-yes, grow-no-room, grow-with-room}
 use Rattle.demands.proofs.Sets.{set-put, same-records}
 use Rattle.demands.proofs.Standing.{Stands, fileOf, find-held, find-absent, remove-absent, remove-held, put-full, put-new}
 use Rattle.demands.proofs.Unchanged.{total}
-use Rattle.demands.proofs.Steps.{Step, refused, accepted, said, plain-number, Puts, repeats, clashes, turned-away, joined, Grows, other-row, at-cap, crowded, larger, room-told, put-comes, grow-comes, due-stands, step, history}
+use Rattle.demands.proofs.Steps.{Step, refused, accepted, said, plain-number, Puts, repeats, clashes, turned-away, joined, Grows, other-row, at-cap, crowded, larger, put-comes, grow-comes, due-stands, step, history}
 use Rattle.demands.proofs.ReadMoved.{read-held-stands, read-absent-stands, read-within-stands, moved-stands}
 
 -- after a fresh history the file is the image of what is kept
@@ -126,14 +127,14 @@ module _ (m : Kept) (ps : List (List Record)) (s : Stands m ps) where
   room-put-stands : RoomPut m f
   room-put-stands x fits e =
       either (refusal f (put x)) 7 0 (λ z. omega arith)
-      (room-told (homes (stateOf m)) (m .cap) (x ∷ m .held) (set-put x (s .set) (fits .0) e))
+      (room-told 12 (homes (stateOf m)) (m .cap) (x ∷ m .held) (set-put x (s .set) (fits .0) e))
       (λ r. number (put-new s x (fits .0) e (fits .1) r .left))
       (λ n. number (put-full s x (fits .0) e n .1))
 
   room-grow-stands : RoomGrow m f
   room-grow-stands row low l =
       either (refusal f (grow row)) 7 0 (λ z. omega arith)
-      (room-told (homes (grown (stateOf m))) (m .cap) (m .held) (s .set))
+      (room-told 12 (homes (grown (stateOf m))) (m .cap) (m .held) (s .set))
       (λ r. number (grow-with-room s row l low r .left))
       (λ n. number (grow-no-room s row l low n))
 

@@ -40,7 +40,7 @@ module _ {m : Kept} {ps : List (List Record)} (s : Stands m ps) where
   reads k = ap (λ (t : Left). h k + numbersOf (t .said) .read) (find-leaves s k (findAnswer (walk h (areaFrom 0 ps) (m .cap) k)) refl)
 
   module _ (x : Record) (l : key x < 2 ^ 64) where
-    judges : (readTo (fileOf m ps) (key x) ≤ m .cap) × JudgesTo 12 (omega arith) h x l ps (putIn key h 12 x ps) (findIn key h 12 (key x) ps) (readTo (fileOf m ps) (key x))
+    judges : (readTo (fileOf m ps) (key x) ≤ m .cap) × JudgesTo x ps (putIn key h 12 x ps) (findIn key h 12 (key x) ps) (readTo (fileOf m ps) (key x))
     judges = rw (reads (key x)) (find-judges (on-clean s) (on-order s) x l (home-low s (key x)) (others s x l))
 
   module _ (k : ℕ) (l : k < 2 ^ 64) where
@@ -55,7 +55,7 @@ module _ {m : Kept} {ps : List (List Record)} (s : Stands m ps) where
     pub read-held : (b v : ℕ) → HeldOn (fileOf m ps) b k v → readTo (fileOf m ps) k ≡ b + 1
     read-held b v w = go (findIn key h 12 k ps) refl (judges (recordWith k 0) l .1)
       where
-        go : (o : Option Record) → findIn key h 12 k ps ≡ o → JudgesTo 12 (omega arith) h (recordWith k 0) l ps (putIn key h 12 (recordWith k 0) ps) o (readTo (fileOf m ps) k)
+        go : (o : Option Record) → findIn key h 12 k ps ≡ o → JudgesTo (recordWith k 0) ps (putIn key h 12 (recordWith k 0) ps) o (readTo (fileOf m ps) k)
             → readTo (fileOf m ps) k ≡ b + 1
         go (some y) e t = omega (arith, t .1, one-page key k y (recordWith k v) ps (t .0) b (on-order s .once) (t .2) (on-page k b v w))
         go none e t = absurd (clash (sym (misses-pages b e) ∙ on-page k b v w))

@@ -2,7 +2,6 @@ pub mod Sets
 pub mod Standing
 pub mod Unchanged
 pub mod Answers
-pub mod Fresh
 pub mod Steps
 pub mod FindReads
 pub mod ReadMoved

@@ -11,10 +11,8 @@ use lib.Dec.{ltb, eqb}
 use lib.ListN.{length, replicate}
 use borrow.Author.Tests.{ne-eqb}
 use Rattle.homes.specs.declared.Params.{Params}
-use Rattle.placing.specs.Image.{All, RecordSet, Room}
-use Rattle.placing.specs.Lay.{taken}
-use Rattle.placing.proofs.Images.{room-taken}
-use Rattle.pages.specs.Page.{Record, key, value, homeFor}
+use Rattle.placing.specs.Image.{All, Room}
+use Rattle.pages.specs.Page.{Record, key, value}
 use Rattle.pages.specs.Area.{areaFrom}
 use Rattle.state.specs.declared.Answer.{Answer}
 use Rattle.state.specs.declared.Answer.the-variants.{Accepted, OutOfRange, WrongArea, WrongRow, Absent, Held, NoRoom, AtCap, Clash}
@@ -25,11 +23,12 @@ use Rattle.state.proofs.Answers.{again-same, again-other}
 use Rattle.changes.specs.Changes.{done}
 use Rattle.register.specs.Files.{Call, format, find, put, remove, grow, check, due, File, says, Left, leaves, left, numbersOf, after}
 use Rattle.demands.specs.Histories.{Fits, refusal, Kept, stateOf, without, commitOf, begun, holding, paged, makes, kept}
+use Rattle.register.proofs.FormatImage.{Begins, began, outside, elsewhere, format-begins}
+use Rattle.register.proofs.ImageCalls.{room-told}
 use Rattle.register.proofs.GrownImage.{grownRow, check-yes, grow-other-row, grow-no-page, grow-no-room, grow-with-room}
 use Rattle.demands.proofs.Standing.{Stands, fileOf, Refused, Accepts, find-held, find-absent, remove-absent, remove-held, put-held, put-full, put-new}
 use Rattle.demands.proofs.InOrder.{listed, none-of}
 use Rattle.demands.proofs.Sets.{set-put}
-use Rattle.demands.proofs.Fresh.{Begins, began, outside, elsewhere, format-begins}
 
 -- the refusals that a file which stands can meet: all but 4 and 9; they move no record
 abbrev pub Plain : Answer → Type 0
@@ -61,14 +60,6 @@ pub data Grows (m : Kept) (ps : List (List Record)) (row : List ℕ) : Type 0 wh
   crowded : Refused m ps (grow row) (NoRoom (m .cap)) (grownRow (stateOf m) (m .held)) → Grows m ps row
   larger : Accepts m (paged m) ps (grow row) 0 (grownRow (stateOf m) (m .held)) → Grows m ps row
 
--- whether there is room can be told
-pub room-told : (h : ℕ → ℕ) (n : ℕ) (rs : List Record) → RecordSet key rs → Dec (Room key h 12 n rs)
-room-told h n rs f = go (ℕ-discrete (taken (homeFor h) 12 rs n) (length rs))
-  where
-    go : Dec (taken (homeFor h) 12 rs n ≡ length rs) → Dec (Room key h 12 n rs)
-    go (yes e) = yes (room-taken key h 12 n rs f .1 e)
-    go (no e) = no (λ r. e (room-taken key h 12 n rs f .0 r))
-
 module _ {m : Kept} {ps : List (List Record)} (s : Stands m ps) where
   -- due asks for the load alone
   pub due-stands : left (fileOf m ps) due ≡ record { said = says (ltb (48 * m .p) (5 * length (m .held))); file = fileOf m ps; row = [] }
@@ -77,7 +68,7 @@ module _ {m : Kept} {ps : List (List Record)} (s : Stands m ps) where
 
   -- a growth, by its row, the pages left and what there is room for
   pub grow-comes : (row : List ℕ) → Grows m ps row
-  grow-comes row = go (ℕ-discrete (length row) (m .cap)) (decLt (m .p) (m .cap)) (room-told (homes (grown (stateOf m))) (m .cap) (m .held) (s .set))
+  grow-comes row = go (ℕ-discrete (length row) (m .cap)) (decLt (m .p) (m .cap)) (room-told 12 (homes (grown (stateOf m))) (m .cap) (m .held) (s .set))
     where
       go : Dec (length row ≡ m .cap) → Dec (m .p < m .cap) → Dec (Room key (homes (grown (stateOf m))) 12 (m .cap) (m .held)) → Grows m ps row
       go (no f) d r = other-row (grow-other-row s row f)
@@ -119,7 +110,7 @@ module _ {m : Kept} {ps : List (List Record)} (s : Stands m ps) where
 
       go : (o : Option ℕ) → commitOf (key x) (m .held) ≡ o → Puts m ps x
       go (some w) e = let t = put-held s x (f .0) w e in held w (t .0) e (t .1) (ℕ-discrete (value x) w)
-      go none e = room e (room-told (homes (stateOf m)) (m .cap) (x ∷ m .held) (set-put x (s .set) (f .0) e))
+      go none e = room e (room-told 12 (homes (stateOf m)) (m .cap) (x ∷ m .held) (set-put x (s .set) (f .0) e))
 
   put-step : (x : Record) → Puts m ps x → Step m ps (put x)
   put-step x (repeats w n e q a) = refused (Held w n) [] (refl, refl) a

@@ -3,15 +3,17 @@ use mathlib.Core.Path.{_≡_, refl, sym, _∙_}
 use mathlib.Core.Option.{none, some}
 use mathlib.Core.List.{List, [], _∷_, Permᴰ·symm}
 use Prim.Native.Nat.{ℕ, suc, _*_, _^_, _≤_, _<_}
+use native.Mathlib.Decide.{ℕ-discrete}
 use native.Mathlib.Omega.{arith}
 use lib.ListN.{length, length-append}
 use borrow.Author.Tests.{ne-eqb}
-use Rattle.placing.specs.Image.{All, cat, page, RecordSet, Room}
+use Rattle.placing.specs.Image.{cat, page, RecordSet, homeOf, Room}
+use Rattle.placing.specs.Lay.{taken}
 use Rattle.placing.specs.Rows.{strayed}
 use Rattle.placing.specs.Walks.{seek, del, findIn, putIn, removeIn}
 use Rattle.placing.proofs.Perms.{perm-all, perm-length}
 use Rattle.placing.proofs.Seek.{seek-ne, del-all, del-distinct, del-left}
-use Rattle.placing.proofs.Images.{find-image}
+use Rattle.placing.proofs.Images.{room-taken, find-image}
 use Rattle.placing.proofs.Changes.{put-image, put-room, remove-image}
 use Rattle.pages.specs.Page.{Record, key, value}
 use Rattle.pages.specs.Area.{areaFrom}
@@ -22,6 +24,7 @@ use Rattle.state.specs.State.{homes, oneMore, oneLess}
 use Rattle.state.specs.Answer.{again}
 use Rattle.state.proofs.Ranges.{more-range, less-range}
 use Rattle.walks.specs.Walks.{stopped, walk, findAnswer, putWalk, removeWalk}
+use Rattle.walks.proofs.Clean.{Others}
 use Rattle.walks.proofs.Went.{Went}
 use Rattle.walks.proofs.FindWalk.{FindGoes, find-clean}
 use Rattle.walks.proofs.PutWalk.{Poured, PutGoes, put-clean}
@@ -38,6 +41,14 @@ cat-few b (p ∷ ps) h = omega (arith, h 0, length-append p (cat ps []), cat-few
 -- so there is room for no more records than there are slots
 room-few : {R : Type 0} (key : R → ℕ) (h : ℕ → ℕ) (b : ℕ) {n : ℕ} {s : List R} → Room key h b n s → length s ≤ b * n
 room-few key h b w = rw (← w .1 .many, ← perm-length (w .1 .holds)) (cat-few b (w .0) (w .1 .slots))
+
+-- whether there is room can be told
+pub room-told : (b : ℕ) (h : ℕ → ℕ) (n : ℕ) (rs : List Record) → RecordSet key rs → Dec (Room key h b n rs)
+room-told b h n rs f = go (ℕ-discrete (taken (homeOf key h) b rs n) (length rs))
+  where
+    go : Dec (taken (homeOf key h) b rs n ≡ length rs) → Dec (Room key h b n rs)
+    go (yes e) = yes (room-taken key h b n rs f .1 e)
+    go (no e) = no (λ r. e (room-taken key h b n rs f .0 r))
 
 module _ {s : State} {rs : List Record} {ps : List (List Record)} (w : OnImage s rs ps) where
   abbrev h : ℕ → ℕ
@@ -116,7 +127,7 @@ module _ {s : State} {rs : List Record} {ps : List (List Record)} (w : OnImage s
 
   module _ (x : Record) (l : key x < 2 ^ 64) where
     -- a key that is not found is not there
-    pub others : findIn key h 12 (key x) ps ≡ none → All (λ y. key y ≡ key x → ⊥) (cat ps [])
+    pub others : findIn key h 12 (key x) ps ≡ none → Others x ps
     others e =
         perm-all (λ y. key y ≡ key x → ⊥) (Permᴰ·symm (w .image .arranged .holds)) (seek-ne key (key x) rs (sym (finds (key x) l) ∙ e))
 

@@ -6,5 +6,6 @@ pub mod Growing
 pub mod CheckImage
 pub mod Promises
 pub mod OnImage
+pub mod FormatImage
 pub mod GrownImage
 pub mod ImageCalls

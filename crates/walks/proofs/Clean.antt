@@ -101,11 +101,14 @@ module _ {b : ℕ} {h : ℕ → ℕ} where
   order-from (suc a) [] o = o
   order-from (suc a) (p ∷ ps) o = order-from a ps (order-next o)
 
--- what holds of all records holds of those from a page on
-pub all-from : (P : Record → Type 0) (a : ℕ) (ps : List (List Record)) → All P (cat ps []) → All P (cat (drop a ps) [])
-all-from P zero ps s = s
-all-from P (suc a) [] s = tt
-all-from P (suc a) (p ∷ ps) s = all-from P a ps (all-right P p (cat ps []) s)
+-- none of the records has the key of x
+abbrev pub Others : Record → List (List Record) → Type 0
+Others x ps = All (λ y. key y ≡ key x → ⊥) (cat ps [])
+
+pub others-from : (x : Record) (a : ℕ) (ps : List (List Record)) → Others x ps → Others x (drop a ps)
+others-from x zero ps s = s
+others-from x (suc a) [] s = tt
+others-from x (suc a) (p ∷ ps) s = others-from x a ps (all-right (λ y. key y ≡ key x → ⊥) p (cat ps []) s)
 
 -- an image of records that the layout takes is clean, and in order
 module _ {h : ℕ → ℕ} {n : ℕ} {s : List Record} {ps : List (List Record)} (f : RecordSet key s) where

@@ -26,7 +26,7 @@ use Rattle.walks.specs.declared.Met.{Met}
 use Rattle.walks.specs.declared.Met.the-variants.{Found, Ends}
 use Rattle.walks.specs.Walks.{heldAt, onHeld, meets, walk, Walked, went, stopped, andPage, carry, putMet, putWalk}
 use Rattle.walks.proofs.Holds.{Small, away-rank, here-rank}
-use Rattle.walks.proofs.Clean.{Clean, clean-from, clean-after, InOrder, order-next, order-from, all-from}
+use Rattle.walks.proofs.Clean.{Clean, clean-from, clean-after, InOrder, order-next, order-from, Others, others-from}
 use Rattle.walks.proofs.Went.{Went, wrote-went, one-went}
 
 -- a walk with a record at hand makes of the pages ps the pages qs where no record is left over, and
@@ -83,16 +83,12 @@ module _ (form : Layout) (h : ℕ → ℕ) (n : ℕ) (x : Record) (l : key x < 2
   abbrev rank : Record → ℕ
   rank = rankIn key h
 
-  -- none of these has the key
-  abbrev Others : List (List Record) → Type 0
-  Others qs = All (λ y. key y ≡ key x → ⊥) (cat qs [])
-
   -- how a put goes from page a on, which comes after those in front
   abbrev Goes : (front qs : List (List Record)) → (List (List Record) × List Record) → Met → Type 0
   Goes front qs o m = PutGoes form (front ++ qs) x (find rank (slotsOf form) (rank x) qs) (front ++ o .0, o .1) (putMet form h (areaFrom form 0 (front ++ qs)) n x m)
 
   put-goes : (front qs : List (List Record)) (a j : ℕ) → length front ≡ a → Clean form h n (front ++ qs) → InOrder (slotsOf form) h qs
-      → (find rank (slotsOf form) (rank x) qs ≡ none → Others qs) → Goes front qs (put rank (slotsOf form) x qs) (meets (slotsOf form) h (key x) a j (map some qs))
+      → (find rank (slotsOf form) (rank x) qs ≡ none → Others x qs) → Goes front qs (put rank (slotsOf form) x qs) (meets (slotsOf form) h (key x) a j (map some qs))
   put-goes front [] a j at c i f = (j, refl)
   put-goes front (p ∷ qs) a j at c i f =
       go (heldAt (key x) 0 p) (endsOn rank (slotsOf form) (rank x) p) refl refl
@@ -105,26 +101,26 @@ module _ (form : Layout) (h : ℕ → ℕ) (n : ℕ) (x : Record) (l : key x < 2
       on = meets (slotsOf form) h (key x) (suc a) (suc j) (map some qs)
 
       go : (o : Option (ℕ × ℕ)) (u : Bool) → heldAt (key x) 0 p ≡ o → endsOn rank (slotsOf form) (rank x) p ≡ u
-          → ((find rank (slotsOf form) (rank x) qs ≡ none → Others qs) → Goes (front ++ (p ∷ [])) qs (put rank (slotsOf form) x qs) on)
+          → ((find rank (slotsOf form) (rank x) qs ≡ none → Others x qs) → Goes (front ++ (p ∷ [])) qs (put rank (slotsOf form) x qs) on)
           → Goes front (p ∷ qs) (cond u (carried rank (slotsOf form) x (p ∷ qs)) (p ∷ put rank (slotsOf form) x qs .0, put rank (slotsOf form) x qs .1))
           (onHeld o (λ i v. Found a i (length p) v (suc j)) (cond u (Ends a (ahead rank (rank x) p) (length p) (suc j)) on))
       go (some w) u e d ih = rw (here-rank (key x) h p l small e) (suc j, refl)
       go none true e d ih =
-          let new : Others (p ∷ qs) = f (rw (away-rank (key x) h p l small e, d)) in
+          let new : Others x (p ∷ qs) = f (rw (away-rank (key x) h p l small e, d)) in
           let moved = hops-strayed key rank (slotsOf form) (slots-few form .0) x (p ∷ qs) (i .slots) d (i .sorted) (new, i .once) in
           rw (away-rank (key x) h p l small e, d, clean-after front a at (p ∷ qs) c)
           (carry-goes form (slotsOf form) h front a (suc j - 1) 0 _ at x (p ∷ qs) (omega (arith, moved, strayed-after key front (carried rank (slotsOf form) x (p ∷ qs) .0) (p ∷ qs))))
       go none false e d ih =
-          let others : find rank (slotsOf form) (rank x) qs ≡ none → Others qs = λ z. all-right (λ y. key y ≡ key x → ⊥) p (cat qs []) (f (rw (away-rank (key x) h p l small e, d) z)) in
+          let others : find rank (slotsOf form) (rank x) qs ≡ none → Others x qs = λ z. all-right (λ y. key y ≡ key x → ⊥) p (cat qs []) (f (rw (away-rank (key x) h p l small e, d) z)) in
           rw (away-rank (key x) h p l small e, d) (simp append-snoc at (ih others))
 
   -- put makes of good bytes what the walk on the pages makes, where a key that is not found is not
   -- there
-  pub put-clean : {ps : List (List Record)} → Clean form h n ps → InOrder (slotsOf form) h ps → h (key x) ≤ n → (findIn key h (slotsOf form) (key x) ps ≡ none → Others ps)
+  pub put-clean : {ps : List (List Record)} → Clean form h n ps → InOrder (slotsOf form) h ps → h (key x) ≤ n → (findIn key h (slotsOf form) (key x) ps ≡ none → Others x ps)
       → PutGoes form ps x (findIn key h (slotsOf form) (key x) ps) (putIn key h (slotsOf form) x ps) (putWalk form h (areaFrom form 0 ps) n x)
   unfolding putWalk walk
   put-clean {ps} c i g f =
       let a : ℕ = h (key x) in
       let at : length (take a ps) ≡ a = length-take-le a ps (omega (arith, c .many)) in
       rw (clean-from c a g)
-      (rw (take-append-drop a ps) at (put-goes (take a ps) (drop a ps) a 0 at (rw take-append-drop c) (order-from a ps i) (λ z. all-from (λ y. key y ≡ key x → ⊥) a ps (f z))))
+      (rw (take-append-drop a ps) at (put-goes (take a ps) (drop a ps) a 0 at (rw take-append-drop c) (order-from a ps i) (λ z. others-from x a ps (f z))))

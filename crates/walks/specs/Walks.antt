@@ -1,6 +1,6 @@
 -- The walks of find, put and remove on any bytes (01, 'The walks'). What is quoted is 01's. A page
--- is none where it is broken; b is the slots of a page; h is the home of a key; n counts the pages
--- read.
+-- is none where it is broken; b counts the slots of a page; h is the home of a key; n counts the
+-- pages read.
 use Prim.Native.Nat.{ℕ, suc, _-_}
 use mathlib.Core.Bool.{cond}
 use mathlib.Core.Option.{Option, none, some}

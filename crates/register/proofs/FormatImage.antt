@@ -1,4 +1,4 @@
--- An accepted format leaves a file that stands, whatever was there before.
+-- An accepted format leaves the image of no records, whatever was there before.
 use mathlib.Core.Path.{_≡_, refl}
 use mathlib.Core.Bool.{Bool, true, false, cond}
 use mathlib.Core.List.{[], List·Permᴰ·nil}
@@ -15,9 +15,8 @@ use Rattle.state.specs.State.{inRange, homes, fresh}
 use Rattle.gates.specs.declared.Gate.the-variants.{Open, Shut}
 use Rattle.gates.specs.Gates.{onGate, gateOf}
 use Rattle.changes.specs.Changes.{done, refused}
 use Rattle.register.specs.Files.{format, File, Left, leaves, ofOutcome, left}
-use Rattle.demands.specs.Histories.{stateOf, begun}
-use Rattle.demands.proofs.Standing.{Stands}
+use Rattle.register.proofs.OnImage.{OnImage}
 
 -- n empty pages hold nothing
 blank-page : (n a : ℕ) → page {R = Record} (replicate n []) a ≡ []
@@ -30,8 +29,8 @@ blank-cat zero = refl
 blank-cat (suc n) = blank-cat n
 
 -- so they are the image of no records
-blank-image : (h : ℕ → ℕ) (n : ℕ) → Image key h 12 n [] (replicate n [])
-blank-image h n =
+pub blank-image : (b : ℕ) (h : ℕ → ℕ) (n : ℕ) → Image key h b n [] (replicate n [])
+blank-image b h n =
     record {
       arranged = record {
         many = length-replicate n [];
@@ -43,12 +42,12 @@ blank-image h n =
       rising = rw (blank-cat n) tt;
     }
 
-blank-stands : (q : Params) (cap : ℕ) → inRange (fresh q cap) ≡ true → Stands (begun q cap) (replicate cap [])
-blank-stands q cap r = record { range = r; set = record { keys = tt; once = tt }; values = tt; count = refl; image = blank-image (homes (fresh q cap)) cap }
+blank-stands : (q : Params) (cap : ℕ) → inRange (fresh q cap) ≡ true → OnImage (fresh q cap) [] (replicate cap [])
+blank-stands q cap r = record { range = r; set = record { keys = tt; once = tt }; values = tt; count = refl; image = blank-image 12 (homes (fresh q cap)) cap }
 
--- what a format comes to: it begins a file that stands, or is refused with 1 or 2
+-- what a format comes to: it begins a file, or is refused with 1 or 2
 pub data Begins (f : File) (q : Params) (cap : ℕ) (l : Left) : Type 0 where
-  began : l ≡ leaves (done (stateOf (begun q cap)) (Accepted 0 0 0)) (areaFrom 0 (replicate cap [])) [] → Stands (begun q cap) (replicate cap []) → Begins f q cap l
+  began : l ≡ leaves (done (fresh q cap) (Accepted 0 0 0)) (areaFrom 0 (replicate cap [])) [] → OnImage (fresh q cap) [] (replicate cap []) → Begins f q cap l
   outside : l ≡ leaves (done (f .state) OutOfRange) (f .area) [] → Begins f q cap l
   elsewhere : l ≡ leaves (done (f .state) WrongArea) (f .area) [] → Begins f q cap l
 

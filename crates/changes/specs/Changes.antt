@@ -4,6 +4,8 @@ use Prim.Native.Nat.{ℕ, _*_}
 use mathlib.Core.Bool.{Bool, cond}
 use mathlib.Core.List.{List}
 use lib.Dec.{eqb}
+use Rattle.layouts.specs.declared.Layout.{Layout}
+use Rattle.layouts.specs.Layout.{slotsOn}
 use Rattle.pages.specs.Page.{Record}
 use Rattle.state.specs.declared.State.{State}
 use Rattle.state.specs.State.{homes, oneMore, oneLess}
@@ -27,15 +29,15 @@ refused s area why = record { done = done s why; area = area }
 
 -- "Put and remove 1, 2, the walk (4, 5, 6 or 7 as met), then 9", with 13 beside 6 (02, request 1):
 -- where it went well, the state after it is `next`, unless the count is wrong
-abbrev pub settled : State → List ℕ → (next : State) → (wrong : Bool) → Walked → Outcome
-settled s area next wrong (stopped why) = refused s area why
-settled s area next wrong (went pages read moved) =
-    cond wrong (refused s area (NotImage read)) (record { done = done next (Accepted 0 read moved); area = writes area pages })
+abbrev pub settled : Layout → State → List ℕ → (next : State) → (wrong : Bool) → Walked → Outcome
+settled f s area next wrong (stopped why) = refused s area why
+settled f s area next wrong (went pages read moved) =
+    cond wrong (refused s area (NotImage read)) (record { done = done next (Accepted 0 read moved); area = writes f area pages })
 
--- 9: "put where r = 12 x cap"
-abbrev pub putOpen : State → List ℕ → Record → Outcome
-putOpen s area x = settled s area (oneMore s) (eqb (s .r) (12 * s .cap)) (putWalk (homes s) area (s .cap) x)
+-- 9: "put where r = 12 x cap", where twelve are the slots of a page
+abbrev pub putOpen : Layout → State → List ℕ → Record → Outcome
+putOpen f s area x = settled f s area (oneMore s) (eqb (s .r) (slotsOn f (s .cap))) (putWalk f (homes s) area (s .cap) x)
 
 -- 9: "remove where r = 0"
-abbrev pub removeOpen : State → List ℕ → (k : ℕ) → Outcome
-removeOpen s area k = settled s area (oneLess s) (eqb (s .r) 0) (removeWalk (homes s) area (s .cap) k)
+abbrev pub removeOpen : Layout → State → List ℕ → (k : ℕ) → Outcome
+removeOpen f s area k = settled f s area (oneLess s) (eqb (s .r) 0) (removeWalk f (homes s) area (s .cap) k)

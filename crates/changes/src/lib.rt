@@ -1,5 +1,6 @@
 // Put and remove past the gates: a state in range, and an area of its length. The register judges
 // both first; a run that knows the homes of its keys comes here too.
+use layouts::SLOTS;
 use pages::Record;
 use state::Answer;
 use state::Done;
@@ -9,6 +10,7 @@ ghost use mathlib.Core.Path.{_≡_};
 ghost use mathlib.Core.Bool.{true};
 ghost use Prim.Native.Nat.{_-_, _*_, _≤_, _<_};
 ghost use lib.ListN.{length};
+ghost use Rattle.layouts.specs.Layout.{inUse};
 ghost use Rattle.state.specs.State.{inRange, homes};
 ghost use Rattle.state.specs.declared.Answer.the-variants.{Accepted};
 ghost use Rattle.changes.specs.Changes.{done, putOpen, removeOpen};
@@ -32,8 +34,8 @@ fn wrote(next: State, first: usize, last: usize, read: u32) -> Done
 
 // A put past the gate, of a record whose home is known.
 pub fn put_open(state: State, area: &mut [u8], home: u64, new: Record) -> Done
-    requires { ⌜ (inRange state ≡ true) × (length (now area) ≡ 256 * state .cap) × (home ≡ homes state (new .key)) ⌝ }
-    ensures { λ r. let o = putOpen state (now (area .entry)) new in ⌜ (r ≡ o .done) × (now (area .exit) ≡ o .area) ⌝ }
+    requires { ⌜ (inRange inUse state ≡ true) × (length (now area) ≡ 256 * state .cap) × (home ≡ homes state (new .key)) ⌝ }
+    ensures { λ r. let o = putOpen inUse state (now (area .entry)) new in ⌜ (r ≡ o .done) × (now (area .exit) ≡ o .area) ⌝ }
 {
     let shape = state.shape();
     let plan = walks::put::plan_put(&area[..], state.cap as usize, shape, home, new);
@@ -45,7 +47,7 @@ pub fn put_open(state: State, area: &mut [u8], home: u64, new: Record) -> Done
             last,
             read,
         } => {
-            if state.r == 12 * (state.cap as u32) {
+            if state.r == SLOTS as u32 * (state.cap as u32) {
                 return Done {
                     state,
                     answer: Answer::NotImage { read },
@@ -60,8 +62,8 @@ pub fn put_open(state: State, area: &mut [u8], home: u64, new: Record) -> Done
 
 // A remove past the gate.
 pub fn remove_open(state: State, area: &mut [u8], key: u64) -> Done
-    requires { ⌜ (inRange state ≡ true) × (length (now area) ≡ 256 * state .cap) ⌝ }
-    ensures { λ r. let o = removeOpen state (now (area .entry)) key in ⌜ (r ≡ o .done) × (now (area .exit) ≡ o .area) ⌝ }
+    requires { ⌜ (inRange inUse state ≡ true) × (length (now area) ≡ 256 * state .cap) ⌝ }
+    ensures { λ r. let o = removeOpen inUse state (now (area .entry)) key in ⌜ (r ≡ o .done) × (now (area .exit) ≡ o .area) ⌝ }
 {
     let shape = state.shape();
     let plan = walks::remove::plan_remove(&area[..], state.cap as usize, shape, key);

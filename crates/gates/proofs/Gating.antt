@@ -6,6 +6,7 @@ use Prim.Native.Nat.{ℕ, _*_}
 use native.Mathlib.Omega.{arith}
 use lib.ListN.{length}
 use borrow.Author.Tests.{eq-eqb, ne-eqb}
+use Rattle.layouts.specs.declared.Layout.{Layout}
 use Rattle.state.specs.declared.State.{State}
 use Rattle.state.specs.declared.Answer.{Answer}
 use Rattle.state.specs.declared.Answer.the-variants.{OutOfRange, WrongArea, WrongRow, AtCap}
@@ -17,62 +18,62 @@ use Rattle.gates.specs.declared.Gate.the-variants.{Open, Shut}
 use Rattle.gates.specs.Gates.{gateOf, imageGate, growEntry, growGate}
 use Rattle.gates.specs.steps.Past.{OpenFor, EnteredToGrow}
 
-module _ (s : State) (n : ℕ) where
+module _ (form : Layout) (s : State) (n : ℕ) where
   -- a number out of range
-  pub range-shut : inRange s ≡ false → Shut OutOfRange ≡ gateOf s n
+  pub range-shut : inRange form s ≡ false → Shut OutOfRange ≡ gateOf form s n
   unfolding gateOf
   range-shut e = rw e
 
   -- an area of another length
-  pub area-shut : inRange s ≡ true → (n ≡ 256 * s .cap → ⊥) → Shut WrongArea ≡ gateOf s n
+  pub area-shut : inRange form s ≡ true → (n ≡ 256 * s .cap → ⊥) → Shut WrongArea ≡ gateOf form s n
   unfolding gateOf
   area-shut e f = rw (e, ne-eqb n (256 * s .cap) f)
 
   -- neither
-  pub gate-open : inRange s ≡ true → n ≡ 256 * s .cap → Open ≡ gateOf s n
+  pub gate-open : inRange form s ≡ true → n ≡ 256 * s .cap → Open ≡ gateOf form s n
   unfolding gateOf
   gate-open e f = rw (e, eq-eqb n (256 * s .cap) f)
 
 -- what is known past an open gate
-pub past : (s : State) (n : ℕ) (g : Gate) → OpenFor s n g → g ≡ Open → (inRange s ≡ true) × (n ≡ 256 * s .cap)
-past s n g k e = rw e at k
+pub past : (form : Layout) (s : State) (n : ℕ) (g : Gate) → OpenFor form s n g → g ≡ Open → (inRange form s ≡ true) × (n ≡ 256 * s .cap)
+past form s n g k e = rw e at k
 
 -- what a growth refuses before it looks at a page, with an area of m bytes and a row of n counts
-module _ (s : State) (m n : ℕ) (g : Gate) (gate : g ≡ gateOf s m) where
+module _ (form : Layout) (s : State) (m n : ℕ) (g : Gate) (gate : g ≡ gateOf form s m) where
   -- as every call does
-  pub entry-shut : (why : Answer) → g ≡ Shut why → Shut why ≡ growEntry s m n
+  pub entry-shut : (why : Answer) → g ≡ Shut why → Shut why ≡ growEntry form s m n
   entry-shut why e = rw (← gate, e)
 
   module _ (e : g ≡ Open) where
     -- a row of another length
-    pub entry-row : (n ≡ s .cap → ⊥) → Shut WrongRow ≡ growEntry s m n
+    pub entry-row : (n ≡ s .cap → ⊥) → Shut WrongRow ≡ growEntry form s m n
     entry-row f = rw (← gate, e, ne-eqb n (s .cap) f)
 
     -- no page to grow to
-    pub entry-cap : n ≡ s .cap → s .p ≡ s .cap → Shut AtCap ≡ growEntry s m n
+    pub entry-cap : n ≡ s .cap → s .p ≡ s .cap → Shut AtCap ≡ growEntry form s m n
     entry-cap f k = rw (← gate, e, eq-eqb n (s .cap) f, eq-eqb (s .p) (s .cap) k)
 
-    pub entry-open : n ≡ s .cap → (s .p ≡ s .cap → ⊥) → Open ≡ growEntry s m n
+    pub entry-open : n ≡ s .cap → (s .p ≡ s .cap → ⊥) → Open ≡ growEntry form s m n
     entry-open f k = rw (← gate, e, eq-eqb n (s .cap) f, ne-eqb (s .p) (s .cap) k)
 
 -- what is known past them
-pub past-entry : (s : State) (m n : ℕ) → inRange s ≡ true → m ≡ 256 * s .cap → n ≡ s .cap → (s .p ≡ s .cap → ⊥) → EnteredToGrow s m n Open
-past-entry s m n r l f k = let w : Ranged s = ranged s r in (r, l, f, omega arith)
+pub past-entry : (form : Layout) (s : State) (m n : ℕ) → inRange form s ≡ true → m ≡ 256 * s .cap → n ≡ s .cap → (s .p ≡ s .cap → ⊥) → EnteredToGrow form s m n Open
+past-entry form s m n r l f k = let w : Ranged form s = ranged form s r in (r, l, f, omega arith)
 
 -- and is known where they were found open
-pub past-open : (s : State) (m n : ℕ) (g : Gate) → EnteredToGrow s m n g → g ≡ Open → EnteredToGrow s m n Open
-past-open s m n g k e = rw e at k
+pub past-open : (form : Layout) (s : State) (m n : ℕ) (g : Gate) → EnteredToGrow form s m n g → g ≡ Open → EnteredToGrow form s m n Open
+past-open form s m n g k e = rw e at k
 
 -- after them the pages decide
-module _ (s : State) (area : List ℕ) (n : ℕ) (g : Gate) (gate : g ≡ gateOf s (length area)) (e : g ≡ Open) where
-  pub row-shut : (n ≡ s .cap → ⊥) → Shut WrongRow ≡ growGate s area n
+module _ (form : Layout) (s : State) (area : List ℕ) (n : ℕ) (g : Gate) (gate : g ≡ gateOf form s (length area)) (e : g ≡ Open) where
+  pub row-shut : (n ≡ s .cap → ⊥) → Shut WrongRow ≡ growGate form s area n
   unfolding growGate
-  row-shut f = rw (← entry-row s (length area) n g gate e f)
+  row-shut f = rw (← entry-row form s (length area) n g gate e f)
 
-  pub cap-shut : n ≡ s .cap → s .p ≡ s .cap → Shut AtCap ≡ growGate s area n
+  pub cap-shut : n ≡ s .cap → s .p ≡ s .cap → Shut AtCap ≡ growGate form s area n
   unfolding growGate
-  cap-shut f m = rw (← entry-cap s (length area) n g gate e f m)
+  cap-shut f m = rw (← entry-cap form s (length area) n g gate e f m)
 
-  pub pages-decide : (i : Gate) → i ≡ imageGate s area → n ≡ s .cap → (s .p ≡ s .cap → ⊥) → i ≡ growGate s area n
+  pub pages-decide : (i : Gate) → i ≡ imageGate form s area → n ≡ s .cap → (s .p ≡ s .cap → ⊥) → i ≡ growGate form s area n
   unfolding growGate
-  pages-decide i k f m = rw (k, ← entry-open s (length area) n g gate e f m)
+  pages-decide i k f m = rw (k, ← entry-open form s (length area) n g gate e f m)

@@ -9,6 +9,7 @@ use native.Mathlib.Omega.{arith}
 use lib.Dec.{eqb}
 use lib.ListN.{length}
 use borrow.Author.Tests.{eqb-true, eq-eqb}
+use Rattle.layouts.specs.declared.Layout.{Layout}
 use Rattle.homes.specs.declared.Shape.{Shape}
 use Rattle.homes.specs.declared.new_homes.NewHomes.{NewHomes}
 use Rattle.homes.specs.Homes.{shapeOf, homeIn}
@@ -39,18 +40,18 @@ lowest-below a b (none ∷ ps) e = let q : a ≡ b = cc in omega arith
 lowest-below a b (some p ∷ ps) e = omega (arith, lowest-below (suc a) b ps e)
 
 -- so what a survey calls broken is a page of the area
-pub sick-below : (h : ℕ → ℕ) (area : List ℕ) (cap : ℕ) (v : Verdict) (a : ℕ) → v ≡ surveyed h area cap → v ≡ verdicts.Broken a → a < cap
+pub sick-below : (form : Layout) (h : ℕ → ℕ) (area : List ℕ) (cap : ℕ) (v : Verdict) (a : ℕ) → v ≡ surveyed form h area cap → v ≡ verdicts.Broken a → a < cap
 unfolding surveyed
-sick-below h area cap v a t e = go (lowestBroken 0 (pagesFrom h area cap 0)) refl (sym t ∙ e)
+sick-below form h area cap v a t e = go (lowestBroken 0 (pagesFrom form h area cap 0)) refl (sym t ∙ e)
   where
     whole : Verdict
-    whole = Whole (isImage h (heldFrom area cap 0)) (length (cat (heldFrom area cap 0) []))
+    whole = Whole (isImage form h (heldFrom form area cap 0)) (length (cat (heldFrom form area cap 0) []))
 
-    go : (o : Option ℕ) → lowestBroken 0 (pagesFrom h area cap 0) ≡ o → onBroken o whole ≡ verdicts.Broken a → a < cap
+    go : (o : Option ℕ) → lowestBroken 0 (pagesFrom form h area cap 0) ≡ o → onBroken o whole ≡ verdicts.Broken a → a < cap
     go none q k = absurd (let z : _≡_ {A = ℕ} 0 1 = cc in omega arith)
     go (some b) q k =
         let w : b ≡ a = cc in
-        omega (arith, lowest-below 0 b (pagesFrom h area cap 0) q, pages-length h area cap 0)
+        omega (arith, lowest-below 0 b (pagesFrom form h area cap 0) q, pages-length form h area cap 0)
 
 module _ (s : State) (v : Verdict) where
   -- a broken page, which is the last that was read
@@ -75,46 +76,46 @@ module _ (s : State) (v : Verdict) where
       go (Whole image records) q k = k
 
   -- the verdict of a survey by the state's own homes is the gate
-  pub gate-told : (area : List ℕ) (shape : Shape) → shape ≡ shapeOf (s .params) (s .p) → v ≡ surveyed (homeIn shape) area (s .cap)
-      → (g : Gate) → g ≡ imageOf s v → g ≡ imageGate s area
+  pub gate-told : (form : Layout) (area : List ℕ) (shape : Shape) → shape ≡ shapeOf (s .params) (s .p) → v ≡ surveyed form (homeIn shape) area (s .cap)
+      → (g : Gate) → g ≡ imageOf s v → g ≡ imageGate form s area
   unfolding imageGate
-  gate-told area shape f t g e = e ∙ rw (t, f)
+  gate-told form area shape f t g e = e ∙ rw (t, f)
 
 -- what an open gate tells of the pages: none is broken, and they are an image of as many records as
 -- the state tells
-pub record GoodFile (s : State) (area : List ℕ) : Type 0 where
-  pub whole : lowestBroken 0 (pagesFrom (homes s) area (s .cap) 0) ≡ none
-  pub image : isImage (homes s) (heldFrom area (s .cap) 0) ≡ true
-  pub count : length (cat (heldFrom area (s .cap) 0) []) ≡ s .r
+pub record GoodFile (form : Layout) (s : State) (area : List ℕ) : Type 0 where
+  pub whole : lowestBroken 0 (pagesFrom form (homes s) area (s .cap) 0) ≡ none
+  pub image : isImage form (homes s) (heldFrom form area (s .cap) 0) ≡ true
+  pub count : length (cat (heldFrom form area (s .cap) 0) []) ≡ s .r
 
-pub open-good : (s : State) (area : List ℕ) → imageGate s area ≡ Open → GoodFile s area
+pub open-good : (form : Layout) (s : State) (area : List ℕ) → imageGate form s area ≡ Open → GoodFile form s area
 unfolding imageGate surveyed
-open-good s area e = look (lowestBroken 0 (pagesFrom h area (s .cap) 0)) refl e
+open-good form s area e = look (lowestBroken 0 (pagesFrom form h area (s .cap) 0)) refl e
   where
     h : ℕ → ℕ
     h = homes s
 
     held : List (List Record)
-    held = heldFrom area (s .cap) 0
+    held = heldFrom form area (s .cap) 0
 
     records : ℕ
     records = length (cat held [])
 
-    tests : (u : Bool) → (isImage h held && eqb records (s .r)) ≡ u → cond u Open (Shut (NotImage (s .cap))) ≡ Open → (isImage h held && eqb records (s .r)) ≡ true
+    tests : (u : Bool) → (isImage form h held && eqb records (s .r)) ≡ u → cond u Open (Shut (NotImage (s .cap))) ≡ Open → (isImage form h held && eqb records (s .r)) ≡ true
     tests true q k = q
     tests false q k = absurd (let z : _≡_ {A = ℕ} 0 1 = cc in omega arith)
 
-    look : (o : Option ℕ) → lowestBroken 0 (pagesFrom h area (s .cap) 0) ≡ o → imageOf s (onBroken o (Whole (isImage h held) records)) ≡ Open → GoodFile s area
+    look : (o : Option ℕ) → lowestBroken 0 (pagesFrom form h area (s .cap) 0) ≡ o → imageOf s (onBroken o (Whole (isImage form h held) records)) ≡ Open → GoodFile form s area
     look (some a) q k = absurd (let z : _≡_ {A = ℕ} 0 1 = cc in omega arith)
     look none q k =
-        let t : (isImage h held && eqb records (s .r)) ≡ true = tests (isImage h held && eqb records (s .r)) refl k in
+        let t : (isImage form h held && eqb records (s .r)) ≡ true = tests (isImage form h held && eqb records (s .r)) refl k in
         record {
           whole = q;
-          image = and-left (isImage h held) (eqb records (s .r)) t;
-          count = eqb-true records (s .r) (and-right (isImage h held) (eqb records (s .r)) t);
+          image = and-left (isImage form h held) (eqb records (s .r)) t;
+          count = eqb-true records (s .r) (and-right (isImage form h held) (eqb records (s .r)) t);
         }
 
 -- and such pages open it
-pub good-open : (s : State) (area : List ℕ) → GoodFile s area → imageGate s area ≡ Open
+pub good-open : (form : Layout) (s : State) (area : List ℕ) → GoodFile form s area → imageGate form s area ≡ Open
 unfolding imageGate surveyed
-good-open s area k = rw (k .whole, k .image, eq-eqb (length (cat (heldFrom area (s .cap) 0) [])) (s .r) (k .count))
+good-open form s area k = rw (k .whole, k .image, eq-eqb (length (cat (heldFrom form area (s .cap) 0) [])) (s .r) (k .count))

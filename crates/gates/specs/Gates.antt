@@ -5,6 +5,7 @@ use mathlib.Core.Bool.{cond, _&&_}
 use mathlib.Core.List.{List}
 use lib.ListN.{length}
 use lib.Dec.{eqb}
+use Rattle.layouts.specs.declared.Layout.{Layout}
 use Rattle.state.specs.declared.State.{State}
 use Rattle.state.specs.State.{inRange, homes}
 use Rattle.state.specs.declared.Answer.{Answer}
@@ -21,8 +22,8 @@ onGate Open refuse on = on
 onGate (Shut why) refuse on = refuse why
 
 -- "1 a state number out of range", then "2 area isn't 256 x cap bytes", of an area of n bytes
-unfoldable pub gateOf : State → (n : ℕ) → Gate
-gateOf s n = cond (inRange s) (cond (eqb n (256 * s .cap)) Open (Shut WrongArea)) (Shut OutOfRange)
+unfoldable pub gateOf : Layout → State → (n : ℕ) → Gate
+gateOf f s n = cond (inRange f s) (cond (eqb n (256 * s .cap)) Open (Shut WrongArea)) (Shut OutOfRange)
 
 -- "Check says yes exactly when the area is the image of r records. Otherwise 4 with the lowest
 -- broken page, or, with none broken, 9." Pages are judged from 0 upward, so a broken page a is the
@@ -31,13 +32,13 @@ abbrev pub imageOf : State → Verdict → Gate
 imageOf s (verdicts.Broken a) = Shut (Broken a (suc a))
 imageOf s (Whole image records) = cond (image && eqb records (s .r)) Open (Shut (NotImage (s .cap)))
 
-unfoldable pub imageGate : State → List ℕ → Gate
-imageGate s area = imageOf s (surveyed (homes s) area (s .cap))
+unfoldable pub imageGate : Layout → State → List ℕ → Gate
+imageGate f s area = imageOf s (surveyed f (homes s) area (s .cap))
 
 -- "Grow 1, 2, 3, 8", with an area of m bytes and a row of n counts
-abbrev pub growEntry : State → (m n : ℕ) → Gate
-growEntry s m n = onGate (gateOf s m) Shut (cond (eqb n (s .cap)) (cond (eqb (s .p) (s .cap)) (Shut AtCap) Open) (Shut WrongRow))
+abbrev pub growEntry : Layout → State → (m n : ℕ) → Gate
+growEntry f s m n = onGate (gateOf f s m) Shut (cond (eqb n (s .cap)) (cond (eqb (s .p) (s .cap)) (Shut AtCap) Open) (Shut WrongRow))
 
 -- then "4, 9"
-unfoldable pub growGate : State → List ℕ → (n : ℕ) → Gate
-growGate s area n = onGate (growEntry s (length area) n) Shut (imageGate s area)
+unfoldable pub growGate : Layout → State → List ℕ → (n : ℕ) → Gate
+growGate f s area n = onGate (growEntry f s (length area) n) Shut (imageGate f s area)

@@ -1,4 +1,5 @@
 // What a call refuses before it does anything.
+use layouts::Layout;
 use state::Answer;
 use state::State;
 use survey::Count;
@@ -19,11 +20,11 @@ pub enum Gate {
 }
 
 // The refusals that need no page: a number out of range, an area of another length.
-pub fn enter(state: State, length: usize) -> Gate
-    ensures { λ r. ⌜ r ≡ gateOf state length ⌝ }
-    ensures within { λ r. ⌜ OpenFor state length r ⌝ }
+pub fn enter(state: State, length: usize, layout: Layout) -> Gate
+    ensures { λ r. ⌜ r ≡ gateOf layout state length ⌝ }
+    ensures within { λ r. ⌜ OpenFor layout state length r ⌝ }
 {
-    if !state.in_range() {
+    if !state.in_range(layout) {
         return Gate::Shut {
             why: Answer::OutOfRange,
         };
@@ -62,15 +63,16 @@ pub fn image_of(state: State, verdict: Verdict) -> Gate
 }
 
 // Whether the area is the image of the records that the state tells of.
-pub fn image_gate(state: State, area: &[u8]) -> Gate
-    requires { ⌜ (inRange state ≡ true) × (length (now area) ≡ 256 * state .cap) ⌝ }
-    ensures { λ r. ⌜ r ≡ imageGate state (now (area .entry)) ⌝ }
+pub fn image_gate(state: State, area: &[u8], layout: Layout) -> Gate
+    requires { ⌜ (inRange layout state ≡ true) × (length (now area) ≡ 256 * state .cap) ⌝ }
+    ensures { λ r. ⌜ r ≡ imageGate layout state (now (area .entry)) ⌝ }
 {
     let shape = state.shape();
     let mut none = [0; 0];
     let verdict = survey::survey(
         area,
         state.cap as usize,
+        layout,
         shape,
         Count::Nothing,
         &mut none[..],
@@ -79,11 +81,11 @@ pub fn image_gate(state: State, area: &[u8]) -> Gate
 }
 
 // What a growth refuses before it looks at a page, with an area of m bytes and a row of n counts.
-pub fn grow_entry(state: State, m: usize, n: usize) -> Gate
-    ensures { λ r. ⌜ r ≡ growEntry state m n ⌝ }
-    ensures within { λ r. ⌜ EnteredToGrow state m n r ⌝ }
+pub fn grow_entry(state: State, m: usize, n: usize, layout: Layout) -> Gate
+    ensures { λ r. ⌜ r ≡ growEntry layout state m n ⌝ }
+    ensures within { λ r. ⌜ EnteredToGrow layout state m n r ⌝ }
 {
-    let gate = enter(state, m);
+    let gate = enter(state, m, layout);
     match gate {
         Gate::Shut { why } => Gate::Shut { why },
         Gate::Open => {

@@ -1,6 +1,6 @@
 -- Where slots lie and how many there are: one line for each layout, and everything above says a
 -- layout.
-use mathlib.Core.Path.{_≡_}
+use mathlib.Core.Path.{_≡_, refl}
 use Prim.Native.Nat.{ℕ, suc, _+_, _*_, _^_, _≤_, _<_}
 use native.Mathlib.Omega.{arith}
 use Rattle.layouts.specs.declared.Layout.{Layout}
@@ -46,14 +46,10 @@ pub kind-small : (f : Layout) → kindOf f < 2 ^ 16
 kind-small Twelve = omega arith
 kind-small Ten = omega arith
 
--- the slots of one page more
-pub slots-more : (f : Layout) (n : ℕ) → slotsOn f (suc n) ≡ slotsOf f + slotsOn f n
-slots-more Twelve n = omega arith
-slots-more Ten n = omega arith
-
-pub slots-none : (f : Layout) → slotsOn f 0 ≡ 0
-slots-none Twelve = omega arith
-slots-none Ten = omega arith
+-- the slots of some pages are those of one, so many times
+pub slots-times : (f : Layout) (n : ℕ) → slotsOn f n ≡ slotsOf f * n
+slots-times Twelve n = refl
+slots-times Ten n = refl
 
 -- no more than twelve to a page
 pub slots-bound : (f : Layout) (n : ℕ) → slotsOn f n ≤ 12 * n

@@ -5,6 +5,7 @@ use mathlib.Core.List.{List, []}
 use Prim.Native.Nat.{ℕ, _*_, _≤_, _<_}
 use native.Mathlib.Omega.{arith}
 use lib.ListN.{length, replicate}
+use Rattle.layouts.specs.Layout.{inUse}
 use Rattle.homes.specs.declared.Params.{Params}
 use Rattle.homes.specs.Homes.{firstPages}
 use Rattle.pages.specs.Area.{areaFrom}
@@ -29,57 +30,57 @@ abbrev pub Grows : Done → List ℕ → List ℕ → Growth → Type 0
 Grows d area row o = (d ≡ o .done) × ((area ≡ o .area) × (row ≡ o .row))
 
 -- more pages than 16 bits count are out of range
-wide-range : (q : Params) (cap : ℕ) → 65535 < firstPages q → cap < 65536 → inRange (fresh q cap) ≡ false
-wide-range q cap w l = go (inRange (fresh q cap)) refl
+wide-range : (q : Params) (cap : ℕ) → 65535 < firstPages q → cap < 65536 → inRange inUse (fresh q cap) ≡ false
+wide-range q cap w l = go (inRange inUse (fresh q cap)) refl
   where
-    go : (u : Bool) → inRange (fresh q cap) ≡ u → u ≡ false
+    go : (u : Bool) → inRange inUse (fresh q cap) ≡ u → u ≡ false
     go false e = refl
-    go true e = absurd (let r : Ranged (fresh q cap) = ranged (fresh q cap) e in omega (arith, r .p-high))
+    go true e = absurd (let r : Ranged inUse (fresh q cap) = ranged inUse (fresh q cap) e in omega (arith, r .p-high))
 
 -- past its gate a format has pages to clear
-pub fresh-fits : (q : Params) (cap n : ℕ) (f : State) → f ≡ fresh q cap → inRange f ≡ true → n ≡ 256 * f .cap → (cap ≤ 4096) × (n ≡ 256 * cap)
+pub fresh-fits : (q : Params) (cap n : ℕ) (f : State) → f ≡ fresh q cap → inRange inUse f ≡ true → n ≡ 256 * f .cap → (cap ≤ 4096) × (n ≡ 256 * cap)
 fresh-fits q cap n f k e l =
-    let r : Ranged f = ranged f e in
+    let r : Ranged inUse f = ranged inUse f e in
     let c : f .cap ≡ cap = rw k in
     (omega arith, omega arith)
 
 module _ (old : State) (q : Params) (cap : ℕ) (area : List ℕ) where
   -- a refused format gives back the old state and the old area
-  pub format-shut : (f : State) → f ≡ fresh q cap → (g : Gate) → g ≡ gateOf f (length area) → (why : Answer) → g ≡ Shut why
-      → Comes (done old why) area (formatted old q cap area)
+  pub format-shut : (f : State) → f ≡ fresh q cap → (g : Gate) → g ≡ gateOf inUse f (length area) → (why : Answer) → g ≡ Shut why
+      → Comes (done old why) area (formatted inUse old q cap area)
   format-shut f k g gate why e = rw (← k, ← gate, e) (refl, refl)
 
-  pub format-wide : 65535 < firstPages q → cap < 65536 → Comes (done old OutOfRange) area (formatted old q cap area)
+  pub format-wide : 65535 < firstPages q → cap < 65536 → Comes (done old OutOfRange) area (formatted inUse old q cap area)
   format-wide w l =
-      format-shut (fresh q cap) refl (gateOf (fresh q cap) (length area)) refl OutOfRange (sym (range-shut (fresh q cap) (length area) (wide-range q cap w l)))
+      format-shut (fresh q cap) refl (gateOf inUse (fresh q cap) (length area)) refl OutOfRange (sym (range-shut inUse (fresh q cap) (length area) (wide-range q cap w l)))
 
-  pub format-open : (f : State) → f ≡ fresh q cap → (g : Gate) → g ≡ gateOf f (length area) → g ≡ Open → (new : List ℕ) → new ≡ areaFrom 0 (replicate cap [])
-      → Comes (done f (Accepted 0 0 0)) new (formatted old q cap area)
+  pub format-open : (f : State) → f ≡ fresh q cap → (g : Gate) → g ≡ gateOf inUse f (length area) → g ≡ Open → (new : List ℕ) → new ≡ areaFrom inUse 0 (replicate cap [])
+      → Comes (done f (Accepted 0 0 0)) new (formatted inUse old q cap area)
   format-open f k g gate e new n = rw (← k, ← gate, e) (refl, n)
 
-module _ (s : State) (area : List ℕ) (g : Gate) (gate : g ≡ gateOf s (length area)) where
-  pub check-shut : (why : Answer) → g ≡ Shut why → done s why ≡ checked s area
+module _ (s : State) (area : List ℕ) (g : Gate) (gate : g ≡ gateOf inUse s (length area)) where
+  pub check-shut : (why : Answer) → g ≡ Shut why → done s why ≡ checked inUse s area
   check-shut why e = rw (← gate, e)
 
-  module _ (e : g ≡ Open) (i : Gate) (image : i ≡ imageGate s area) where
-    pub check-no : (why : Answer) → i ≡ Shut why → done s why ≡ checked s area
+  module _ (e : g ≡ Open) (i : Gate) (image : i ≡ imageGate inUse s area) where
+    pub check-no : (why : Answer) → i ≡ Shut why → done s why ≡ checked inUse s area
     check-no why k = rw (← gate, e, ← image, k)
 
-    pub check-yes : i ≡ Open → done s (Accepted 0 (s .cap) 0) ≡ checked s area
+    pub check-yes : i ≡ Open → done s (Accepted 0 (s .cap) 0) ≡ checked inUse s area
     check-yes k = rw (← gate, e, ← image, k)
 
-module _ (s : State) (area row : List ℕ) (g : Gate) (gate : g ≡ growEntry s (length area) (length row)) where
-  pub grew-shut : (why : Answer) → g ≡ Shut why → Grows (done s why) area row (grew s area row)
+module _ (s : State) (area row : List ℕ) (g : Gate) (gate : g ≡ growEntry inUse s (length area) (length row)) where
+  pub grew-shut : (why : Answer) → g ≡ Shut why → Grows (done s why) area row (grew inUse s area row)
   unfolding growGate
   grew-shut why e = rw (← gate, e) (refl, (refl, refl))
 
-  pub grew-open : g ≡ Open → (d : Done) (new filled : List ℕ) → Grows d new filled (grewEntered s area row) → Grows d new filled (grew s area row)
+  pub grew-open : g ≡ Open → (d : Done) (new filled : List ℕ) → Grows d new filled (grewEntered s area row) → Grows d new filled (grew inUse s area row)
   unfolding growGate
   grew-open e d new filled k = rw (← gate, e) k
 
-module _ (s : State) (area row : List ℕ) (g : Gate) (gate : g ≡ imageGate s area) where
+module _ (s : State) (area row : List ℕ) (g : Gate) (gate : g ≡ imageGate inUse s area) where
   pub entered-shut : (why : Answer) → g ≡ Shut why → Grows (done s why) area row (grewEntered s area row)
   entered-shut why e = rw (← gate, e) (refl, (refl, refl))
 
-  pub entered-open : g ≡ Open → (d : Done) (new filled : List ℕ) → Grows d new filled (grownFile s area) → Grows d new filled (grewEntered s area row)
+  pub entered-open : g ≡ Open → (d : Done) (new filled : List ℕ) → Grows d new filled (grownFile inUse s area) → Grows d new filled (grewEntered s area row)
   entered-open e d new filled k = rw (← gate, e) k

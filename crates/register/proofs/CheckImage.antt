@@ -9,6 +9,8 @@ use native.Mathlib.Omega.{arith}
 use lib.Dec.{eqb}
 use lib.ListN.{length}
 use Rattle.numbers.specs.Little.{Bytes}
+use Rattle.layouts.specs.Layout.{slotsOf}
+use Rattle.layouts.specs.declared.Layout.{Layout}
 use Rattle.placing.specs.Image.{cat, Image}
 use Rattle.placing.proofs.Perms.{perm-length}
 use Rattle.pages.proofs.Areas.{area-pages, held-length}
@@ -31,15 +33,15 @@ use Rattle.gates.proofs.Gating.{gate-open}
 use Rattle.gates.proofs.Judging.{GoodFile, open-good, good-open}
 
 -- an image of records is that of the records that stand on it
-of-own : {h : ℕ → ℕ} {n : ℕ} {rs : List Record} {ps : List (List Record)} → Image key h 12 n rs ps → Image key h 12 n (cat ps []) ps
+of-own : {b : ℕ} {h : ℕ → ℕ} {n : ℕ} {rs : List Record} {ps : List (List Record)} → Image key h b n rs ps → Image key h b n (cat ps []) ps
 of-own {ps = ps} i =
     let a = i .arranged in
     record { arranged = record { many = a .many; slots = a .slots; lies = a .lies; holds = Permᴰ·refl (cat ps []) }; full = i .full; rising = i .rising }
 
 -- a gate that is shut says why not
-only-open : (s : State) (area : List ℕ) → onGate (imageGate s area) (done s) (done s (Accepted 0 (s .cap) 0)) .answer ≡ Accepted 0 (s .cap) 0 → imageGate s area ≡ Open
+only-open : (form : Layout) (s : State) (area : List ℕ) → onGate (imageGate form s area) (done s) (done s (Accepted 0 (s .cap) 0)) .answer ≡ Accepted 0 (s .cap) 0 → imageGate form s area ≡ Open
 unfolding imageGate
-only-open s area e = go (surveyed (homes s) area (s .cap)) e
+only-open form s area e = go (surveyed form (homes s) area (s .cap)) e
   where
     tests : (u : Bool) → onGate (cond u Open (Shut (NotImage (s .cap)))) (done s) (done s (Accepted 0 (s .cap) 0)) .answer ≡ Accepted 0 (s .cap) 0
         → cond u Open (Shut (NotImage (s .cap))) ≡ Open
@@ -50,48 +52,48 @@ only-open s area e = go (surveyed (homes s) area (s .cap)) e
     go (verdicts.Broken a) k = absurd (let z : _≡_ {A = ℕ} 0 1 = cc in omega arith)
     go (Whole image records) k = tests (image && eqb records (s .r)) k
 
-module _ (s : State) (area : List ℕ) (b : Bytes area) (l : length area ≡ 256 * s .cap) where
-  good : lowestBroken 0 (pagesFrom (homes s) area (s .cap) 0) ≡ none → GoodFrom (homes s) 0 (heldFrom area (s .cap) 0)
-  good e = good-pages (homes s) area b (s .cap) 0 (omega arith) e
+module _ (form : Layout) (s : State) (area : List ℕ) (b : Bytes area) (l : length area ≡ 256 * s .cap) where
+  good : lowestBroken 0 (pagesFrom form (homes s) area (s .cap) 0) ≡ none → GoodFrom form (homes s) 0 (heldFrom form area (s .cap) 0)
+  good e = good-pages form (homes s) area b (s .cap) 0 (omega arith) e
 
   -- what opens the gate is 01's image, and the other way round
-  good-image : GoodFile s area → ImageOfR s area
+  good-image : GoodFile form s area → ImageOfR form s area
   good-image k =
-      let ps : List (List Record) = heldFrom area (s .cap) 0 in
-      let g : GoodFrom (homes s) 0 ps = good (k .whole) in
+      let ps : List (List Record) = heldFrom form area (s .cap) 0 in
+      let g : GoodFrom form (homes s) 0 ps = good (k .whole) in
       record {
         records = cat ps [];
-        set = image-set (homes s) ps (k .image) g;
+        set = image-set form (homes s) ps (k .image) g;
         count = k .count;
         is = record {
           pages = ps;
-          bytes = area-pages (homes s) area (s .cap) ps b l (none-broken (homes s) area (s .cap) 0 (k .whole));
-          pass = none-broken (homes s) area (s .cap) 0 (k .whole);
-          image = image-test (homes s) ps (s .cap) (held-length area (s .cap) 0) g .0 (k .image);
+          bytes = area-pages form (homes s) area (s .cap) ps b l (none-broken form (homes s) area (s .cap) 0 (k .whole));
+          pass = none-broken form (homes s) area (s .cap) 0 (k .whole);
+          image = image-test form (homes s) ps (s .cap) (held-length form area (s .cap) 0) g .0 (k .image);
         };
       }
 
-  pub image-good : ImageOfR s area → GoodFile s area
+  pub image-good : ImageOfR form s area → GoodFile form s area
   image-good w =
-      let ps : List (List Record) = heldFrom area (s .cap) 0 in
-      let i : AreaImage s area (w .records) = w .is in
-      let k = all-pass (homes s) area (s .cap) (i .pages) (i .pass) in
-      let m : Image key (homes s) 12 (s .cap) (w .records) ps = rw (k .1) at (i .image) in
+      let ps : List (List Record) = heldFrom form area (s .cap) 0 in
+      let i : AreaImage form s area (w .records) = w .is in
+      let k = all-pass form (homes s) area (s .cap) (i .pages) (i .pass) in
+      let m : Image key (homes s) (slotsOf form) (s .cap) (w .records) ps = rw (k .1) at (i .image) in
       record {
         whole = k .0;
-        image = image-test (homes s) ps (s .cap) (held-length area (s .cap) 0) (good (k .0)) .1 (of-own m);
+        image = image-test form (homes s) ps (s .cap) (held-length form area (s .cap) 0) (good (k .0)) .1 (of-own m);
         count = perm-length (m .arranged .holds) ∙ w .count;
       }
 
   -- "Check says yes exactly when the area is the image of r records."
-  pub check-image : inRange s ≡ true → (checked s area .answer ≡ Accepted 0 (s .cap) 0) ↔ ImageOfR s area
-  check-image r = (λ e. good-image (open-good s area (yes e)), λ w. says (good-open s area (image-good w)))
+  pub check-image : inRange form s ≡ true → (checked form s area .answer ≡ Accepted 0 (s .cap) 0) ↔ ImageOfR form s area
+  check-image r = (λ e. good-image (open-good form s area (yes e)), λ w. says (good-open form s area (image-good w)))
     where
-      gate : Open ≡ gateOf s (length area)
-      gate = gate-open s (length area) r l
+      gate : Open ≡ gateOf form s (length area)
+      gate = gate-open form s (length area) r l
 
-      says : imageGate s area ≡ Open → checked s area .answer ≡ Accepted 0 (s .cap) 0
+      says : imageGate form s area ≡ Open → checked form s area .answer ≡ Accepted 0 (s .cap) 0
       says e = rw (← gate, e)
 
-      yes : checked s area .answer ≡ Accepted 0 (s .cap) 0 → imageGate s area ≡ Open
-      yes e = only-open s area (rw (← gate) at e)
+      yes : checked form s area .answer ≡ Accepted 0 (s .cap) 0 → imageGate form s area ≡ Open
+      yes e = only-open form s area (rw (← gate) at e)

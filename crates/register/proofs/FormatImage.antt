@@ -6,6 +6,8 @@ use Prim.Native.Nat.{ℕ, zero, suc, _*_}
 use native.Mathlib.Omega.{arith}
 use lib.Dec.{eqb}
 use lib.ListN.{length, replicate, length-replicate}
+use Rattle.layouts.specs.Layout.{slotsOf}
+use Rattle.layouts.specs.declared.Layout.{Layout}
 use Rattle.homes.specs.declared.Params.{Params}
 use Rattle.placing.specs.Image.{cat, page, Image}
 use Rattle.pages.specs.Page.{Record, key}
@@ -42,21 +44,21 @@ blank-image b h n =
       rising = rw (blank-cat n) tt;
     }
 
-blank-stands : (q : Params) (cap : ℕ) → inRange (fresh q cap) ≡ true → OnImage (fresh q cap) [] (replicate cap [])
-blank-stands q cap r = record { range = r; set = record { keys = tt; once = tt }; values = tt; count = refl; image = blank-image 12 (homes (fresh q cap)) cap }
+blank-stands : (form : Layout) (q : Params) (cap : ℕ) → inRange form (fresh q cap) ≡ true → OnImage form (fresh q cap) [] (replicate cap [])
+blank-stands form q cap r = record { range = r; set = record { keys = tt; once = tt }; formed = tt; count = refl; image = blank-image (slotsOf form) (homes (fresh q cap)) cap }
 
 -- what a format comes to: it begins a file, or is refused with 1 or 2
 pub data Begins (f : File) (q : Params) (cap : ℕ) (l : Left) : Type 0 where
-  began : l ≡ leaves (done (fresh q cap) (Accepted 0 0 0)) (areaFrom 0 (replicate cap [])) [] → OnImage (fresh q cap) [] (replicate cap []) → Begins f q cap l
-  outside : l ≡ leaves (done (f .state) OutOfRange) (f .area) [] → Begins f q cap l
-  elsewhere : l ≡ leaves (done (f .state) WrongArea) (f .area) [] → Begins f q cap l
+  began : l ≡ leaves (f .layout) (done (fresh q cap) (Accepted 0 0 0)) (areaFrom (f .layout) 0 (replicate cap [])) [] → OnImage (f .layout) (fresh q cap) [] (replicate cap []) → Begins f q cap l
+  outside : l ≡ leaves (f .layout) (done (f .state) OutOfRange) (f .area) [] → Begins f q cap l
+  elsewhere : l ≡ leaves (f .layout) (done (f .state) WrongArea) (f .area) [] → Begins f q cap l
 
 pub format-begins : (f : File) (q : Params) (cap : ℕ) → Begins f q cap (left f (format q cap))
 unfolding left gateOf
-format-begins f q cap = go (inRange (fresh q cap)) (eqb (length (f .area)) (256 * cap)) refl
+format-begins f q cap = go (inRange (f .layout) (fresh q cap)) (eqb (length (f .area)) (256 * cap)) refl
   where
-    go : (u v : Bool) → inRange (fresh q cap) ≡ u
-        → Begins f q cap (ofOutcome (onGate (cond u (cond v Open (Shut WrongArea)) (Shut OutOfRange)) (refused (f .state) (f .area)) (record { done = done (fresh q cap) (Accepted 0 0 0); area = areaFrom 0 (replicate cap []) })))
-    go true true e = began refl (blank-stands q cap e)
+    go : (u v : Bool) → inRange (f .layout) (fresh q cap) ≡ u
+        → Begins f q cap (ofOutcome (f .layout) (onGate (cond u (cond v Open (Shut WrongArea)) (Shut OutOfRange)) (refused (f .state) (f .area)) (record { done = done (fresh q cap) (Accepted 0 0 0); area = areaFrom (f .layout) 0 (replicate cap []) })))
+    go true true e = began refl (blank-stands (f .layout) q cap e)
     go true false e = elsewhere refl
     go false v e = outside refl

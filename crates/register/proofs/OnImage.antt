@@ -5,9 +5,12 @@ use mathlib.Core.List.{List}
 use Prim.Native.Nat.{ℕ, _*_, _^_, _≤_, _<_}
 use native.Mathlib.Omega.{arith}
 use lib.ListN.{length}
+use Rattle.layouts.specs.Layout.{slotsOf}
+use Rattle.layouts.specs.declared.Layout.{Layout}
+use Rattle.pages.specs.Small.{Small}
 use Rattle.homes.proofs.Homes.{home-below}
 use Rattle.placing.specs.Image.{All, RecordSet, Image}
-use Rattle.pages.specs.Page.{Record, key, value}
+use Rattle.pages.specs.Page.{Record, key}
 use Rattle.pages.specs.Area.{areaFrom}
 use Rattle.pages.proofs.Areas.{area-length}
 use Rattle.state.specs.declared.State.{State}
@@ -20,47 +23,47 @@ use Rattle.gates.specs.Gates.{gateOf}
 use Rattle.gates.proofs.Gating.{gate-open}
 use Rattle.changes.specs.Changes.{done}
 use Rattle.walks.proofs.Clean.{Clean, InOrder, image-order, image-clean}
-use Rattle.register.specs.Files.{Call, leaves, fileOf, left}
+use Rattle.register.specs.Files.{Call, leaves, fileIn, left}
 
 -- a state in range, and pages that are the image of as many records as it tells
-pub record OnImage (s : State) (rs : List Record) (ps : List (List Record)) : Type 0 where
-  pub range : inRange s ≡ true
+pub record OnImage (form : Layout) (s : State) (rs : List Record) (ps : List (List Record)) : Type 0 where
+  pub range : inRange form s ≡ true
   pub set : RecordSet key rs
-  pub values : All (λ x. value x < 2 ^ 64) rs
+  pub formed : All (Small form) rs
   pub count : length rs ≡ s .r
-  pub image : Image key (homes s) 12 (s .cap) rs ps
+  pub image : Image key (homes s) (slotsOf form) (s .cap) rs ps
 
-module _ {s : State} {rs : List Record} {ps : List (List Record)} (w : OnImage s rs ps) where
+module _ {form : Layout} {s : State} {rs : List Record} {ps : List (List Record)} (w : OnImage form s rs ps) where
   -- its pages are read back
-  pub on-clean : Clean (homes s) (s .cap) ps
-  on-clean = image-clean (w .set) (ranged s (w .range) .cap-high) (w .values) (w .image)
+  pub on-clean : Clean form (homes s) (s .cap) ps
+  on-clean = image-clean (w .set) (ranged form s (w .range) .cap-high) (w .formed) (w .image)
 
   -- as many as are lent
-  pub on-length : length (areaFrom 0 ps) ≡ 256 * s .cap
-  on-length = area-length 0 ps ∙ ap (λ (n : ℕ). 256 * n) (on-clean .many)
+  pub on-length : length (areaFrom form 0 ps) ≡ 256 * s .cap
+  on-length = area-length form 0 ps ∙ ap (λ (n : ℕ). 256 * n) (on-clean .many)
 
   -- so no call refuses it before it looks at a page
-  pub on-gate : Open ≡ gateOf s (length (areaFrom 0 ps))
-  on-gate = gate-open s (length (areaFrom 0 ps)) (w .range) on-length
+  pub on-gate : Open ≡ gateOf form s (length (areaFrom form 0 ps))
+  on-gate = gate-open form s (length (areaFrom form 0 ps)) (w .range) on-length
 
   -- and a home is one of its pages
   pub home-low : (k : ℕ) → homes s k ≤ s .cap
-  home-low k = omega (arith, home-below (s .params) (s .p) k (in-shape s (w .range)), ranged s (w .range) .p-high)
+  home-low k = omega (arith, home-below (s .params) (s .p) k (in-shape form s (w .range)), ranged form s (w .range) .p-high)
 
-  -- its records stand in order, no request twice, and twelve to a page
-  pub on-order : InOrder 12 (homes s) ps
+  -- its records stand in order, no request twice, no more to a page than it has slots
+  pub on-order : InOrder (slotsOf form) (homes s) ps
   on-order = image-order (w .set) (w .image)
 
 -- a call is refused and leaves the file, with some row
-abbrev pub Refused : State → List (List Record) → Call → Answer → (row : List ℕ) → Type 0
-Refused s ps c why row = left (fileOf s (areaFrom 0 ps)) c ≡ leaves (done s why) (areaFrom 0 ps) row
+abbrev pub Refused : Layout → State → List (List Record) → Call → Answer → (row : List ℕ) → Type 0
+Refused form s ps c why row = left (fileIn form s (areaFrom form 0 ps)) c ≡ leaves form (done s why) (areaFrom form 0 ps) row
 
 -- a call is accepted with this value, and leaves a file that is the image of the records rs; `far`
 -- tells how many of a file's records lie on another page than before
-pub record Accepts (s : State) (ps : List (List Record)) (c : Call) (v : ℕ) (row : List ℕ) (new : State) (rs : List Record) (far : List (List Record) → ℕ) : Type 0 where
+pub record Accepts (form : Layout) (s : State) (ps : List (List Record)) (c : Call) (v : ℕ) (row : List ℕ) (new : State) (rs : List Record) (far : List (List Record) → ℕ) : Type 0 where
   pub read : ℕ
   pub moved : ℕ
   pub pages : List (List Record)
-  pub left : left (fileOf s (areaFrom 0 ps)) c ≡ leaves (done new (Accepted v read moved)) (areaFrom 0 pages) row
-  pub stands : OnImage new rs pages
+  pub left : left (fileIn form s (areaFrom form 0 ps)) c ≡ leaves form (done new (Accepted v read moved)) (areaFrom form 0 pages) row
+  pub stands : OnImage form new rs pages
   pub moves : moved ≡ far pages

@@ -2,6 +2,8 @@
 use mathlib.Core.Path.{_≡_, sym, ap, _∙_}
 use mathlib.Core.List.{List, List·Permᴰ}
 use Prim.Native.Nat.{ℕ}
+use Rattle.layouts.specs.Layout.{slotsOf}
+use Rattle.layouts.specs.declared.Layout.{Layout}
 use Rattle.placing.specs.Image.{RecordSet}
 use Rattle.placing.proofs.Images.{one-image}
 use Rattle.pages.specs.Page.{Record, key}
@@ -14,8 +16,8 @@ use Rattle.register.proofs.CheckImage.{check-image}
 use Rattle.register.proofs.Growing.{row-arranges}
 
 -- two areas that are the image of one set have the same pages, and so the same bytes
-one-area : (s : State) (a b : List ℕ) (rs ts : List Record) → RecordSet key rs → List·Permᴰ rs ts → AreaImage s a rs → AreaImage s b ts → a ≡ b
-one-area s a b rs ts f p i j = i .bytes ∙ ap (areaFrom 0) (one-image key (homes s) 12 f p (i .image) (j .image)) ∙ sym (j .bytes)
+one-area : (form : Layout) (s : State) (a b : List ℕ) (rs ts : List Record) → RecordSet key rs → List·Permᴰ rs ts → AreaImage form s a rs → AreaImage form s b ts → a ≡ b
+one-area form s a b rs ts f p i j = i .bytes ∙ ap (areaFrom form 0) (one-image key (homes s) (slotsOf form) f p (i .image) (j .image)) ∙ sym (j .bytes)
 
 pub register-promises : RegisterPromises
-register-promises = record { check-yes = check-image; one-image = one-area; row-decides = λ s area range low. row-arranges s range low area }
+register-promises = record { check-yes = check-image; one-image = one-area; row-decides = λ form s area range low. row-arranges form s range low area }

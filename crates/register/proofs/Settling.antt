@@ -4,6 +4,7 @@ use mathlib.Core.List.{List}
 use Prim.Native.Nat.{ℕ, _≤_}
 use native.Mathlib.Omega.{arith}
 use lib.ListN.{length}
+use Rattle.layouts.specs.Layout.{inUse}
 use Rattle.homes.specs.declared.Shape.{Shape}
 use Rattle.homes.specs.Homes.{shapeOf, homeIn}
 use Rattle.pages.specs.Page.{Record}
@@ -31,22 +32,22 @@ met-low lent (Ends a i c n) l w = (omega arith, w .1, w .2, w .3, w .4)
 met-low lent (mets.AtEnd n) l w = omega arith
 
 -- the gate of a call
-module _ (s : State) (area : List ℕ) (g : Gate) (gate : g ≡ gateOf s (length area)) where
+module _ (s : State) (area : List ℕ) (g : Gate) (gate : g ≡ gateOf inUse s (length area)) where
   module _ (why : Answer) (e : g ≡ Shut why) where
-    pub find-shut : (k : ℕ) → done s why ≡ found s area k
+    pub find-shut : (k : ℕ) → done s why ≡ found inUse s area k
     find-shut k = rw (← gate, e)
 
-    pub put-shut : (x : Record) → Comes (done s why) area (stored s area x)
+    pub put-shut : (x : Record) → Comes (done s why) area (stored inUse s area x)
     put-shut x = rw (← gate, e) (refl, refl)
 
-    pub remove-shut : (k : ℕ) → Comes (done s why) area (removed s area k)
+    pub remove-shut : (k : ℕ) → Comes (done s why) area (removed inUse s area k)
     remove-shut k = rw (← gate, e) (refl, refl)
 
   module _ (e : g ≡ Open) where
-    pub put-past : (x : Record) (d : Done) (new : List ℕ) → Comes d new (putOpen s area x) → Comes d new (stored s area x)
+    pub put-past : (x : Record) (d : Done) (new : List ℕ) → Comes d new (putOpen inUse s area x) → Comes d new (stored inUse s area x)
     put-past x d new w = rw (← gate, e) w
 
-    pub remove-past : (k : ℕ) (d : Done) (new : List ℕ) → Comes d new (removeOpen s area k) → Comes d new (removed s area k)
+    pub remove-past : (k : ℕ) (d : Done) (new : List ℕ) → Comes d new (removeOpen inUse s area k) → Comes d new (removed inUse s area k)
     remove-past k d new w = rw (← gate, e) w
 
 -- a call past its gate, with the shape of its state
@@ -55,6 +56,6 @@ module _ (s : State) (shape : Shape) (is : shape ≡ shapeOf (s .params) (s .p))
   pub home-stated : (k a : ℕ) → a ≡ homeIn shape k → a ≡ homes s k
   home-stated k a e = e ∙ rw is
 
-  pub find-open : (area : List ℕ) (k : ℕ) (g : Gate) → g ≡ gateOf s (length area) → g ≡ Open → (m : Met) → m ≡ walk (homeIn shape) area (s .cap) k → (a : Answer)
-      → a ≡ findAnswer m → done s a ≡ found s area k
+  pub find-open : (area : List ℕ) (k : ℕ) (g : Gate) → g ≡ gateOf inUse s (length area) → g ≡ Open → (m : Met) → m ≡ walk inUse (homeIn shape) area (s .cap) k → (a : Answer)
+      → a ≡ findAnswer m → done s a ≡ found inUse s area k
   find-open area k g gate e m w a t = rw (← gate, e, t, w, is)

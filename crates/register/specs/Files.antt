@@ -3,6 +3,8 @@
 use Prim.Native.Nat.{ℕ}
 use mathlib.Core.Bool.{Bool}
 use mathlib.Core.List.{List, [], _∷_}
+use Rattle.layouts.specs.declared.Layout.{Layout}
+use Rattle.layouts.specs.Layout.{inUse}
 use Rattle.homes.specs.declared.Params.{Params}
 use Rattle.pages.specs.Page.{Record}
 use Rattle.state.specs.declared.State.{State}
@@ -25,13 +27,18 @@ pub data Call : Type 0 where
   check : Call
   due : Call
 
--- "A file is a lent area of pages and a small state."
+-- "A file is a lent area of pages and a small state.": the pages are in one layout
 pub record File : Type 0 where
+  pub layout : Layout
   pub state : State
   pub area : List ℕ
 
+abbrev pub fileIn : Layout → State → (area : List ℕ) → File
+fileIn f s area = record { layout = f; state = s; area = area }
+
+-- one in the layout in use
 abbrev pub fileOf : State → (area : List ℕ) → File
-fileOf s area = record { state = s; area = area }
+fileOf s area = fileIn inUse s area
 
 -- what a call says: an answer or, where it was asked whether growth is due, yes or no
 pub data Said : Type 0 where
@@ -45,25 +52,25 @@ pub record Left : Type 0 where
   pub file : File
   pub row : List ℕ
 
--- where the area is left as `area`
-abbrev pub leaves : Done → (area row : List ℕ) → Left
-leaves d area row = record { said = answers (d .answer); file = fileOf (d .state) area; row = row }
+-- where the area is left as `area`, in the layout f
+abbrev pub leaves : Layout → Done → (area row : List ℕ) → Left
+leaves f d area row = record { said = answers (d .answer); file = fileIn f (d .state) area; row = row }
 
-abbrev pub ofOutcome : Outcome → Left
-ofOutcome o = leaves (o .done) (o .area) []
+abbrev pub ofOutcome : Layout → Outcome → Left
+ofOutcome f o = leaves f (o .done) (o .area) []
 
-abbrev pub ofGrowth : Growth → Left
-ofGrowth g = leaves (g .done) (g .area) (g .row)
+abbrev pub ofGrowth : Layout → Growth → Left
+ofGrowth f g = leaves f (g .done) (g .area) (g .row)
 
 -- a call on a file, by the definition that its contract names
 unfoldable pub left : File → Call → Left
-left f (format q cap) = ofOutcome (formatted (f .state) q cap (f .area))
-left f (find k) = leaves (found (f .state) (f .area) k) (f .area) []
-left f (put x) = ofOutcome (stored (f .state) (f .area) x)
-left f (remove k) = ofOutcome (removed (f .state) (f .area) k)
-left f (grow row) = ofGrowth (grew (f .state) (f .area) row)
-left f check = leaves (checked (f .state) (f .area)) (f .area) []
-left f due = record { said = says (isDue (f .state)); file = f; row = [] }
+left f (format q cap) = ofOutcome (f .layout) (formatted (f .layout) (f .state) q cap (f .area))
+left f (find k) = leaves (f .layout) (found (f .layout) (f .state) (f .area) k) (f .area) []
+left f (put x) = ofOutcome (f .layout) (stored (f .layout) (f .state) (f .area) x)
+left f (remove k) = ofOutcome (f .layout) (removed (f .layout) (f .state) (f .area) k)
+left f (grow row) = ofGrowth (f .layout) (grew (f .layout) (f .state) (f .area) row)
+left f check = leaves (f .layout) (checked (f .layout) (f .state) (f .area)) (f .area) []
+left f due = record { said = says (isDue (f .layout) (f .state)); file = f; row = [] }
 
 -- demands 2 and 3: "each call given the pages and state that the last one left"
 unfoldable pub after : File → List Call → File

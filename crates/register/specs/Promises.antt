@@ -7,6 +7,8 @@ use mathlib.Core.Logic.{_↔_}
 use mathlib.Core.List.{List, [], List·Permᴰ}
 use lib.ListN.{length}
 use Rattle.numbers.specs.Little.{Bytes}
+use Rattle.layouts.specs.declared.Layout.{Layout}
+use Rattle.layouts.specs.Layout.{slotsOf}
 use Rattle.placing.specs.Image.{cat, RecordSet, Room}
 use Rattle.placing.specs.Rows.{leftOver}
 use Rattle.pages.specs.Page.{Record, key}
@@ -17,16 +19,16 @@ use Rattle.state.specs.declared.Answer.the-variants.{Accepted}
 use Rattle.register.specs.Calls.{checked, grownCounts}
 use Rattle.register.specs.OneImage.{AreaImage, ImageOfR}
 
--- What is promised, and proved as `register-promises` (proofs/Promises.antt)
+-- What is promised, and proved as `register-promises` (proofs/Promises.antt), for any layout
 pub record RegisterPromises : Type 0 where
   -- "Check says yes exactly when the area is the image of r records.": of a state in range and an
   -- area of its length, and else it is refused with 1 or 2
-  pub check-yes : (s : State) (area : List ℕ) → Bytes area → length area ≡ 256 * s .cap → inRange s ≡ true
-      → (checked s area .answer ≡ Accepted 0 (s .cap) 0) ↔ ImageOfR s area
+  pub check-yes : (f : Layout) (s : State) (area : List ℕ) → Bytes area → length area ≡ 256 * s .cap → inRange f s ≡ true
+      → (checked f s area .answer ≡ Accepted 0 (s .cap) 0) ↔ ImageOfR f s area
   -- "At most one image exists.": to the byte, whatever order the records are told in
-  pub one-image : (s : State) (a b : List ℕ) (rs ts : List Record) → RecordSet key rs → List·Permᴰ rs ts → AreaImage s a rs → AreaImage s b ts → a ≡ b
+  pub one-image : (f : Layout) (s : State) (a b : List ℕ) (rs ts : List Record) → RecordSet key rs → List·Permᴰ rs ts → AreaImage f s a rs → AreaImage f s b ts → a ≡ b
   -- A "row of 32-bit counts .. used to decide whether growth has room": of a file that may grow,
   -- the counts leave no record over exactly when there is an arrangement at size P + 1
-  pub row-decides : (s : State) (area : List ℕ) → inRange s ≡ true → s .p < s .cap
-      → let held = cat (heldFrom area (s .cap) 0) [] in
-      RecordSet key held → (leftOver 12 (grownCounts s area) 0 ≡ 0) ↔ Room key (homes (grown s)) 12 (s .cap) held
+  pub row-decides : (f : Layout) (s : State) (area : List ℕ) → inRange f s ≡ true → s .p < s .cap
+      → let held = cat (heldFrom f area (s .cap) 0) [] in
+      RecordSet key held → (leftOver (slotsOf f) (grownCounts f s area) 0 ≡ 0) ↔ Room key (homes (grown s)) (slotsOf f) (s .cap) held

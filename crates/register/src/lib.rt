@@ -4,6 +4,7 @@ mod growth;
 
 use gates::Gate;
 use homes::Params;
+use layouts::IN_USE;
 use pages::Record;
 use state::Answer;
 use state::Done;
@@ -13,6 +14,7 @@ ghost use mathlib.Core.Path.{_≡_};
 ghost use mathlib.Core.List.{[]};
 ghost use Prim.Native.Nat.{_*_, _≤_};
 ghost use lib.ListN.{length, replicate};
+ghost use Rattle.layouts.specs.Layout.{inUse};
 ghost use Rattle.pages.specs.Area.{areaFrom};
 ghost use Rattle.walks.specs.Walks.{findAnswer};
 ghost use Rattle.walks.specs.steps.Plans.{metIn};
@@ -21,12 +23,12 @@ ghost use Rattle.register.specs.Calls.{formatted, found, stored, removed
 // All pages empty.
 fn clear_pages(area: &mut [u8], cap: usize)
     requires { ⌜ (cap ≤ 4096) × (length (now area) ≡ 256 * cap) ⌝ }
-    ensures { λ _. ⌜ now (area .exit) ≡ areaFrom 0 (replicate cap []) ⌝ }
+    ensures { λ _. ⌜ now (area .exit) ≡ areaFrom inUse 0 (replicate cap []) ⌝ }
 {
     let blank = pages::blank();
     let mut a = 0;
     while a < cap {
-        pages::store_at(area, a, blank);
+        pages::store_at(area, a, IN_USE, blank);
         a += 1;
     }
 }
@@ -34,7 +36,7 @@ fn clear_pages(area: &mut [u8], cap: usize)
 // An empty file, whatever was held before. It is judged on the numbers that are asked for; a
 // refused one leaves the old file and its state.
 pub fn format(state: State, params: Params, cap: u16, area: &mut [u8]) -> Done
-    ensures { λ r. let o = formatted state params cap (now (area .entry)) in ⌜ (r ≡ o .done) × (now (area .exit) ≡ o .area) ⌝ }
+    ensures { λ r. let o = formatted inUse state params cap (now (area .entry)) in ⌜ (r ≡ o .done) × (now (area .exit) ≡ o .area) ⌝ }
 {
     if 65535 < (params.n0 as u32) * (params.n as u32) {
         return Done {
@@ -43,7 +45,7 @@ pub fn format(state: State, params: Params, cap: u16, area: &mut [u8]) -> Done
         };
     }
     let fresh = State::new(params, cap);
-    let gate = gates::enter(fresh, area.len());
+    let gate = gates::enter(fresh, area.len(), IN_USE);
     match gate {
         Gate::Shut { why } => Done { state, answer: why },
         Gate::Open => {
@@ -94,9 +96,9 @@ fn find_answer(met: Met) -> Answer
 
 // The value of a key.
 pub fn find(state: State, area: &[u8], key: u64) -> Done
-    ensures { λ r. ⌜ r ≡ found state (now (area .entry)) key ⌝ }
+    ensures { λ r. ⌜ r ≡ found inUse state (now (area .entry)) key ⌝ }
 {
-    let gate = gates::enter(state, area.len());
+    let gate = gates::enter(state, area.len(), IN_USE);
     match gate {
         Gate::Shut { why } => Done { state, answer: why },
         Gate::Open => {
@@ -110,9 +112,9 @@ pub fn find(state: State, area: &[u8], key: u64) -> Done
 
 // A record more, unless its key is held.
 pub fn put(state: State, area: &mut [u8], new: Record) -> Done
-    ensures { λ r. let o = stored state (now (area .entry)) new in ⌜ (r ≡ o .done) × (now (area .exit) ≡ o .area) ⌝ }
+    ensures { λ r. let o = stored inUse state (now (area .entry)) new in ⌜ (r ≡ o .done) × (now (area .exit) ≡ o .area) ⌝ }
 {
-    let gate = gates::enter(state, area.len());
+    let gate = gates::enter(state, area.len(), IN_USE);
     match gate {
         Gate::Shut { why } => Done { state, answer: why },
         Gate::Open => {
@@ -125,9 +127,9 @@ pub fn put(state: State, area: &mut [u8], new: Record) -> Done
 
 // A record less.
 pub fn remove(state: State, area: &mut [u8], key: u64) -> Done
-    ensures { λ r. let o = removed state (now (area .entry)) key in ⌜ (r ≡ o .done) × (now (area .exit) ≡ o .area) ⌝ }
+    ensures { λ r. let o = removed inUse state (now (area .entry)) key in ⌜ (r ≡ o .done) × (now (area .exit) ≡ o .area) ⌝ }
 {
-    let gate = gates::enter(state, area.len());
+    let gate = gates::enter(state, area.len(), IN_USE);
     match gate {
         Gate::Shut { why } => Done { state, answer: why },
         Gate::Open => changes::remove_open(state, area, key),
@@ -136,13 +138,13 @@ pub fn remove(state: State, area: &mut [u8], key: u64) -> Done
 
 // The whole file judged.
 pub fn check(state: State, area: &[u8]) -> Done
-    ensures { λ r. ⌜ r ≡ checked state (now (area .entry)) ⌝ }
+    ensures { λ r. ⌜ r ≡ checked inUse state (now (area .entry)) ⌝ }
 {
-    let gate = gates::enter(state, area.len());
+    let gate = gates::enter(state, area.len(), IN_USE);
     match gate {
         Gate::Shut { why } => Done { state, answer: why },
         Gate::Open => {
-            let image = gates::image_gate(state, area);
+            let image = gates::image_gate(state, area, IN_USE);
             match image {
                 Gate::Shut { why } => Done { state, answer: why },
                 Gate::Open => {
@@ -160,9 +162,9 @@ pub fn check(state: State, area: &[u8]) -> Done
 
 // One page more, with a lent row of counts, one a page.
 pub fn grow(state: State, area: &mut [u8], row: &mut [u32]) -> Done
-    ensures { λ r. let o = grew state (now (area .entry)) (now (row .entry)) in ⌜ (r ≡ o .done) × ((now (area .exit) ≡ o .area) × (now (row .exit) ≡ o .row)) ⌝ }
+    ensures { λ r. let o = grew inUse state (now (area .entry)) (now (row .entry)) in ⌜ (r ≡ o .done) × ((now (area .exit) ≡ o .area) × (now (row .exit) ≡ o .row)) ⌝ }
 {
-    let gate = gates::grow_entry(state, area.len(), row.len());
+    let gate = gates::grow_entry(state, area.len(), row.len(), IN_USE);
     match gate {
         Gate::Shut { why } => Done { state, answer: why },
         Gate::Open => growth::grow_entered(state, area, row),

@@ -3,8 +3,9 @@ use Prim.Native.Nat.{_+_, _*_, _≤_, _<_}
 use lib.ListN.{length}
 use denote.Ref.{now}
 use borrow.Author.Needs.{needs}
+use Rattle.layouts.specs.Layout.{inUse}
 use Rattle.homes.specs.Homes.{homeIn}
-use Rattle.state.proofs.Ranges.{ranged}
+use Rattle.state.proofs.Ranges.{ranged, in-shape}
 use Rattle.changes.proofs.Settling.{shape-fits, home-shaped, put-stops, put-full, put-goes, writes-low, place-known, more-low}
 use Rattle.changes.proofs.put_open.Statement.{statement}
 use Rattle.changes.proofs.put_open.Tie as tie
@@ -24,7 +25,7 @@ abbrev gone : tie.After-one-more → tie.After-plan2
 gone c = c .before .before .before .before .before .before .before .before .before
 
 shape-requires : tie.Need-shape-requires
-shape-requires c κs = search needs
+shape-requires c κs = in-shape inUse _ (c .before .pre .0)
 
 cast-plan-put : tie.Need-cast-plan-put
 cast-plan-put c = search needs
@@ -35,7 +36,7 @@ plan-put-requires c κs =
     let b = h .before .before in
     let s = b .args .state in
     let is = h .shape .ensures .0 in (
-      ranged s (b .pre .0) .cap-high,
+      ranged inUse s (b .pre .0) .cap-high,
       b .pre .1,
       h .shape .ensures .1,
       shape-fits s _ is (b .pre .0),
@@ -50,6 +51,9 @@ enum-known-plan-2 c = search needs
 
 cast-if1 : tie.Need-cast-if1
 cast-if1 c = search needs
+
+cast-if1-2 : tie.Need-cast-if1-2
+cast-if1-2 c = search needs
 
 mul-if1 : tie.Need-mul-if1
 mul-if1 c = search needs
@@ -125,6 +129,7 @@ put-open-spec =
     enum-known-plan
     enum-known-plan-2
     cast-if1
+    cast-if1-2
     mul-if1
     same-length
     returns

@@ -3,7 +3,8 @@ use Prim.Native.Nat.{_+_, _*_, _≤_, _<_}
 use lib.ListN.{length}
 use denote.Ref.{now}
 use borrow.Author.Needs.{needs}
-use Rattle.state.proofs.Ranges.{ranged}
+use Rattle.layouts.specs.Layout.{inUse}
+use Rattle.state.proofs.Ranges.{ranged, in-shape}
 use Rattle.changes.proofs.Settling.{shape-fits, remove-stops, remove-none, remove-goes, writes-low}
 use Rattle.changes.proofs.remove_open.Statement.{statement}
 use Rattle.changes.proofs.remove_open.Tie as tie
@@ -23,7 +24,7 @@ abbrev gone : tie.After-one-less → tie.After-plan2
 gone c = c .before .before .before .before .before .before .before .before
 
 shape-requires : tie.Need-shape-requires
-shape-requires c κs = search needs
+shape-requires c κs = in-shape inUse _ (c .before .pre .0)
 
 cast-plan-remove : tie.Need-cast-plan-remove
 cast-plan-remove c = search needs
@@ -32,7 +33,7 @@ plan-remove-requires : tie.Need-plan-remove-requires
 plan-remove-requires c κs =
     let h = c .before .before in
     let b = h .before .before in
-    (ranged (b .args .state) (b .pre .0) .cap-high, b .pre .1, h .shape .ensures .1, shape-fits (b .args .state) _ (h .shape .ensures .0) (b .pre .0))
+    (ranged inUse (b .args .state) (b .pre .0) .cap-high, b .pre .1, h .shape .ensures .1, shape-fits (b .args .state) _ (h .shape .ensures .0) (b .pre .0))
 
 enum-known-plan : tie.Need-enum-known-plan
 enum-known-plan c = search needs

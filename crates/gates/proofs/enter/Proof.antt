@@ -12,7 +12,7 @@ in-range-requires c κs = search needs
 returns : tie.Need-returns
 returns c =
     let a = c .before .before .args in
-    (range-shut (a .state) (a .length) (sym (c .before .in-range .ensures) ∙ not-true _ (c .if1 .taken)), tt)
+    (range-shut (a .layout) (a .state) (a .length) (sym (c .before .in-range .ensures) ∙ not-true _ (c .if1 .taken)), tt)
 
 cast-if2 : tie.Need-cast-if2
 cast-if2 c = search needs
@@ -23,13 +23,13 @@ mul-if2 c = search needs
 returns-2 : tie.Need-returns-2
 returns-2 c =
     let a = c .before .before .before .before .args in
-    (area-shut (a .state) (a .length) (sym (c .before .before .before .in-range .ensures) ∙ not-false _ (c .before .before .if1 .left)) (c .if2 .taken), tt)
+    (area-shut (a .layout) (a .state) (a .length) (sym (c .before .before .before .in-range .ensures) ∙ not-false _ (c .before .before .if1 .left)) (c .if2 .taken), tt)
 
 returns-3 : tie.Need-returns-3
 returns-3 c =
     let a = c .before .before .before .before .args in
     let e = sym (c .before .before .before .in-range .ensures) ∙ not-false _ (c .before .before .if1 .left) in
-    (gate-open (a .state) (a .length) e (c .if2 .left), (e, c .if2 .left))
+    (gate-open (a .layout) (a .state) (a .length) e (c .if2 .left), (e, c .if2 .left))
 
 pub enter-spec : {M : Type 1} → statement M
 enter-spec = tie.close (tie.spec in-range-requires returns cast-if2 mul-if2 returns-2 returns-3)

@@ -21,30 +21,30 @@ returns c =
     let t = c .before .before in
     let e = t .before .before in
     let a = e .before .args in
-    (entry-row (a .state) (a .m) (a .n) _ (e .enter .ensures .0) (t .enum-told .given .1) (c .if1 .taken), tt)
+    (entry-row (a .layout) (a .state) (a .m) (a .n) _ (e .enter .ensures .0) (t .enum-told .given .1) (c .if1 .taken), tt)
 
 returns-2 : tie.Need-returns-2
 returns-2 c =
     let t = c .before .before .before .before in
     let e = t .before .before in
     let a = e .before .args in
-    (entry-cap (a .state) (a .m) (a .n) _ (e .enter .ensures .0) (t .enum-told .given .1) (c .before .before .if1 .left) (c .if2 .taken), tt)
+    (entry-cap (a .layout) (a .state) (a .m) (a .n) _ (e .enter .ensures .0) (t .enum-told .given .1) (c .before .before .if1 .left) (c .if2 .taken), tt)
 
 returns-3 : tie.Need-returns-3
 returns-3 c =
     let e = c .before .before .before in
     let a = e .before .args in
-    (entry-shut (a .state) (a .m) (a .n) _ (e .enter .ensures .0) _ (c .before .gate .given .1), tt)
+    (entry-shut (a .layout) (a .state) (a .m) (a .n) _ (e .enter .ensures .0) _ (c .before .gate .given .1), tt)
 
 returns-4 : tie.Need-returns-4
 returns-4 c =
     let t = c .before .before .before .before in
     let e = t .before .before in
     let a = e .before .args in
-    let k = past _ _ _ (e .enter .ensures .1) (t .enum-told .given .1) in
+    let k = past _ _ _ _ (e .enter .ensures .1) (t .enum-told .given .1) in
     let n = c .before .before .if1 .left in (
-      entry-open (a .state) (a .m) (a .n) _ (e .enter .ensures .0) (t .enum-told .given .1) n (c .if2 .left),
-      past-entry (a .state) (a .m) (a .n) (k .0) (k .1) n (c .if2 .left),
+      entry-open (a .layout) (a .state) (a .m) (a .n) _ (e .enter .ensures .0) (t .enum-told .given .1) n (c .if2 .left),
+      past-entry (a .layout) (a .state) (a .m) (a .n) (k .0) (k .1) n (c .if2 .left),
     )
 
 pub grow-entry-spec : {M : Type 1} → statement M

@@ -18,7 +18,7 @@ enum-told c = search needs
 image-gate-requires : tie.Need-image-gate-requires
 image-gate-requires c κs =
     let e = c .before .before in
-    past _ _ _ (e .enter .ensures .1) (c .enum-told .given .1)
+    past _ _ _ _ (e .enter .ensures .1) (c .enum-told .given .1)
 
 enum-known-image : tie.Need-enum-known-image
 enum-known-image c = search needs
@@ -26,8 +26,8 @@ enum-known-image c = search needs
 enum-told-2 : tie.Need-enum-told-2
 enum-told-2 c = search needs
 
-cast-t11 : tie.Need-cast-t11
-cast-t11 c = search needs
+cast-t13 : tie.Need-cast-t13
+cast-t13 c = search needs
 
 returns : tie.Need-returns
 returns c =
@@ -59,7 +59,7 @@ check-spec =
     image-gate-requires
     enum-known-image
     enum-told-2
-    cast-t11
+    cast-t13
     returns
     returns-2
     returns-3)

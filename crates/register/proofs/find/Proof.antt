@@ -1,7 +1,8 @@
 -- `register::find` meets its contract: past its gate the walk answers.
 use denote.Ref.{now}
 use borrow.Author.Needs.{needs}
-use Rattle.state.proofs.Ranges.{ranged}
+use Rattle.layouts.specs.Layout.{inUse}
+use Rattle.state.proofs.Ranges.{ranged, in-shape}
 use Rattle.gates.proofs.Gating.{past}
 use Rattle.changes.proofs.Settling.{shape-fits}
 use Rattle.register.proofs.Settling.{met-low, find-shut, find-open}
@@ -18,7 +19,7 @@ enum-told : tie.Need-enum-told
 enum-told c = search needs
 
 shape-requires : tie.Need-shape-requires
-shape-requires c κs = past _ _ _ (c .before .before .enter .ensures .1) (c .enum-told .given .1) .0
+shape-requires c κs = in-shape inUse _ (past _ _ _ _ (c .before .before .enter .ensures .1) (c .enum-told .given .1) .0)
 
 cast-meet : tie.Need-cast-meet
 cast-meet c = search needs
@@ -28,16 +29,16 @@ meet-requires c κs =
     let t = c .before .before in
     let e = t .before .before in
     let s = e .before .before .args .state in
-    let w = past _ _ _ (e .enter .ensures .1) (t .enum-told .given .1) in
+    let w = past _ _ _ _ (e .enter .ensures .1) (t .enum-told .given .1) in
     let shape = c .before .shape in
-    (ranged s (w .0) .cap-high, w .1, shape .ensures .1, shape-fits s _ (shape .ensures .0) (w .0))
+    (ranged inUse s (w .0) .cap-high, w .1, shape .ensures .1, shape-fits s _ (shape .ensures .0) (w .0))
 
 find-answer-requires : tie.Need-find-answer-requires
 find-answer-requires c κs =
     let t = c .before .before .before in
     let e = t .before .before in
     let s = e .before .before .args .state in
-    met-low (s .cap) (c .meet .result) (ranged s (past _ _ _ (e .enter .ensures .1) (t .enum-told .given .1) .0) .cap-high) (c .meet .ensures .1)
+    met-low (s .cap) (c .meet .result) (ranged inUse s (past _ _ _ _ (e .enter .ensures .1) (t .enum-told .given .1) .0) .cap-high) (c .meet .ensures .1)
 
 returns : tie.Need-returns
 returns c =

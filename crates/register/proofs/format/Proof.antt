@@ -40,7 +40,7 @@ clear-pages-requires c κs =
     let t = c .before in
     let e = t .before .before in
     let a = e .before .before .before .before .before .before .args in
-    let k = past _ _ _ (e .enter .ensures .1) (t .enum-told .given .1) in
+    let k = past _ _ _ _ (e .enter .ensures .1) (t .enum-told .given .1) in
     fresh-fits (a .params) (a .cap) _ _ (e .before .new .ensures) (k .0) (k .1)
 
 returns-2 : tie.Need-returns-2

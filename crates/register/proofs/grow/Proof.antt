@@ -18,7 +18,7 @@ enum-told c = search needs
 grow-entered-requires : tie.Need-grow-entered-requires
 grow-entered-requires c κs =
     let t = c .before .before in
-    past-open _ _ _ _ (t .before .before .grow-entry .ensures .1) (t .enum-told .given .1)
+    past-open _ _ _ _ _ (t .before .before .grow-entry .ensures .1) (t .enum-told .given .1)
 
 returns : tie.Need-returns
 returns c =

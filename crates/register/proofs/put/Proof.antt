@@ -1,7 +1,9 @@
 -- `register::put` meets its contract: past its gate it is `put_open` with the home of the key.
 use denote.Ref.{now}
 use borrow.Author.Needs.{needs}
+use Rattle.layouts.specs.Layout.{inUse}
 use Rattle.gates.proofs.Gating.{past}
+use Rattle.state.proofs.Ranges.{in-shape}
 use Rattle.register.proofs.Settling.{home-stated, put-shut, put-past}
 use Rattle.register.proofs.put.Statement.{statement}
 use Rattle.register.proofs.put.Tie as tie
@@ -16,7 +18,7 @@ enum-told : tie.Need-enum-told
 enum-told c = search needs
 
 shape-requires : tie.Need-shape-requires
-shape-requires c κs = past _ _ _ (c .before .before .enter .ensures .1) (c .enum-told .given .1) .0
+shape-requires c κs = in-shape inUse _ (past _ _ _ _ (c .before .before .enter .ensures .1) (c .enum-told .given .1) .0)
 
 home-requires : tie.Need-home-requires
 home-requires c κs = c .shape .ensures .1
@@ -28,7 +30,7 @@ put-open-requires c κs =
     let t = h .before in
     let e = t .before .before in
     let a = e .before .before .args in
-    let w = past _ _ _ (e .enter .ensures .1) (t .enum-told .given .1) in
+    let w = past _ _ _ _ (e .enter .ensures .1) (t .enum-told .given .1) in
     (w .0, w .1, home-stated (a .state) _ (h .shape .ensures .0) (a .new .key) (o .home .result) (o .home .ensures))
 
 returns : tie.Need-returns

@@ -16,7 +16,7 @@ enum-told : tie.Need-enum-told
 enum-told c = search needs
 
 remove-open-requires : tie.Need-remove-open-requires
-remove-open-requires c κs = past _ _ _ (c .before .before .before .enter .ensures .1) (c .before .enum-told .given .1)
+remove-open-requires c κs = past _ _ _ _ (c .before .before .before .enter .ensures .1) (c .before .enum-told .given .1)
 
 returns : tie.Need-returns
 returns c =

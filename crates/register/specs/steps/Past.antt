@@ -4,6 +4,7 @@ use mathlib.Core.Path.{_≡_}
 use mathlib.Core.Bool.{true}
 use mathlib.Core.List.{List}
 use lib.ListN.{length}
+use Rattle.layouts.specs.Layout.{inUse}
 use Rattle.homes.specs.declared.new_homes.NewHomes.{NewHomes}
 use Rattle.homes.specs.Homes.{shapeOf}
 use Rattle.homes.specs.steps.NewHomes.{Usable, Follows}
@@ -17,7 +18,7 @@ use Rattle.register.specs.Calls.{Growth, grownFile}
 
 -- what is known past the whole gate of a growth
 abbrev pub OpenToGrow : State → List ℕ → ℕ → Gate → Type 0
-OpenToGrow s area n Open = (inRange s ≡ true) × (length area ≡ 256 * s .cap) × (n ≡ s .cap) × (s .p < s .cap) × (imageGate s area ≡ Open)
+OpenToGrow s area n Open = (inRange inUse s ≡ true) × (length area ≡ 256 * s .cap) × (n ≡ s .cap) × (s .p < s .cap) × (imageGate inUse s area ≡ Open)
 OpenToGrow s area n (Shut why) = Unit {0}
 
 -- the homes in the file of one page more
@@ -28,4 +29,4 @@ pub record OnePageMore (s : State) (new : NewHomes) : Type 0 where
 
 -- what a growth comes to that enters
 abbrev pub grewEntered : State → List ℕ → (row : List ℕ) → Growth
-grewEntered s area row = onGate (imageGate s area) (λ why. record { done = done s why; area = area; row = row }) (grownFile s area)
+grewEntered s area row = onGate (imageGate inUse s area) (λ why. record { done = done s why; area = area; row = row }) (grownFile inUse s area)

@@ -4,8 +4,9 @@ use mathlib.Core.Path.{_≡_, sym, _∙_}
 use native.Mathlib.Omega.{arith}
 use denote.Ref.{now}
 use borrow.Author.Needs.{needs}
+use Rattle.layouts.specs.Layout.{inUse}
 use Rattle.homes.specs.Homes.{homeIn}
-use Rattle.state.proofs.Ranges.{ranged}
+use Rattle.state.proofs.Ranges.{ranged, in-shape}
 use Rattle.gates.specs.Gates.{imageGate}
 use Rattle.gates.proofs.Judging.{sick-below, gate-told}
 use Rattle.register.proofs.Growing.{countable, open-counts}
@@ -17,7 +18,7 @@ cast-cap : tie.Need-cast-cap
 cast-cap c = search needs
 
 shape-requires : tie.Need-shape-requires
-shape-requires c κs = search needs
+shape-requires c κs = in-shape inUse _ (c .before .before .before .before .pre .0 .0)
 
 homes-after-requires : tie.Need-homes-after-requires
 homes-after-requires c κs = search needs
@@ -29,13 +30,13 @@ survey-requires c κs =
     let b = h .before .before .before .before .before .before in
     let s = b .args .state in
     let n = b .pre .0 in
-    (ranged s (n .0) .cap-high, n .1, o .1, countable s (n .0) (n .3) (h .homes-after .ensures) _ (o .0) _ (b .pre .1))
+    (ranged inUse s (n .0) .cap-high, n .1, o .1, countable inUse s (n .0) (n .3) (h .homes-after .ensures) _ (o .0) _ (b .pre .1))
 
 image-of-requires : tie.Need-image-of-requires
 image-of-requires c κs a e =
     let o = c .before .before .before .before .before .before in
     let b = o .before .before .before .before .before in
-    omega (arith, sick-below (homeIn (o .shape .result)) (now (b .args .area)) (b .args .state .cap) _ a (c .before .before .survey .ensures .0) e, ranged (b .args .state) (b .pre .0 .0) .cap-high)
+    omega (arith, sick-below inUse (homeIn (o .shape .result)) (now (b .args .area)) (b .args .state .cap) _ a (c .before .before .survey .ensures .0) e, ranged inUse (b .args .state) (b .pre .0 .0) .cap-high)
 
 enum-known-gate : tie.Need-enum-known-gate
 enum-known-gate c = search needs
@@ -44,11 +45,11 @@ enum-told : tie.Need-enum-told
 enum-told c = search needs
 
 -- the gate is that of the pages
-gate : (c : tie.After-image-of) → c .image-of .result ≡ imageGate (c .before .before .before .before .before .before .before .before .before .before .before .before .args .state) (now (c .before .before .before .before .before .before .before .before .before .before .before .before .args .area))
+gate : (c : tie.After-image-of) → c .image-of .result ≡ imageGate inUse (c .before .before .before .before .before .before .before .before .before .before .before .before .args .state) (now (c .before .before .before .before .before .before .before .before .before .before .before .before .args .area))
 gate c =
     let o = c .before .before .before .before .before .before .before in
     let b = o .before .before .before .before .before in
-    gate-told (b .args .state) _ (now (b .args .area)) _ (o .shape .ensures .0) (c .before .before .before .survey .ensures .0) _ (c .image-of .ensures)
+    gate-told (b .args .state) _ inUse (now (b .args .area)) _ (o .shape .ensures .0) (c .before .before .before .survey .ensures .0) _ (c .image-of .ensures)
 
 grow-image-requires : tie.Need-grow-image-requires
 grow-image-requires c κs =
@@ -60,7 +61,7 @@ grow-image-requires c κs =
     let s = b .args .state in
     let n = b .pre .0 in (
       (n .0, n .1, n .2, n .3, sym (gate i) ∙ yes),
-      open-counts s (n .0) (n .3) more (now (b .args .area)) _ _ (b .pre .1) (v .survey .result) (sym (i .image-of .ensures) ∙ yes) (v .survey .ensures .1),
+      open-counts inUse s (n .0) (n .3) more (now (b .args .area)) _ _ (b .pre .1) (v .survey .result) (sym (i .image-of .ensures) ∙ yes) (v .survey .ensures .1),
       more,
     )
 

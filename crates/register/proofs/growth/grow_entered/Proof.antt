@@ -5,6 +5,7 @@ use native.Mathlib.Omega.{arith}
 use lib.ListN.{length, take, replicate, length-replicate}
 use lib.Seq.{length-take-le}
 use borrow.Author.Needs.{needs}
+use Rattle.layouts.specs.Layout.{inUse}
 use Rattle.state.proofs.Ranges.{ranged}
 use Rattle.register.proofs.growth.grow_entered.Statement.{statement}
 use Rattle.register.proofs.growth.grow_entered.Tie as tie
@@ -19,17 +20,17 @@ cast-cap c = search needs
 array-borrow-prefix-counts : tie.Need-array-borrow-prefix-counts
 array-borrow-prefix-counts c =
     let b = c .before .before .before .before .before in
-    ranged (b .args .state) (b .pre .0) .cap-high
+    ranged inUse (b .args .state) (b .pre .0) .cap-high
 
 slice-aggregate-grow-counting : tie.Need-slice-aggregate-grow-counting
 slice-aggregate-grow-counting c =
     let b = c .before .before .before .before .before .before in
-    sym (cut 4096 (b .args .state .cap) (ranged (b .args .state) (b .pre .0) .cap-high))
+    sym (cut 4096 (b .args .state .cap) (ranged inUse (b .args .state) (b .pre .0) .cap-high))
 
 grow-counting-requires : tie.Need-grow-counting-requires
 grow-counting-requires c κs =
     let b = c .before .before .before .before .before .before in
-    (b .pre, cut 4096 (b .args .state .cap) (ranged (b .args .state) (b .pre .0) .cap-high))
+    (b .pre, cut 4096 (b .args .state .cap) (ranged inUse (b .args .state) (b .pre .0) .cap-high))
 
 same-length : tie.Need-same-length
 same-length c = search needs

@@ -6,6 +6,7 @@ use denote.Ref.{now}
 use borrow.Author.Tests.{not-true, not-false}
 use borrow.Author.Needs.{needs}
 use Rattle.numbers.specs.Little.{Bytes}
+use Rattle.layouts.specs.Layout.{inUse}
 use Rattle.state.proofs.Ranges.{ranged}
 use Rattle.register.specs.Calls.{grownCounts}
 use Rattle.register.proofs.Growing.{held-set, counts-many, grown-low, grown-known, takes-all, grow-full, grow-done}
@@ -18,20 +19,20 @@ cast-cap c = search needs
 fill-row-requires : tie.Need-fill-row-requires
 fill-row-requires c κs =
     let b = c .before .before .before .before .before in
-    b .pre .0 .2 ∙ sym (counts-many (b .args .state) (now (b .args .area)) _ (b .pre .1))
+    b .pre .0 .2 ∙ sym (counts-many inUse (b .args .state) (now (b .args .area)) _ (b .pre .1))
 
 -- the row holds the counts
-filled : (c : tie.After-fill-row) → c .fill-row .last .0 ≡ grownCounts (c .before .before .before .before .before .before .args .state) (now (c .before .before .before .before .before .before .args .area))
+filled : (c : tie.After-fill-row) → c .fill-row .last .0 ≡ grownCounts inUse (c .before .before .before .before .before .before .args .state) (now (c .before .before .before .before .before .before .args .area))
 filled c = c .fill-row .ensures ∙ c .before .before .before .before .before .before .pre .1
 
 has-room-requires : tie.Need-has-room-requires
 has-room-requires c κs =
     let w = c .before .before .before in
     let b = w .before .before .before .before .before .before in
-    omega (arith, counts-many (b .args .state) (now (b .args .area)) _ (filled w), ranged (b .args .state) (b .pre .0 .0) .cap-high)
+    omega (arith, counts-many inUse (b .args .state) (now (b .args .area)) _ (filled w), ranged inUse (b .args .state) (b .pre .0 .0) .cap-high)
 
-cast-t16 : tie.Need-cast-t16
-cast-t16 c = search needs
+cast-t17 : tie.Need-cast-t17
+cast-t17 c = search needs
 
 same-length : tie.Need-same-length
 same-length c = search needs
@@ -40,7 +41,7 @@ returns : tie.Need-returns
 returns c =
     let w = c .before .before .before .before .before in
     let b = w .before .before .before .before .before .before in
-    grow-full (b .args .state) (b .pre .0 .0) (b .pre .0 .3) (now (b .args .area)) _ (filled w) _ (c .before .has-room .ensures) (not-true _ (c .if1 .taken))
+    grow-full inUse (b .args .state) (b .pre .0 .0) (b .pre .0 .3) (now (b .args .area)) _ (filled w) _ (c .before .has-room .ensures) (not-true _ (c .if1 .taken))
 
 -- the area has bytes
 bytes : (c : tie.After-slice-known) → Bytes (now (c .before .args .area))
@@ -55,17 +56,17 @@ rebuild-requires c κs =
     let area = now (b .args .area) in
     let n = b .pre .0 in
     let m = b .pre .2 in (
-      (ranged s (n .0) .cap-high, n .1, m .usable, grown-known s (n .0) (n .3) m area (bytes k) (n .1) (n .4)),
-      (held-set s area (bytes k) (n .1) (n .4), takes-all s (n .0) (n .3) area _ (filled w) _ (c .before .before .has-room .ensures) (not-false _ (c .before .if1 .left)) m),
+      (ranged inUse s (n .0) .cap-high, n .1, m .usable, grown-known inUse s (n .0) (n .3) m area (bytes k) (n .1) (n .4)),
+      (held-set inUse s area (bytes k) (n .1) (n .4), takes-all inUse s (n .0) (n .3) area _ (filled w) _ (c .before .before .has-room .ensures) (not-false _ (c .before .if1 .left)) m),
     )
 
-cast-t20 : tie.Need-cast-t20
-cast-t20 c = search needs
+cast-t21 : tie.Need-cast-t21
+cast-t21 c = search needs
 
 grown-requires : tie.Need-grown-requires
 grown-requires c κs =
     let b = c .before .before .before .before .before .before .before .before .before .before .before .before .before .before .before in
-    grown-low (b .args .state) (b .pre .0 .0) (b .pre .0 .3)
+    grown-low inUse (b .args .state) (b .pre .0 .0) (b .pre .0 .3)
 
 same-length-2 : tie.Need-same-length-2
 same-length-2 c = search needs
@@ -79,7 +80,7 @@ returns-2 c =
     let e = v .before .before in
     let w = e .before .before .before .before .before in
     let b = w .before .before .before .before .before .before in
-    grow-done (b .args .state) (b .pre .0 .0) (b .pre .0 .3) (now (b .args .area)) _ (filled w) _ (e .before .has-room .ensures) (not-false _ (e .if1 .left)) (b .pre .2)
+    grow-done inUse (b .args .state) (b .pre .0 .0) (b .pre .0 .3) (now (b .args .area)) _ (filled w) _ (e .before .has-room .ensures) (not-false _ (e .if1 .left)) (b .pre .2)
     _ (v .rebuild .ensures .0) _ (v .rebuild .ensures .1) _ (c .grown .ensures)
 
 pub grow-image-spec : {M : Type 1} → statement M
@@ -89,11 +90,11 @@ grow-image-spec =
     cast-cap
     fill-row-requires
     has-room-requires
-    cast-t16
+    cast-t17
     same-length
     returns
     rebuild-requires
-    cast-t20
+    cast-t21
     grown-requires
     same-length-2
     same-length-3

@@ -1,18 +1,20 @@
 -- `register::homes_after` meets its contract.
+use Rattle.layouts.specs.Layout.{inUse}
+use Rattle.state.proofs.Ranges.{in-shape}
 use Rattle.register.proofs.Growing.{grown-low, grown-in, grown-shape, steps-left}
 use Rattle.register.proofs.growth.homes_after.Statement.{statement}
 use Rattle.register.proofs.growth.homes_after.Tie as tie
 
 grown-requires : tie.Need-grown-requires
-grown-requires c κs = grown-low _ (c .pre .0) (c .pre .1)
+grown-requires c κs = grown-low inUse _ (c .pre .0) (c .pre .1)
 
 shape-requires : tie.Need-shape-requires
-shape-requires c κs = grown-in _ (c .before .pre .0) (c .before .pre .1) _ (c .grown .ensures)
+shape-requires c κs = in-shape inUse _ (grown-in inUse _ (c .before .pre .0) (c .before .pre .1) _ (c .grown .ensures))
 
 last-step-requires : tie.Need-last-step-requires
 last-step-requires c κs =
     let b = c .before .before in
-    (c .shape .ensures .1, steps-left _ (b .pre .0) (b .pre .1) _ (grown-shape _ _ (c .before .grown .ensures) _ (c .shape .ensures .0)))
+    (c .shape .ensures .1, steps-left inUse _ (b .pre .0) (b .pre .1) _ (grown-shape _ _ (c .before .grown .ensures) _ (c .shape .ensures .0)))
 
 returns : tie.Need-returns
 returns c =

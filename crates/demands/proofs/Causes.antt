@@ -11,6 +11,8 @@ use native.Mathlib.Omega.{arith}
 use lib.Dec.{eqb}
 use lib.ListN.{length}
 use Rattle.numbers.specs.Little.{Bytes}
+use Rattle.layouts.specs.Layout.{slotsOf}
+use Rattle.layouts.specs.declared.Layout.{Layout}
 use Rattle.placing.specs.Image.{cat, Room}
 use Rattle.placing.specs.Lay.{taken}
 use Rattle.placing.proofs.Images.{room-taken}
@@ -38,23 +40,23 @@ use Rattle.demands.specs.Refusals.{RightArea, SomeBroken, LowestBroken}
 use Rattle.walks.proofs.Clean.{read-held}
 
 -- what every call that has a gate finds first
-pub data Enters (s : State) (area : List ℕ) : Type 0 where
-  out : (Ranged s → ⊥) → gateOf s (length area) ≡ Shut OutOfRange → Enters s area
-  other : Ranged s → (RightArea s area → ⊥) → gateOf s (length area) ≡ Shut WrongArea → Enters s area
-  entered : Ranged s → RightArea s area → gateOf s (length area) ≡ Open → Enters s area
+pub data Enters (form : Layout) (s : State) (area : List ℕ) : Type 0 where
+  out : (Ranged form s → ⊥) → gateOf form s (length area) ≡ Shut OutOfRange → Enters form s area
+  other : Ranged form s → (RightArea s area → ⊥) → gateOf form s (length area) ≡ Shut WrongArea → Enters form s area
+  entered : Ranged form s → RightArea s area → gateOf form s (length area) ≡ Open → Enters form s area
 
-pub enter : (s : State) (area : List ℕ) → Enters s area
-enter s area = go (inRange s) refl (ℕ-discrete (length area) (256 * s .cap))
+pub enter : (form : Layout) (s : State) (area : List ℕ) → Enters form s area
+enter form s area = go (inRange form s) refl (ℕ-discrete (length area) (256 * s .cap))
   where
-    go : (u : Bool) → inRange s ≡ u → Dec (length area ≡ 256 * s .cap) → Enters s area
-    go false e d = out (λ r. false≢true (sym e ∙ in-range s r)) (sym (range-shut s (length area) e))
-    go true e (no f) = other (ranged s e) f (sym (area-shut s (length area) e f))
-    go true e (yes l) = entered (ranged s e) l (sym (gate-open s (length area) e l))
+    go : (u : Bool) → inRange form s ≡ u → Dec (length area ≡ 256 * s .cap) → Enters form s area
+    go false e d = out (λ r. false≢true (sym e ∙ in-range form s r)) (sym (range-shut form s (length area) e))
+    go true e (no f) = other (ranged form s e) f (sym (area-shut form s (length area) e f))
+    go true e (yes l) = entered (ranged form s e) l (sym (gate-open form s (length area) e l))
 
 -- what the search for the lowest broken one of n pages from page a on tells
-module _ (h : ℕ → ℕ) (area : List ℕ) where
+module _ (form : Layout) (h : ℕ → ℕ) (area : List ℕ) where
   abbrev Breaks : ℕ → Type 0
-  Breaks a = readPage h a (partAt area a) ≡ none
+  Breaks a = readPage form h a (partAt area a) ≡ none
 
   -- none is broken from page a up to the one before b
   abbrev Clear : (a b : ℕ) → Type 0
@@ -64,33 +66,33 @@ module _ (h : ℕ → ℕ) (area : List ℕ) where
   Looked n a none = Clear a (a + n)
   Looked n a (some b) = (a ≤ b) × (b < a + n) × Breaks b × Clear a b
 
-  clear-more : (a b : ℕ) (p : List Record) → readPage h a (partAt area a) ≡ some p → Clear (suc a) b → Clear a b
+  clear-more : (a b : ℕ) (p : List Record) → readPage form h a (partAt area a) ≡ some p → Clear (suc a) b → Clear a b
   clear-more a b p q on c l u k = go (ℕ-discrete a c)
     where
       go : Dec (a ≡ c) → ⊥
       go (yes t) = clash {x = p} (sym k ∙ rw (← t) q)
       go (no t) = on c (omega arith) u k
 
-  looked : (n a : ℕ) → Looked n a (lowestBroken a (pagesFrom h area n a))
+  looked : (n a : ℕ) → Looked n a (lowestBroken a (pagesFrom form h area n a))
   looked zero a = λ c l u k. omega arith
-  looked (suc n) a = go (readPage h a (partAt area a)) refl (looked n (suc a))
+  looked (suc n) a = go (readPage form h a (partAt area a)) refl (looked n (suc a))
     where
-      on-looked : (p : List Record) → readPage h a (partAt area a) ≡ some p → (o : Option ℕ) → Looked n (suc a) o → Looked (suc n) a o
+      on-looked : (p : List Record) → readPage form h a (partAt area a) ≡ some p → (o : Option ℕ) → Looked n (suc a) o → Looked (suc n) a o
       on-looked p q none w = let e : suc a + n ≡ a + suc n = omega arith in clear-more a (a + suc n) p q (rw e at w)
       on-looked p q (some b) w = (omega arith, omega arith, w .2, clear-more a b p q (w .3))
 
-      go : (o : Option (List Record)) → readPage h a (partAt area a) ≡ o → Looked n (suc a) (lowestBroken (suc a) (pagesFrom h area n (suc a)))
-          → Looked (suc n) a (lowestBroken a (o ∷ pagesFrom h area n (suc a)))
+      go : (o : Option (List Record)) → readPage form h a (partAt area a) ≡ o → Looked n (suc a) (lowestBroken (suc a) (pagesFrom form h area n (suc a)))
+          → Looked (suc n) a (lowestBroken a (o ∷ pagesFrom form h area n (suc a)))
       go none q w = (omega arith, omega arith, q, λ c l u k. omega arith)
-      go (some p) q w = on-looked p q (lowestBroken (suc a) (pagesFrom h area n (suc a))) w
+      go (some p) q w = on-looked p q (lowestBroken (suc a) (pagesFrom form h area n (suc a))) w
 
 -- what check and grow find of the pages of a file that they enter
 pub data Pages (f : File) : Type 0 where
-  sick : (a : ℕ) → LowestBroken f a → (ImageOfR (f .state) (f .area) → ⊥) → imageGate (f .state) (f .area) ≡ Shut (Broken a (suc a)) → Pages f
-  strange : (SomeBroken f → ⊥) → (ImageOfR (f .state) (f .area) → ⊥) → imageGate (f .state) (f .area) ≡ Shut (NotImage (f .state .cap)) → Pages f
-  whole : (SomeBroken f → ⊥) → ImageOfR (f .state) (f .area) → imageGate (f .state) (f .area) ≡ Open → Pages f
+  sick : (a : ℕ) → LowestBroken f a → (ImageOfR (f .layout) (f .state) (f .area) → ⊥) → imageGate (f .layout) (f .state) (f .area) ≡ Shut (Broken a (suc a)) → Pages f
+  strange : (SomeBroken f → ⊥) → (ImageOfR (f .layout) (f .state) (f .area) → ⊥) → imageGate (f .layout) (f .state) (f .area) ≡ Shut (NotImage (f .state .cap)) → Pages f
+  whole : (SomeBroken f → ⊥) → ImageOfR (f .layout) (f .state) (f .area) → imageGate (f .layout) (f .state) (f .area) ≡ Open → Pages f
 
-module _ (f : File) (b : Bytes (f .area)) (r : Ranged (f .state)) (l : RightArea (f .state) (f .area)) where
+module _ (f : File) (b : Bytes (f .area)) (r : Ranged (f .layout) (f .state)) (l : RightArea (f .state) (f .area)) where
   abbrev s : State
   s = f .state
 
@@ -98,60 +100,60 @@ module _ (f : File) (b : Bytes (f .area)) (r : Ranged (f .state)) (l : RightArea
   area = f .area
 
   -- an image opens the gate, and nothing else does
-  shut-image : (why : Answer) → imageGate s area ≡ Shut why → ImageOfR s area → ⊥
+  shut-image : (why : Answer) → imageGate (f .layout) s area ≡ Shut why → ImageOfR (f .layout) s area → ⊥
   shut-image why e w =
-      let q : Shut why ≡ Open = sym e ∙ good-open s area (image-good s area b l w) in
+      let q : Shut why ≡ Open = sym e ∙ good-open (f .layout) s area (image-good (f .layout) s area b l w) in
       let z : _≡_ {A = ℕ} 0 1 = cc in
       omega arith
 
-  open-image : imageGate s area ≡ Open → ImageOfR s area
+  open-image : imageGate (f .layout) s area ≡ Open → ImageOfR (f .layout) s area
   open-image e =
-      let range : inRange s ≡ true = in-range s r in
-      check-image s area b l range .0 (rw (← gate-open s (length area) range l, e))
+      let range : inRange (f .layout) s ≡ true = in-range (f .layout) s r in
+      check-image (f .layout) s area b l range .0 (rw (← (gate-open (f .layout)) s (length area) range l, e))
 
   -- with none broken, the test of the image decides
-  none-sick : (u : Bool) → imageGate s area ≡ cond u Open (Shut (NotImage (s .cap))) → (SomeBroken f → ⊥) → Pages f
+  none-sick : (u : Bool) → imageGate (f .layout) s area ≡ cond u Open (Shut (NotImage (s .cap))) → (SomeBroken f → ⊥) → Pages f
   none-sick true e n = whole n (open-image e) e
   none-sick false e n = strange n (shut-image (NotImage (s .cap)) e) e
 
   pub judge : Pages f
   unfolding imageGate surveyed
-  judge = go (lowestBroken 0 (pagesFrom (homes s) area (s .cap) 0)) refl (looked (homes s) area (s .cap) 0)
+  judge = go (lowestBroken 0 (pagesFrom (f .layout) (homes s) area (s .cap) 0)) refl (looked (f .layout) (homes s) area (s .cap) 0)
     where
       held : List (List Record)
-      held = heldFrom area (s .cap) 0
+      held = heldFrom (f .layout) area (s .cap) 0
 
-      go : (o : Option ℕ) → imageGate s area ≡ imageOf s (onBroken o (Whole (isImage (homes s) held) (length (cat held [])))) → Looked (homes s) area (s .cap) 0 o → Pages f
-      go none e w = none-sick (isImage (homes s) held && eqb (length (cat held [])) (s .r)) e (λ v. w (v .0) (omega arith) (omega (arith, v .1 .0)) (v .1 .1))
+      go : (o : Option ℕ) → imageGate (f .layout) s area ≡ imageOf s (onBroken o (Whole (isImage (f .layout) (homes s) held) (length (cat held [])))) → Looked (f .layout) (homes s) area (s .cap) 0 o → Pages f
+      go none e w = none-sick (isImage (f .layout) (homes s) held && eqb (length (cat held [])) (s .r)) e (λ v. w (v .0) (omega arith) (omega (arith, v .1 .0)) (v .1 .1))
       go (some a) e w = sick a (record { broken = (omega arith, w .2); lowest = λ c u k. w .3 c (omega arith) u (k .1) }) (shut-image (Broken a (suc a)) e) e
 
 -- what a growth finds of its row and of P
 pub data Rows (f : File) (row : List ℕ) : Type 0 where
-  other-row : (length row ≡ f .state .cap → ⊥) → growGate (f .state) (f .area) (length row) ≡ Shut WrongRow → Rows f row
-  at-cap : length row ≡ f .state .cap → f .state .p ≡ f .state .cap → growGate (f .state) (f .area) (length row) ≡ Shut AtCap → Rows f row
-  below : length row ≡ f .state .cap → (f .state .p ≡ f .state .cap → ⊥) → growGate (f .state) (f .area) (length row) ≡ imageGate (f .state) (f .area) → Rows f row
+  other-row : (length row ≡ f .state .cap → ⊥) → growGate (f .layout) (f .state) (f .area) (length row) ≡ Shut WrongRow → Rows f row
+  at-cap : length row ≡ f .state .cap → f .state .p ≡ f .state .cap → growGate (f .layout) (f .state) (f .area) (length row) ≡ Shut AtCap → Rows f row
+  below : length row ≡ f .state .cap → (f .state .p ≡ f .state .cap → ⊥) → growGate (f .layout) (f .state) (f .area) (length row) ≡ imageGate (f .layout) (f .state) (f .area) → Rows f row
 
-pub try-row : (f : File) (row : List ℕ) → gateOf (f .state) (length (f .area)) ≡ Open → Rows f row
+pub try-row : (f : File) (row : List ℕ) → gateOf (f .layout) (f .state) (length (f .area)) ≡ Open → Rows f row
 try-row f row e = go (ℕ-discrete (length row) (s .cap)) (ℕ-discrete (s .p) (s .cap))
   where
     s : State
     s = f .state
 
     go : Dec (length row ≡ s .cap) → Dec (s .p ≡ s .cap) → Rows f row
-    go (no d) k = other-row d (sym (row-shut s (f .area) (length row) Open (sym e) refl d))
-    go (yes d) (yes k) = at-cap d k (sym (cap-shut s (f .area) (length row) Open (sym e) refl d k))
-    go (yes d) (no k) = below d k (sym (pages-decide s (f .area) (length row) Open (sym e) refl (imageGate s (f .area)) refl d k))
+    go (no d) k = other-row d (sym (row-shut (f .layout) s (f .area) (length row) Open (sym e) refl d))
+    go (yes d) (yes k) = at-cap d k (sym (cap-shut (f .layout) s (f .area) (length row) Open (sym e) refl d k))
+    go (yes d) (no k) = below d k (sym (pages-decide (f .layout) s (f .area) (length row) Open (sym e) refl (imageGate (f .layout) s (f .area)) refl d k))
 
 -- there is room for the records of an image where the pages can take all that stand on them
-abbrev pub takesAll : State → List ℕ → Type 0
-takesAll s area =
-    let held = cat (heldFrom area (s .cap) 0) [] in
-    taken (homeFor (homes (grown s))) 12 held (s .cap) ≡ length held
+abbrev pub takesAll : Layout → State → List ℕ → Type 0
+takesAll form s area =
+    let held = cat (heldFrom form area (s .cap) 0) [] in
+    taken (homeFor (homes (grown s))) (slotsOf form) held (s .cap) ≡ length held
 
-pub room-of : (s : State) (area : List ℕ) (w : ImageOfR s area) → takesAll s area ↔ Room key (homes (grown s)) 12 (s .cap) (w .records)
-room-of s area w =
+pub room-of : (form : Layout) (s : State) (area : List ℕ) (w : ImageOfR form s area) → takesAll form s area ↔ Room key (homes (grown s)) (slotsOf form) (s .cap) (w .records)
+room-of form s area w =
     let h = homeFor (homes (grown s)) in
     let ps = w .is .pages in
     let p = w .is .image .arranged .holds in
-    let t = room-taken key (homes (grown s)) 12 (s .cap) (w .records) (w .set) in
-    rw (read-held (homes s) area (s .cap) 0 ps (w .is .pass), taken-cong h 12 (cat ps []) (w .records) (λ j. perm-upTo h j p) (s .cap), perm-length p) (t .1, t .0)
+    let t = room-taken key (homes (grown s)) (slotsOf form) (s .cap) (w .records) (w .set) in
+    rw (read-held form (homes s) area (s .cap) 0 ps (w .is .pass), taken-cong h (slotsOf form) (cat ps []) (w .records) (λ j. perm-upTo h j p) (s .cap), perm-length p) (t .1, t .0)

@@ -9,6 +9,7 @@ use native.Mathlib.Decide.{ℕ-discrete}
 use native.Mathlib.Omega.{arith}
 use lib.ListN.{length, replicate}
 use borrow.Author.Tests.{eq-eqb, ne-eqb}
+use Rattle.layouts.specs.Layout.{slotsOf}
 use Rattle.homes.specs.declared.Params.{Params}
 use Rattle.state.specs.Promises.{Ranged}
 use Rattle.numbers.specs.Little.{Bytes}
@@ -97,38 +98,38 @@ module _ (f : File) where
     abbrev formats : Call
     formats = format q cap
 
-    format-tells : tells f formats ≡ onGate (gateOf new (length area)) numbers (told 0 0 0 0 0)
+    format-tells : tells f formats ≡ onGate (gateOf (f .layout) new (length area)) numbers (told 0 0 0 0 0)
     unfolding left
-    format-tells = gated s area (record { done = done new (Accepted 0 0 0); area = areaFrom 0 (replicate cap []) }) (gateOf new (length area))
+    format-tells = gated s area (record { done = done new (Accepted 0 0 0); area = areaFrom (f .layout) 0 (replicate cap []) }) (gateOf (f .layout) new (length area))
 
-    pub format-decided : Decided f formats (Ranged new × RightArea new area) (tells f formats)
-    format-decided = rw format-tells (go (enter new area))
+    pub format-decided : Decided f formats (Ranged (f .layout) new × RightArea new area) (tells f formats)
+    format-decided = rw format-tells (go (enter (f .layout) new area))
       where
-        go : Enters new area → Decided f formats (Ranged new × RightArea new area) (onGate (gateOf new (length area)) numbers (told 0 0 0 0 0))
+        go : Enters (f .layout) new area → Decided f formats (Ranged (f .layout) new × RightArea new area) (onGate (gateOf (f .layout) new (length area)) numbers (told 0 0 0 0 0))
         go (out r g) = rw g (early f formats 1 refl refl (λ a. r (a .0)) (inl (r, refl)) refl)
         go (other r l g) = rw g (early f formats 2 refl refl (λ a. l (a .1)) (inr (r, inl (l, refl))) refl)
         go (entered r l g) = rw g (accepts f formats refl (r, l) (inr (r, inr (l, none-of 0 (1 ∷ 2 ∷ []) refl))) 0 0 refl)
 
   -- Check
   abbrev Good : Type 0
-  Good = Ranged s × RightArea s area × ImageOfR s area
+  Good = Ranged (f .layout) s × RightArea s area × ImageOfR (f .layout) s area
 
-  check-tells : tells f check ≡ onGate (gateOf s (length area)) numbers (onGate (imageGate s area) numbers (told 0 0 0 (s .cap) 0))
+  check-tells : tells f check ≡ onGate (gateOf (f .layout) s (length area)) numbers (onGate (imageGate (f .layout) s area) numbers (told 0 0 0 (s .cap) 0))
   unfolding left
   check-tells =
       let yes : Done = done s (Accepted 0 (s .cap) 0) in
-      looks s (onGate (imageGate s area) (done s) yes) (gateOf s (length area)) ∙ rw (looks s yes (imageGate s area))
+      looks s (onGate (imageGate (f .layout) s area) (done s) yes) (gateOf (f .layout) s (length area)) ∙ rw (looks s yes (imageGate (f .layout) s area))
 
   module _ (b : Bytes area) where
     pub check-decided : Decided f check Good (tells f check)
-    check-decided = rw check-tells (go (enter s area))
+    check-decided = rw check-tells (go (enter (f .layout) s area))
       where
-        pages : Ranged s → RightArea s area → Pages f → Decided f check Good (onGate (imageGate s area) numbers (told 0 0 0 (s .cap) 0))
+        pages : Ranged (f .layout) s → RightArea s area → Pages f → Decided f check Good (onGate (imageGate (f .layout) s area) numbers (told 0 0 0 (s .cap) 0))
         pages r l (sick a w n i) = rw i (sickly f check refl (λ v. n (v .2)) (inr (r, inr (l, inl ((a, w .broken), refl)))) a w)
         pages r l (strange w n i) = rw i (late f check 9 refl refl (λ v. n (v .2)) (inr (r, inr (l, inr (w, inl (n, refl))))))
         pages r l (whole w m i) = rw i (accepts f check refl (r, l, m) (inr (r, inr (l, inr (w, inr (m, none-of 0 (1 ∷ 2 ∷ 4 ∷ 9 ∷ []) refl))))) (s .cap) 0 refl)
 
-        go : Enters s area → Decided f check Good (onGate (gateOf s (length area)) numbers (onGate (imageGate s area) numbers (told 0 0 0 (s .cap) 0)))
+        go : Enters (f .layout) s area → Decided f check Good (onGate (gateOf (f .layout) s (length area)) numbers (onGate (imageGate (f .layout) s area) numbers (told 0 0 0 (s .cap) 0)))
         go (out r g) = rw g (early f check 1 refl refl (λ a. r (a .0)) (inl (r, refl)) refl)
         go (other r l g) = rw g (early f check 2 refl refl (λ a. l (a .1)) (inr (r, inl (l, refl))) refl)
         go (entered r l g) = rw g (pages r l (judge f b r l))
@@ -136,63 +137,63 @@ module _ (f : File) where
   -- Grow
   module _ (row : List ℕ) where
     abbrev GoodToGrow : Type 0
-    GoodToGrow = Ranged s × RightArea s area × (length row ≡ s .cap) × (s .p ≡ s .cap → ⊥) × RoomToGrow f
+    GoodToGrow = Ranged (f .layout) s × RightArea s area × (length row ≡ s .cap) × (s .p ≡ s .cap → ⊥) × RoomToGrow f
 
     -- where the pages are an image
     abbrev regrown : Numbers
-    regrown = numbers (grownFile s area .done .answer)
+    regrown = numbers (grownFile (f .layout) s area .done .answer)
 
     abbrev strays : ℕ
-    strays = strayed key (heldFrom area (s .cap) 0) (relaid (homes (grown s)) (s .cap) (heldFrom area (s .cap) 0))
+    strays = strayed key (heldFrom (f .layout) area (s .cap) 0) (relaid (slotsOf (f .layout)) (homes (grown s)) (s .cap) (heldFrom (f .layout) area (s .cap) 0))
 
-    grown-room : takesAll s area → regrown ≡ told 0 0 0 (s .cap) strays
+    grown-room : takesAll (f .layout) s area → regrown ≡ told 0 0 0 (s .cap) strays
     unfolding grownFile
     grown-room e = rw (eq-eqb _ _ e)
 
-    grown-full : (takesAll s area → ⊥) → regrown ≡ told 7 0 0 (s .cap) 0
+    grown-full : (takesAll (f .layout) s area → ⊥) → regrown ≡ told 7 0 0 (s .cap) 0
     unfolding grownFile
     grown-full n = rw (ne-eqb _ _ n)
 
-    grow-tells : tells f (grow row) ≡ onGate (growGate s area (length row)) numbers regrown
+    grow-tells : tells f (grow row) ≡ onGate (growGate (f .layout) s area (length row)) numbers regrown
     unfolding left
-    grow-tells = go (growGate s area (length row))
+    grow-tells = go (growGate (f .layout) s area (length row))
       where
-        go : (g : Gate) → numbers (onGate g (λ why. record { done = done s why; area = area; row = row }) (grownFile s area) .done .answer) ≡ onGate g numbers regrown
+        go : (g : Gate) → numbers (onGate g (λ why. record { done = done s why; area = area; row = row }) (grownFile (f .layout) s area) .done .answer) ≡ onGate g numbers regrown
         go Open = refl
         go (Shut why) = refl
 
     -- what is refused at the entry of any call
-    shut-grow : (why : Answer) → gateOf s (length area) ≡ Shut why → growGate s area (length row) ≡ Shut why
+    shut-grow : (why : Answer) → gateOf (f .layout) s (length area) ≡ Shut why → growGate (f .layout) s area (length row) ≡ Shut why
     unfolding growGate
     shut-grow why e = rw e
 
     module _ (b : Bytes area) where
       pub grow-decided : Decided f (grow row) GoodToGrow (tells f (grow row))
-      grow-decided = rw grow-tells (go (enter s area))
+      grow-decided = rw grow-tells (go (enter (f .layout) s area))
         where
-          room : (r : Ranged s) (l : RightArea s area) (d : length row ≡ s .cap) (k : s .p ≡ s .cap → ⊥) (w : SomeBroken f → ⊥) (m : ImageOfR s area) → Dec (takesAll s area) → Decided f (grow row) GoodToGrow regrown
+          room : (r : Ranged (f .layout) s) (l : RightArea s area) (d : length row ≡ s .cap) (k : s .p ≡ s .cap → ⊥) (w : SomeBroken f → ⊥) (m : ImageOfR (f .layout) s area) → Dec (takesAll (f .layout) s area) → Decided f (grow row) GoodToGrow regrown
           room r l d k w m (yes t) =
-              let q : RoomToGrow f = record { is = m; room = room-of s area m .0 t } in
+              let q : RoomToGrow f = record { is = m; room = room-of (f .layout) s area m .0 t } in
               rw (grown-room t) (accepts f (grow row) refl (r, l, d, k, q)
               (inr (r, inr (l, inr (d, inr (k, inr (w, inr (m, inr (q, none-of 0 (1 ∷ 2 ∷ 3 ∷ 8 ∷ 4 ∷ 9 ∷ 7 ∷ []) refl))))))))
               (s .cap) strays (refl, refl))
           room r l d k w m (no t) =
-              let q : RoomToGrow f → ⊥ = λ v. t (room-of s area (v .is) .1 (v .room)) in
+              let q : RoomToGrow f → ⊥ = λ v. t (room-of (f .layout) s area (v .is) .1 (v .room)) in
               rw (grown-full t) (late f (grow row) 7 refl refl (λ v. q (v .4)) (inr (r, inr (l, inr (d, inr (k, inr (w, inr (m, inl (q, refl)))))))))
 
-          pages : (r : Ranged s) (l : RightArea s area) (d : length row ≡ s .cap) (k : s .p ≡ s .cap → ⊥) → Pages f → Decided f (grow row) GoodToGrow (onGate (imageGate s area) numbers regrown)
+          pages : (r : Ranged (f .layout) s) (l : RightArea s area) (d : length row ≡ s .cap) (k : s .p ≡ s .cap → ⊥) → Pages f → Decided f (grow row) GoodToGrow (onGate (imageGate (f .layout) s area) numbers regrown)
           pages r l d k (sick a w n i) = rw i (sickly f (grow row) refl (λ v. n (v .4 .is)) (inr (r, inr (l, inr (d, inr (k, inl ((a, w .broken), refl)))))) a w)
           pages r l d k (strange w n i) = rw i (late f (grow row) 9 refl refl (λ v. n (v .4 .is)) (inr (r, inr (l, inr (d, inr (k, inr (w, inl (n, refl))))))))
           pages r l d k (whole w m i) =
-              let held = cat (heldFrom area (s .cap) 0) [] in
-              rw i (room r l d k w m (ℕ-discrete (taken (homeFor (homes (grown s))) 12 held (s .cap)) (length held)))
+              let held = cat (heldFrom (f .layout) area (s .cap) 0) [] in
+              rw i (room r l d k w m (ℕ-discrete (taken (homeFor (homes (grown s))) (slotsOf (f .layout)) held (s .cap)) (length held)))
 
-          tries : (r : Ranged s) (l : RightArea s area) → Rows f row → Decided f (grow row) GoodToGrow (onGate (growGate s area (length row)) numbers regrown)
+          tries : (r : Ranged (f .layout) s) (l : RightArea s area) → Rows f row → Decided f (grow row) GoodToGrow (onGate (growGate (f .layout) s area (length row)) numbers regrown)
           tries r l (other-row d g) = rw g (early f (grow row) 3 refl refl (λ a. d (a .2)) (inr (r, inr (l, inl (d, refl)))) refl)
           tries r l (at-cap d k g) = rw g (early f (grow row) 8 refl refl (λ a. a .3 k) (inr (r, inr (l, inr (d, inl (k, refl))))) refl)
           tries r l (below d k g) = rw g (pages r l d k (judge f b r l))
 
-          go : Enters s area → Decided f (grow row) GoodToGrow (onGate (growGate s area (length row)) numbers regrown)
+          go : Enters (f .layout) s area → Decided f (grow row) GoodToGrow (onGate (growGate (f .layout) s area (length row)) numbers regrown)
           go (out r g) = rw (shut-grow _ g) (early f (grow row) 1 refl refl (λ a. r (a .0)) (inl (r, refl)) refl)
           go (other r l g) = rw (shut-grow _ g) (early f (grow row) 2 refl refl (λ a. l (a .1)) (inr (r, inl (l, refl))) refl)
           go (entered r l g) = tries r l (try-row f row g)

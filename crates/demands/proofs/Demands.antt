@@ -5,6 +5,7 @@ use mathlib.Core.Option.{Option, none, some}
 use mathlib.Core.List.{List, [], _∷_}
 use Prim.Native.Nat.{ℕ}
 use native.Mathlib.Omega.{arith}
+use Rattle.layouts.specs.Layout.{slotsOf}
 use Rattle.placing.specs.Image.{Image}
 use Rattle.placing.specs.Rows.{counts}
 use Rattle.placing.proofs.Images.{one-image}
@@ -118,7 +119,7 @@ module _ (m : Kept) (ps : List (List Record)) (s : Stands m ps) where
       go c (refused why row p e) =
           let n = plain-number why p in
           (λ z. n .1 (sym (number e) ∙ z), λ z. n .2 (sym (number e) ∙ z))
-      go c (accepted new v row k a) = (λ z. omega (arith, number (a .left)), λ z. omega (arith, number (a .left)))
+      go c (accepted new v row q k a) = (λ z. omega (arith, number (a .left)), λ z. omega (arith, number (a .left)))
       go c (said u k e) = (λ z. omega (arith, number e), λ z. omega (arith, number e))
 
   image-stands : TheImage m f
@@ -127,14 +128,14 @@ module _ (m : Kept) (ps : List (List Record)) (s : Stands m ps) where
   room-put-stands : RoomPut m f
   room-put-stands x fits e =
       either (refusal f (put x)) 7 0 (λ z. omega arith)
-      (room-told 12 (homes (stateOf m)) (m .cap) (x ∷ m .held) (set-put x (s .set) (fits .0) e))
-      (λ r. number (put-new s x (fits .0) e (fits .1) r .left))
+      (room-told (slotsOf (m .layout)) (homes (stateOf m)) (m .cap) (x ∷ m .held) (set-put x (s .set) (fits .0) e))
+      (λ r. number (put-new s x (fits .0) e fits r .left))
       (λ n. number (put-full s x (fits .0) e n .1))
 
   room-grow-stands : RoomGrow m f
   room-grow-stands row low l =
       either (refusal f (grow row)) 7 0 (λ z. omega arith)
-      (room-told 12 (homes (grown (stateOf m))) (m .cap) (m .held) (s .set))
+      (room-told (slotsOf (m .layout)) (homes (grown (stateOf m))) (m .cap) (m .held) (s .set))
       (λ r. number (grow-with-room s row l low r .left))
       (λ n. number (grow-no-room s row l low n))
 
@@ -148,7 +149,7 @@ module _ (m : Kept) (ps : List (List Record)) (s : Stands m ps) where
       go (larger a) = ap (λ (t : Left). t .row) (a .left)
 
   counted-stands : Counted m f
-  counted-stands = record { state = refl; due = ap (λ (t : Left). t .said) (due-stands s) }
+  counted-stands = record { state = refl; layout = refl; due = ap (λ (t : Left). t .said) (due-stands s) }
 
 -- what holds of every file that stands holds after every fresh history
 after-fresh : (P : Kept → File → Type 0) → ((m : Kept) (ps : List (List Record)) → Stands m ps → P m (fileOf m ps)) → AfterFresh P
@@ -160,8 +161,8 @@ after-fresh P k m g w =
 same-stands : (a b : Kept) (ps qs : List (List Record)) → Agree a b → Stands a ps → Stands b qs → fileOf a ps ≡ fileOf b qs
 same-stands a b ps qs e s t =
     let p = same-records (s .set) (t .set) (e .held) in
-    let i : Image key (homes (stateOf a)) 12 (a .cap) (b .held) qs = rw (e .params, e .cap, e .p) (t .image) in
-    rw (one-image key (homes (stateOf a)) 12 (s .set) p (s .image) i, perm-length p, e .params, e .cap, e .p)
+    let i : Image key (homes (stateOf a)) (slotsOf (a .layout)) (a .cap) (b .held) qs = rw (e .layout, e .params, e .cap, e .p) (t .image) in
+    rw (one-image key (homes (stateOf a)) (slotsOf (a .layout)) (s .set) p (s .image) i, perm-length p, e .layout, e .params, e .cap, e .p)
 
 same : (a b : Kept) (g h : File) → Fresh a g → Fresh b h → Agree a b → g ≡ h
 same a b g h v w e =

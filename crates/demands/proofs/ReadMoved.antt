@@ -53,5 +53,5 @@ module _ (m : Kept) (ps : List (List Record)) (s : Stands m ps) where
 
       go : Step m ps c → moved (fileOf m ps) c ≡ differ c (pagesOf (fileOf m ps)) (pagesOf (left (fileOf m ps) c .file))
       go (refused why row p e) = told e (rw (clean-held (on-clean s)) (p .1 ∙ sym (none-differ c ps)))
-      go (accepted new v row k a) = told (a .left) (rw (clean-held (on-clean (a .stands))) (a .moves))
+      go (accepted new v row q k a) = told (a .left) (rw (clean-held (on-clean (a .stands))) (a .moves))
       go (said u k e) = told e (rw (clean-held (on-clean s)) (sym (none-differ c ps)))

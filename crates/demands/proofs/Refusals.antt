@@ -5,6 +5,7 @@ use mathlib.Core.Logic.{_↔_, inl}
 use mathlib.Core.List.{[], _∷_}
 use Prim.Native.Nat.{ℕ, _*_, _<_}
 use native.Mathlib.Omega.{arith}
+use Rattle.layouts.specs.Layout.{slotsOn}
 use Rattle.state.specs.Promises.{Ranged}
 use Rattle.state.proofs.Promises.{state-promises}
 use Rattle.numbers.specs.Little.{Bytes}
@@ -89,9 +90,9 @@ says-so true e =
 says-so false e =
     ((λ q. absurd (let z : _≡_ {A = ℕ} 0 1 = cc in omega arith), λ x. absurd (false≢true (e .1 x))), (λ q x. false≢true (e .1 x), λ n. refl))
 
-due-says : (f : File) → let X = Ranged (f .state) × (48 * f .state .p < 5 * f .state .r) in ((left f due .said ≡ says true) ↔ X) × ((left f due .said ≡ says false) ↔ (X → ⊥))
+due-says : (f : File) → let X = Ranged (f .layout) (f .state) × (4 * slotsOn (f .layout) (f .state .p) < 5 * f .state .r) in ((left f due .said ≡ says true) ↔ X) × ((left f due .said ≡ says false) ↔ (X → ⊥))
 unfolding left
-due-says f = says-so (isDue (f .state)) (state-promises .due (f .state))
+due-says f = says-so (isDue (f .layout) (f .state)) (state-promises .due (f .layout) (f .state))
 
 pub refusals : Refusals
 refusals f b =

@@ -8,6 +8,7 @@ use native.Mathlib.Decide.{ℕ-discrete}
 use native.Mathlib.Omega.{arith}
 use lib.Dec.{eqb}
 use lib.ListN.{length}
+use Rattle.layouts.specs.Layout.{slotsOn, slotsOf}
 use Rattle.pages.specs.Page.{Record, key, value}
 use Rattle.pages.specs.Area.{pagesFrom}
 use Rattle.state.specs.declared.State.{State}
@@ -56,10 +57,10 @@ module _ (f : File) (x : Record) where
   away p q a b = neither (none-of (p .refusal) (6 ∷ 13 ∷ []) a) (λ e. none-of (q .refusal) (0 ∷ []) b (inl e))
 
   abbrev comesTo : Walked → Numbers
-  comesTo w = numbers (settled s area (oneMore s) (eqb (s .r) (12 * s .cap)) w .done .answer)
+  comesTo w = numbers (settled (f .layout) s area (oneMore s) (eqb (s .r) (slotsOn (f .layout) (s .cap))) w .done .answer)
 
   -- no carry ends in one of the two
-  carried : (u : Bool) (w : Walked) → StopsWith f (4 ∷ 7 ∷ []) w → OneOf (numbers (settled s area (oneMore s) u w .done .answer) .refusal) (6 ∷ 13 ∷ []) → ⊥
+  carried : (u : Bool) (w : Walked) → StopsWith f (4 ∷ 7 ∷ []) w → OneOf (numbers (settled (f .layout) s area (oneMore s) u w .done .answer) .refusal) (6 ∷ 13 ∷ []) → ⊥
   carried u (stopped why) t =
       each-of (λ k. OneOf k (6 ∷ 13 ∷ []) → ⊥) (numbers why .refusal) (4 ∷ 7 ∷ []) (none-of 4 (6 ∷ 13 ∷ []) refl, (none-of 7 (6 ∷ 13 ∷ []) refl, tt)) (t .gives)
   carried true (went ws n m) t = none-of 9 (6 ∷ 13 ∷ []) refl
@@ -69,23 +70,23 @@ module _ (f : File) (x : Record) where
   held v n (yes e) = repeats n (rw (again-same (value x) v n e, e)) (rw e)
   held v n (no e) = clashes v n e (rw (again-other (value x) v n e)) refl
 
-  met : (m : Met) → Beside x (comesTo (putMet (homes s) area (s .cap) x m)) (numbers (findAnswer m))
+  met : (m : Met) → Beside x (comesTo (putMet (f .layout) (homes s) area (s .cap) x m)) (numbers (findAnswer m))
   met (Found a i c v n) = held v n (ℕ-discrete (value x) v)
   met (mets.Broken a n) = away _ _ refl refl
   met (Ends a i c n) =
-      neither (carried (eqb (s .r) (12 * s .cap)) (carry 12 (homes s) a (n - 1) 0 x (pagesFrom (homes s) area (s .cap - a) a)) (carry-stops f (s .cap - a) a (n - 1) 0 x (omega arith)))
+      neither (carried (eqb (s .r) (slotsOn (f .layout) (s .cap))) (carry (slotsOf (f .layout)) (homes s) a (n - 1) 0 x (pagesFrom (f .layout) (homes s) area (s .cap - a) a)) (carry-stops f (s .cap - a) a (n - 1) 0 x (omega arith)))
       (λ e. omega arith)
   met (mets.AtEnd n) = away _ _ refl refl
 
   beside : Beside x (tells f (put x)) (tells f (find (key x)))
   unfolding putWalk
-  beside = rw (put-tells f x, find-tells f (key x)) (go (enter s area))
+  beside = rw (put-tells f x, find-tells f (key x)) (go (enter (f .layout) s area))
     where
-      go : Enters s area
-          → Beside x (onGate (gateOf s (length area)) numbers (puts f x)) (onGate (gateOf s (length area)) numbers (numbers (findAnswer (walk (homes s) area (s .cap) (key x)))))
+      go : Enters (f .layout) s area
+          → Beside x (onGate (gateOf (f .layout) s (length area)) numbers (puts f x)) (onGate (gateOf (f .layout) s (length area)) numbers (numbers (findAnswer (walk (f .layout) (homes s) area (s .cap) (key x)))))
       go (out r g) = rw g (away _ _ refl refl)
       go (other r l g) = rw g (away _ _ refl refl)
-      go (entered r l g) = rw g (met (walk (homes s) area (s .cap) (key x)))
+      go (entered r l g) = rw g (met (walk (f .layout) (homes s) area (s .cap) (key x)))
 
   module _ (w n : ℕ) where
     pub repeat-told : (tells f (put x) ≡ told 6 0 w n 0) ↔ ((tells f (find (key x)) ≡ told 0 0 w n 0) × (value x ≡ w))

@@ -10,6 +10,8 @@ use native.Mathlib.Omega.{arith}
 use lib.Dec.{ltb, eqb}
 use lib.ListN.{length, replicate}
 use borrow.Author.Tests.{ne-eqb}
+use Rattle.layouts.specs.Layout.{slotsOn, slotsOf}
+use Rattle.layouts.specs.declared.Layout.{Layout}
 use Rattle.homes.specs.declared.Params.{Params}
 use Rattle.placing.specs.Image.{All, Room}
 use Rattle.pages.specs.Page.{Record, key, value}
@@ -42,8 +44,8 @@ plain-number why p =
 -- what a call comes to on a file that stands
 pub data Step (m : Kept) (ps : List (List Record)) (c : Call) : Type 0 where
   refused : (why : Answer) (row : List ℕ) → Plain why → Refused m ps c why row → Step m ps c
-  accepted : (new : Kept) (v : ℕ) (row : List ℕ) → makes (some m) c ≡ some new → Accepts m new ps c v row → Step m ps c
-  said : (u : Bool) → makes (some m) c ≡ some m → left (fileOf m ps) c ≡ record { said = says u; file = fileOf m ps; row = [] } → Step m ps c
+  accepted : (new : Kept) (v : ℕ) (row : List ℕ) → new .layout ≡ m .layout → makes (m .layout) (some m) c ≡ some new → Accepts m new ps c v row → Step m ps c
+  said : (u : Bool) → makes (m .layout) (some m) c ≡ some m → left (fileOf m ps) c ≡ record { said = says u; file = fileOf m ps; row = [] } → Step m ps c
 
 -- what a put comes to: its number was held, with the commit that it offers or with another, or
 -- there is no room, or it is new
@@ -62,17 +64,17 @@ pub data Grows (m : Kept) (ps : List (List Record)) (row : List ℕ) : Type 0 wh
 
 module _ {m : Kept} {ps : List (List Record)} (s : Stands m ps) where
   -- due asks for the load alone
-  pub due-stands : left (fileOf m ps) due ≡ record { said = says (ltb (48 * m .p) (5 * length (m .held))); file = fileOf m ps; row = [] }
+  pub due-stands : left (fileOf m ps) due ≡ record { said = says (ltb (4 * slotsOn (m .layout) (m .p)) (5 * length (m .held))); file = fileOf m ps; row = [] }
   unfolding left
   due-stands = rw (s .range)
 
   -- a growth, by its row, the pages left and what there is room for
   pub grow-comes : (row : List ℕ) → Grows m ps row
-  grow-comes row = go (ℕ-discrete (length row) (m .cap)) (decLt (m .p) (m .cap)) (room-told 12 (homes (grown (stateOf m))) (m .cap) (m .held) (s .set))
+  grow-comes row = go (ℕ-discrete (length row) (m .cap)) (decLt (m .p) (m .cap)) (room-told (slotsOf (m .layout)) (homes (grown (stateOf m))) (m .cap) (m .held) (s .set))
     where
-      go : Dec (length row ≡ m .cap) → Dec (m .p < m .cap) → Dec (Room key (homes (grown (stateOf m))) 12 (m .cap) (m .held)) → Grows m ps row
+      go : Dec (length row ≡ m .cap) → Dec (m .p < m .cap) → Dec (Room key (homes (grown (stateOf m))) (slotsOf (m .layout)) (m .cap) (m .held)) → Grows m ps row
       go (no f) d r = other-row (grow-other-row s row f)
-      go (yes l) (no f) r = at-cap (grow-no-page s row l (omega (arith, ranged (stateOf m) (s .range) .p-high)))
+      go (yes l) (no f) r = at-cap (grow-no-page s row l (omega (arith, ranged (m .layout) (stateOf m) (s .range) .p-high)))
       go (yes l) (yes low) (no f) = crowded (grow-no-room s row l low f)
       go (yes l) (yes low) (yes r) = larger (grow-with-room s row l low r)
 
@@ -80,28 +82,28 @@ module _ {m : Kept} {ps : List (List Record)} (s : Stands m ps) where
   grow-step row (other-row a) = refused WrongRow row (refl, refl) a
   grow-step row (at-cap a) = refused AtCap row (refl, refl) a
   grow-step row (crowded a) = refused (NoRoom (m .cap)) (grownRow (stateOf m) (m .held)) (refl, refl) a
-  grow-step row (larger a) = accepted (paged m) 0 (grownRow (stateOf m) (m .held)) refl a
+  grow-step row (larger a) = accepted (paged m) 0 (grownRow (stateOf m) (m .held)) refl refl a
 
   find-step : (k : ℕ) → k < 2 ^ 64 → Step m ps (find k)
   find-step k l = go (commitOf k (m .held)) refl
     where
       go : (o : Option ℕ) → commitOf k (m .held) ≡ o → Step m ps (find k)
-      go (some v) e = accepted m v [] refl (find-held s k l v e)
+      go (some v) e = accepted m v [] refl refl (find-held s k l v e)
       go none e = let w = find-absent s k l e in refused (Absent (w .0)) [] (refl, refl) (w .1)
 
   remove-step : (k : ℕ) → k < 2 ^ 64 → Step m ps (remove k)
   remove-step k l = go (commitOf k (m .held)) refl
     where
       go : (o : Option ℕ) → commitOf k (m .held) ≡ o → Step m ps (remove k)
-      go (some v) e = accepted (holding m (without k (m .held))) 0 [] refl (remove-held s k l v e)
+      go (some v) e = accepted (holding m (without k (m .held))) 0 [] refl refl (remove-held s k l v e)
       go none e = let w = remove-absent s k l e in refused (Absent (w .0)) [] (refl, refl) (w .1)
 
   -- a put, by what is held and by what there is room for
-  pub put-comes : (x : Record) → Fits (put x) → Puts m ps x
+  pub put-comes : (x : Record) → Fits (m .layout) (put x) → Puts m ps x
   put-comes x f = go (commitOf (key x) (m .held)) refl
     where
-      room : commitOf (key x) (m .held) ≡ none → Dec (Room key (homes (stateOf m)) 12 (m .cap) (x ∷ m .held)) → Puts m ps x
-      room e (yes r) = joined e (put-new s x (f .0) e (f .1) r)
+      room : commitOf (key x) (m .held) ≡ none → Dec (Room key (homes (stateOf m)) (slotsOf (m .layout)) (m .cap) (x ∷ m .held)) → Puts m ps x
+      room e (yes r) = joined e (put-new s x (f .0) e f r)
       room e (no n) = let w = put-full s x (f .0) e n in turned-away (w .0) e (w .1)
 
       held : (w n : ℕ) → commitOf (key x) (m .held) ≡ some w → Refused m ps (put x) (again (value x) w n) [] → Dec (value x ≡ w) → Puts m ps x
@@ -110,31 +112,31 @@ module _ {m : Kept} {ps : List (List Record)} (s : Stands m ps) where
 
       go : (o : Option ℕ) → commitOf (key x) (m .held) ≡ o → Puts m ps x
       go (some w) e = let t = put-held s x (f .0) w e in held w (t .0) e (t .1) (ℕ-discrete (value x) w)
-      go none e = room e (room-told 12 (homes (stateOf m)) (m .cap) (x ∷ m .held) (set-put x (s .set) (f .0) e))
+      go none e = room e (room-told (slotsOf (m .layout)) (homes (stateOf m)) (m .cap) (x ∷ m .held) (set-put x (s .set) (f .0) e))
 
   put-step : (x : Record) → Puts m ps x → Step m ps (put x)
   put-step x (repeats w n e q a) = refused (Held w n) [] (refl, refl) a
   put-step x (clashes w n e q a) = refused (Clash w n) [] (refl, refl) a
   put-step x (turned-away n e a) = refused (NoRoom n) [] (refl, refl) a
-  put-step x (joined e a) = accepted (holding m (x ∷ m .held)) 0 [] refl a
+  put-step x (joined e a) = accepted (holding m (x ∷ m .held)) 0 [] refl refl a
 
   format-step : (q : Params) (cap : ℕ) → Step m ps (format q cap)
   format-step q cap = go (format-begins (fileOf m ps) q cap)
     where
       go : Begins (fileOf m ps) q cap (left (fileOf m ps) (format q cap)) → Step m ps (format q cap)
-      go (began e t) = accepted (begun q cap) 0 [] refl (record { read = 0; moved = 0; pages = replicate cap []; left = e; stands = t; moves = refl })
+      go (began e t) = accepted (begun (m .layout) q cap) 0 [] refl refl (record { read = 0; moved = 0; pages = replicate cap []; left = e; stands = t; moves = refl })
       go (outside e) = refused OutOfRange [] (refl, refl) e
       go (elsewhere e) = refused WrongArea [] (refl, refl) e
 
   -- any call
-  pub step : (c : Call) → Fits c → Step m ps c
+  pub step : (c : Call) → Fits (m .layout) c → Step m ps c
   step (format q cap) f = format-step q cap
   step (find k) f = find-step k f
   step (put x) f = put-step x (put-comes x f)
   step (remove k) f = remove-step k f
   step (grow row) f = grow-step row (grow-comes row)
-  step check f = accepted m 0 [] refl (check-yes s)
-  step due f = said (ltb (48 * m .p) (5 * length (m .held))) refl due-stands
+  step check f = accepted m 0 [] refl refl (check-yes s)
+  step due f = said (ltb (4 * slotsOn (m .layout) (m .p)) (5 * length (m .held))) refl due-stands
 
 -- what is kept is what stands
 abbrev pub Known : Option Kept → File → Type 0
@@ -150,25 +152,25 @@ still l = go (eqb (numbersOf (l .said) .refusal) 0)
     go false = tt
 
 -- after a call that comes to l
-abbrev Next : Option Kept → Call → Left → Type 0
-Next o c l = Known (cond (eqb (numbersOf (l .said) .refusal) 0) (makes o c) o) (l .file)
+abbrev Next : Layout → Option Kept → Call → Left → Type 0
+Next form o c l = Known (cond (eqb (numbersOf (l .said) .refusal) 0) (makes form o c) o) (l .file)
 
-step-next : (m : Kept) (ps : List (List Record)) → Stands m ps → (c : Call) → Step m ps c → Next (some m) c (left (fileOf m ps) c)
+step-next : (m : Kept) (ps : List (List Record)) → Stands m ps → (c : Call) → Step m ps c → Next (m .layout) (some m) c (left (fileOf m ps) c)
 step-next m ps s c (refused why row p e) =
-    let t : Next (some m) c (leaves (done (stateOf m) why) (areaFrom 0 ps) row) = rw (ne-eqb (numbers why .refusal) 0 (plain-number why p .0)) (ps, (refl, s)) in
+    let t : Next (m .layout) (some m) c (leaves (m .layout) (done (stateOf m) why) (areaFrom (m .layout) 0 ps) row) = rw (ne-eqb (numbers why .refusal) 0 (plain-number why p .0)) (ps, (refl, s)) in
     rw e t
-step-next m ps s c (accepted new v row k a) =
-    let t : Next (some m) c (leaves (done (stateOf new) (Accepted v (a .read) (a .moved))) (areaFrom 0 (a .pages)) row) = rw k (a .pages, (refl, a .stands)) in
+step-next m ps s c (accepted new v row q k a) =
+    let t : Next (m .layout) (some m) c (leaves (m .layout) (done (stateOf new) (Accepted v (a .read) (a .moved))) (areaFrom (m .layout) 0 (a .pages)) row) = rw (k, q) (a .pages, (refl, a .stands)) in
     rw (a .left) t
 step-next m ps s c (said u k e) =
-    let t : Next (some m) c (record { said = says u; file = fileOf m ps; row = [] }) = rw k (ps, (refl, s)) in
+    let t : Next (m .layout) (some m) c (record { said = says u; file = fileOf m ps; row = [] }) = rw k (ps, (refl, s)) in
     rw e t
 
 -- before a format is accepted nothing is known, and no other call makes anything known
-none-next : (f : File) (c : Call) → Next none c (left f c)
+none-next : (f : File) (c : Call) → Next (f .layout) none c (left f c)
 none-next f (format q cap) = go (left f (format q cap)) (format-begins f q cap)
   where
-    go : (l : Left) → Begins f q cap l → Next none (format q cap) l
+    go : (l : Left) → Begins f q cap l → Next (f .layout) none (format q cap) l
     go l (began e t) = rw e (replicate cap [], (refl, t))
     go l (outside e) = rw e tt
     go l (elsewhere e) = rw e tt
@@ -179,12 +181,23 @@ none-next f (grow row) = still (left f (grow row))
 none-next f check = still (left f check)
 none-next f due = still (left f due)
 
+-- a file keeps its layout
+same-layout : (f : File) (c : Call) → left f c .file .layout ≡ f .layout
+unfolding left
+same-layout f (format q cap) = refl
+same-layout f (find k) = refl
+same-layout f (put x) = refl
+same-layout f (remove k) = refl
+same-layout f (grow row) = refl
+same-layout f check = refl
+same-layout f due = refl
+
 -- so what a history keeps stands after it
-pub history : (o : Option Kept) (f : File) (cs : List Call) → Known o f → All Fits cs → Known (kept o f cs) (after f cs)
+pub history : (o : Option Kept) (f : File) (cs : List Call) → Known o f → All (Fits (f .layout)) cs → Known (kept o f cs) (after f cs)
 unfolding kept after
 history o f [] k w = k
-history o f (c ∷ cs) k w = history _ _ cs (next o k) (w .1)
+history o f (c ∷ cs) k w = history _ _ cs (next o k) (rw (same-layout f c) (w .1))
   where
-    next : (o : Option Kept) → Known o f → Next o c (left f c)
+    next : (o : Option Kept) → Known o f → Next (f .layout) o c (left f c)
     next none k = none-next f c
-    next (some m) k = rw (k .1 .0) (step-next m (k .0) (k .1 .1) c (step (k .1 .1) c (w .0)))
+    next (some m) k = rw (k .1 .0) (step-next m (k .0) (k .1 .1) c (step (k .1 .1) c (rw (k .1 .0) at (w .0))))

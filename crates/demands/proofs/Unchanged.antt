@@ -5,6 +5,7 @@ use mathlib.Core.List.{List, []}
 use Prim.Native.Nat.{ℕ, _*_}
 use lib.Dec.{eqb}
 use lib.ListN.{length, replicate}
+use Rattle.layouts.specs.Layout.{slotsOn, slotsOf}
 use Rattle.placing.specs.Image.{cat}
 use Rattle.placing.specs.Lay.{taken}
 use Rattle.placing.specs.Rows.{counts, strayed}
@@ -36,23 +37,23 @@ Leaves f l row = (number l ≡ 0 → ⊥) → (l .file ≡ f) × ((number l ≡ 
 
 module _ (f : File) where
   -- past a gate, or not
-  gated : (g : Gate) (o : Outcome) → Leaves f (ofOutcome o) [] → Leaves f (ofOutcome (onGate g (refused (f .state) (f .area)) o)) []
+  gated : (g : Gate) (o : Outcome) → Leaves f (ofOutcome (f .layout) o) [] → Leaves f (ofOutcome (f .layout) (onGate g (refused (f .state) (f .area)) o)) []
   gated Open o k = k
   gated (Shut why) o k = λ n. (refl, λ s. refl)
 
-  looks : (g : Gate) (a : Answer) → Leaves f (leaves (onGate g (done (f .state)) (done (f .state) a)) (f .area) []) []
+  looks : (g : Gate) (a : Answer) → Leaves f (leaves (f .layout) (onGate g (done (f .state)) (done (f .state) a)) (f .area) []) []
   looks Open a = λ n. (refl, λ s. refl)
   looks (Shut why) a = λ n. (refl, λ s. refl)
 
-  walked : (next : State) (wrong : Bool) (w : Walked) → Leaves f (ofOutcome (settled (f .state) (f .area) next wrong w)) []
+  walked : (next : State) (wrong : Bool) (w : Walked) → Leaves f (ofOutcome (f .layout) (settled (f .layout) (f .state) (f .area) next wrong w)) []
   walked next wrong (stopped why) = λ n. (refl, λ s. refl)
   walked next true (went pages read moved) = λ n. (refl, λ s. refl)
   walked next false (went pages read moved) = λ n. absurd (n refl)
 
-  rebuilt : (g : Gate) (row : List ℕ) → Leaves f (ofGrowth (onGate g (λ why. record { done = done (f .state) why; area = f .area; row = row }) (grownFile (f .state) (f .area)))) row
+  rebuilt : (g : Gate) (row : List ℕ) → Leaves f (ofGrowth (f .layout) (onGate g (λ why. record { done = done (f .state) why; area = f .area; row = row }) (grownFile (f .layout) (f .state) (f .area)))) row
   unfolding grownFile
   rebuilt (Shut why) row = λ n. (refl, λ s. refl)
-  rebuilt Open row = fits (eqb (taken (homeFor h) 12 held (s .cap)) (length held))
+  rebuilt Open row = fits (eqb (taken (homeFor h) (slotsOf (f .layout)) held (s .cap)) (length held))
     where
       s : State
       s = f .state
@@ -61,42 +62,42 @@ module _ (f : File) where
       h = homes (grown s)
 
       old : List (List Record)
-      old = heldFrom (f .area) (s .cap) 0
+      old = heldFrom (f .layout) (f .area) (s .cap) 0
 
       held : List Record
       held = cat old []
 
       new : List (List Record)
-      new = relaid h (s .cap) old
+      new = relaid (slotsOf (f .layout)) h (s .cap) old
 
       counted : List ℕ
       counted = counts (homeFor h) held (s .cap) 0
 
-      fits : (u : Bool) → Leaves f (ofGrowth (cond u (record { done = done (grown s) (Accepted 0 (s .cap) (strayed key old new)); area = areaFrom 0 new; row = counted }) (record { done = done s (NoRoom (s .cap)); area = f .area; row = counted }))) row
+      fits : (u : Bool) → Leaves f (ofGrowth (f .layout) (cond u (record { done = done (grown s) (Accepted 0 (s .cap) (strayed key old new)); area = areaFrom (f .layout) 0 new; row = counted }) (record { done = done s (NoRoom (s .cap)); area = f .area; row = counted }))) row
       fits true = λ n. absurd (n refl)
       fits false = λ n. (refl, λ t. absurd (t refl))
 
 pub total : (f : File) → Total f
 unfolding left
-total f (format q cap) = formats (gateOf (fresh q cap) (length (f .area)))
+total f (format q cap) = formats (gateOf (f .layout) (fresh q cap) (length (f .area)))
   where
     new : Outcome
-    new = record { done = done (fresh q cap) (Accepted 0 0 0); area = areaFrom 0 (replicate cap []) }
+    new = record { done = done (fresh q cap) (Accepted 0 0 0); area = areaFrom (f .layout) 0 (replicate cap []) }
 
-    formats : (g : Gate) → Leaves f (ofOutcome (onGate g (refused (f .state) (f .area)) new)) []
+    formats : (g : Gate) → Leaves f (ofOutcome (f .layout) (onGate g (refused (f .state) (f .area)) new)) []
     formats g = gated f g new (λ n. absurd (n refl))
-total f (find k) = looks f (gateOf (f .state) (length (f .area))) (findAnswer (walk (homes (f .state)) (f .area) (f .state .cap) k))
+total f (find k) = looks f (gateOf (f .layout) (f .state) (length (f .area))) (findAnswer (walk (f .layout) (homes (f .state)) (f .area) (f .state .cap) k))
 total f (put x) =
     let s = f .state in
-    gated f (gateOf s (length (f .area))) (putOpen s (f .area) x)
-    (walked f (oneMore s) (eqb (s .r) (12 * s .cap)) (putWalk (homes s) (f .area) (s .cap) x))
+    gated f (gateOf (f .layout) s (length (f .area))) (putOpen (f .layout) s (f .area) x)
+    (walked f (oneMore s) (eqb (s .r) (slotsOn (f .layout) (s .cap))) (putWalk (f .layout) (homes s) (f .area) (s .cap) x))
 total f (remove k) =
     let s = f .state in
-    gated f (gateOf s (length (f .area))) (removeOpen s (f .area) k) (walked f (oneLess s) (eqb (s .r) 0) (removeWalk (homes s) (f .area) (s .cap) k))
-total f (grow row) = rebuilt f (growGate (f .state) (f .area) (length row)) row
-total f check = checks (gateOf (f .state) (length (f .area))) (imageGate (f .state) (f .area))
+    gated f (gateOf (f .layout) s (length (f .area))) (removeOpen (f .layout) s (f .area) k) (walked f (oneLess s) (eqb (s .r) 0) (removeWalk (f .layout) (homes s) (f .area) (s .cap) k))
+total f (grow row) = rebuilt f (growGate (f .layout) (f .state) (f .area) (length row)) row
+total f check = checks (gateOf (f .layout) (f .state) (length (f .area))) (imageGate (f .layout) (f .state) (f .area))
   where
-    checks : (g i : Gate) → Leaves f (leaves (onGate g (done (f .state)) (onGate i (done (f .state)) (done (f .state) (Accepted 0 (f .state .cap) 0)))) (f .area) []) []
+    checks : (g i : Gate) → Leaves f (leaves (f .layout) (onGate g (done (f .state)) (onGate i (done (f .state)) (done (f .state) (Accepted 0 (f .state .cap) 0)))) (f .area) []) []
     checks Open i = looks f i (Accepted 0 (f .state .cap) 0)
     checks (Shut why) i = λ n. (refl, λ s. refl)
 total f due = λ n. absurd (n refl)

@@ -8,6 +8,7 @@ use native.Mathlib.Omega.{arith}
 use lib.Dec.{eqb}
 use lib.ListN.{length}
 use borrow.Author.Tests.{eqb-true, eq-eqb}
+use Rattle.layouts.specs.Layout.{slotsOn}
 use Rattle.pages.specs.Page.{Record}
 use Rattle.state.specs.Promises.{Ranged}
 use Rattle.state.specs.declared.State.{State}
@@ -40,14 +41,14 @@ module _ (f : File) where
   area = f .area
 
   module _ (k : ℕ) where
-    pub find-tells : tells f (find k) ≡ onGate (gateOf s (length area)) numbers (numbers (findAnswer (walk (homes s) area (s .cap) k)))
+    pub find-tells : tells f (find k) ≡ onGate (gateOf (f .layout) s (length area)) numbers (numbers (findAnswer (walk (f .layout) (homes s) area (s .cap) k)))
     unfolding left
-    find-tells = looks s (done s (findAnswer (walk (homes s) area (s .cap) k))) (gateOf s (length area))
+    find-tells = looks s (done s (findAnswer (walk (f .layout) (homes s) area (s .cap) k))) (gateOf (f .layout) s (length area))
 
     pub find-known : Known f (find k) (tells f (find k))
-    find-known = rw find-tells (go (enter s area))
+    find-known = rw find-tells (go (enter (f .layout) s area))
       where
-        met : Ranged s → RightArea s area → (m : Met) → MetBroken f m → Known f (find k) (numbers (findAnswer m))
+        met : Ranged (f .layout) s → RightArea s area → (m : Met) → MetBroken f m → Known f (find k) (numbers (findAnswer m))
         met r l (Found a i c v n) t = record { comes = inr (r, inr (l, none-of 0 (1 ∷ 2 ∷ []) refl)); gives = inl refl; accepted = λ e. refl; broken = λ e. absurd (omega arith) }
         met r l (mets.Broken a n) t =
             record {
@@ -59,15 +60,15 @@ module _ (f : File) where
         met r l (Ends a i c n) t = refuses f (find k) 5 n refl refl (inr (r, inr (l, none-of 5 (1 ∷ 2 ∷ []) refl)))
         met r l (mets.AtEnd n) t = refuses f (find k) 5 n refl refl (inr (r, inr (l, none-of 5 (1 ∷ 2 ∷ []) refl)))
 
-        go : Enters s area → Known f (find k) (onGate (gateOf s (length area)) numbers (numbers (findAnswer (walk (homes s) area (s .cap) k))))
+        go : Enters (f .layout) s area → Known f (find k) (onGate (gateOf (f .layout) s (length area)) numbers (numbers (findAnswer (walk (f .layout) (homes s) area (s .cap) k))))
         go (out r g) = rw g (refuses f (find k) 1 0 refl refl (inl (r, refl)))
         go (other r l g) = rw g (refuses f (find k) 2 0 refl refl (inr (r, inl (l, refl))))
-        go (entered r l g) = rw g (met r l (walk (homes s) area (s .cap) k) (walk-broken f k))
+        go (entered r l g) = rw g (met r l (walk (f .layout) (homes s) area (s .cap) k) (walk-broken f k))
 
   -- past the gate, a put or a removal comes to what its walk tells, or to its count
   module _ (c : Call) (past : (k : ℕ) → (OneOf k (1 ∷ 2 ∷ []) → ⊥) → Comes k (order f c) (order f c)) (zero : listed 0 (gives c) ≡ true) (nine : listed 9 (gives c) ≡ true)
       (accepts : (read moved : ℕ) → AcceptedTells f c (told 0 0 0 read moved)) (next : State) {Wrong : Type 0} where
-    settles : (wrong : Bool) → (wrong ≡ true) ↔ Wrong → (w : Walked) → StopsWith f (gives c) w → Settled f c Wrong (numbers (settled s area next wrong w .done .answer))
+    settles : (wrong : Bool) → (wrong ≡ true) ↔ Wrong → (w : Walked) → StopsWith f (gives c) w → Settled f c Wrong (numbers (settled (f .layout) s area next wrong w .done .answer))
     settles wrong e (stopped why) t =
         record {
           known = record {
@@ -104,36 +105,36 @@ module _ (f : File) where
 
   module _ (x : Record) where
     abbrev pub puts : Numbers
-    puts = numbers (putOpen s area x .done .answer)
+    puts = numbers (putOpen (f .layout) s area x .done .answer)
 
-    pub put-tells : tells f (put x) ≡ onGate (gateOf s (length area)) numbers puts
+    pub put-tells : tells f (put x) ≡ onGate (gateOf (f .layout) s (length area)) numbers puts
     unfolding left
-    put-tells = gated s area (putOpen s area x) (gateOf s (length area))
+    put-tells = gated s area (putOpen (f .layout) s area x) (gateOf (f .layout) s (length area))
 
-    pub put-settled : Settled f (put x) (s .r ≡ 12 * s .cap) (tells f (put x))
-    put-settled = rw put-tells (go (enter s area))
+    pub put-settled : Settled f (put x) (s .r ≡ slotsOn (f .layout) (s .cap)) (tells f (put x))
+    put-settled = rw put-tells (go (enter (f .layout) s area))
       where
-        go : Enters s area → Settled f (put x) (s .r ≡ 12 * s .cap) (onGate (gateOf s (length area)) numbers puts)
+        go : Enters (f .layout) s area → Settled f (put x) (s .r ≡ slotsOn (f .layout) (s .cap)) (onGate (gateOf (f .layout) s (length area)) numbers puts)
         go (out r g) = rw g (shut (put x) 1 refl refl refl (inl (r, refl)))
         go (other r l g) = rw g (shut (put x) 2 refl refl refl (inr (r, inl (l, refl))))
         go (entered r l g) =
-            rw g (settles (put x) (λ n d. inr (r, inr (l, d))) refl refl (λ n m. refl) (oneMore s) (eqb (s .r) (12 * s .cap)) (equal (s .r) (12 * s .cap))
-            (putWalk (homes s) area (s .cap) x) (put-stops f x))
+            rw g (settles (put x) (λ n d. inr (r, inr (l, d))) refl refl (λ n m. refl) (oneMore s) (eqb (s .r) (slotsOn (f .layout) (s .cap))) (equal (s .r) (slotsOn (f .layout) (s .cap)))
+            (putWalk (f .layout) (homes s) area (s .cap) x) (put-stops f x))
 
   module _ (k : ℕ) where
     abbrev removes : Numbers
-    removes = numbers (removeOpen s area k .done .answer)
+    removes = numbers (removeOpen (f .layout) s area k .done .answer)
 
-    remove-tells : tells f (remove k) ≡ onGate (gateOf s (length area)) numbers removes
+    remove-tells : tells f (remove k) ≡ onGate (gateOf (f .layout) s (length area)) numbers removes
     unfolding left
-    remove-tells = gated s area (removeOpen s area k) (gateOf s (length area))
+    remove-tells = gated s area (removeOpen (f .layout) s area k) (gateOf (f .layout) s (length area))
 
     pub remove-settled : Settled f (remove k) (s .r ≡ 0) (tells f (remove k))
-    remove-settled = rw remove-tells (go (enter s area))
+    remove-settled = rw remove-tells (go (enter (f .layout) s area))
       where
-        go : Enters s area → Settled f (remove k) (s .r ≡ 0) (onGate (gateOf s (length area)) numbers removes)
+        go : Enters (f .layout) s area → Settled f (remove k) (s .r ≡ 0) (onGate (gateOf (f .layout) s (length area)) numbers removes)
         go (out r g) = rw g (shut (remove k) 1 refl refl refl (inl (r, refl)))
         go (other r l g) = rw g (shut (remove k) 2 refl refl refl (inr (r, inl (l, refl))))
         go (entered r l g) =
             rw g (settles (remove k) (λ n d. inr (r, inr (l, d))) refl refl (λ n m. refl) (oneLess s) (eqb (s .r) 0) (equal (s .r) 0)
-            (removeWalk (homes s) area (s .cap) k) (remove-stops f k))
+            (removeWalk (f .layout) (homes s) area (s .cap) k) (remove-stops f k))

@@ -9,6 +9,7 @@ use Prim.Native.Nat.{ℕ, zero, suc, _-_, _≤_}
 use native.Mathlib.Omega.{arith}
 use lib.Dec.{leb, ltb, eqb}
 use lib.ListN.{length, take, getD}
+use Rattle.layouts.specs.Layout.{slotsOf}
 use Rattle.placing.specs.Lay.{rankOf, rankIn, ins}
 use Rattle.placing.specs.Walks.{endsOn}
 use Rattle.pages.specs.Page.{Record, vacant, key, value, recordsIn, readPage}
@@ -35,7 +36,7 @@ module _ (f : File) where
 
   -- the m pages from page a on
   abbrev from : (m a : ℕ) → List (Option (List Record))
-  from m a = pagesFrom h (f .area) m a
+  from m a = pagesFrom (f .layout) h (f .area) m a
 
   -- a page that the walk to a key calls broken is broken
   abbrev pub MetBroken : Met → Type 0
@@ -44,12 +45,12 @@ module _ (f : File) where
   MetBroken (Ends a i c n) = Unit {0}
   MetBroken (mets.AtEnd n) = Unit {0}
 
-  meets-broken : (k m a n : ℕ) → m ≤ cap - a → MetBroken (meets 12 h k a n (from m a))
+  meets-broken : (k m a n : ℕ) → m ≤ cap - a → MetBroken (meets (slotsOf (f .layout)) h k a n (from m a))
   meets-broken k zero a n l = tt
-  meets-broken k (suc m) a n l = go (readPage h a (partAt (f .area) a)) refl (meets-broken k m (suc a) (suc n) (omega arith))
+  meets-broken k (suc m) a n l = go (readPage (f .layout) h a (partAt (f .area) a)) refl (meets-broken k m (suc a) (suc n) (omega arith))
     where
       on : Met
-      on = meets 12 h k (suc a) (suc n) (from m (suc a))
+      on = meets (slotsOf (f .layout)) h k (suc a) (suc n) (from m (suc a))
 
       held : (p : List Record) (o : Option (ℕ × ℕ)) (u : Bool) → MetBroken on
           → MetBroken (onHeld o (λ i v. Found a i (length p) v (suc n)) (cond u (Ends a (ahead (rankIn key h) (rankOf h k) p) (length p) (suc n)) on))
@@ -57,11 +58,11 @@ module _ (f : File) where
       held p none true t = tt
       held p none false t = t
 
-      go : (o : Option (List Record)) → readPage h a (partAt (f .area) a) ≡ o → MetBroken on → MetBroken (meets 12 h k a n (o ∷ from m (suc a)))
+      go : (o : Option (List Record)) → readPage (f .layout) h a (partAt (f .area) a) ≡ o → MetBroken on → MetBroken (meets (slotsOf (f .layout)) h k a n (o ∷ from m (suc a)))
       go none q t = (omega arith, q)
-      go (some p) q t = held p (heldAt k 0 p) (endsOn (rankIn key h) 12 (rankOf h k) p) t
+      go (some p) q t = held p (heldAt k 0 p) (endsOn (rankIn key h) (slotsOf (f .layout)) (rankOf h k) p) t
 
-  pub walk-broken : (k : ℕ) → MetBroken (walk h (f .area) cap k)
+  pub walk-broken : (k : ℕ) → MetBroken (walk (f .layout) h (f .area) cap k)
   unfolding walk
   walk-broken k = meets-broken k (cap - h k) (h k) 0 (omega arith)
 
@@ -93,21 +94,21 @@ module _ (f : File) where
   abbrev carryStops : List ℕ
   carryStops = 4 ∷ 7 ∷ []
 
-  pub carry-stops : (m a n c : ℕ) (x : Record) → m ≤ cap - a → StopsWith carryStops (carry 12 h a n c x (from m a))
+  pub carry-stops : (m a n c : ℕ) (x : Record) → m ≤ cap - a → StopsWith carryStops (carry (slotsOf (f .layout)) h a n c x (from m a))
   carry-stops zero a n c x l = stop carryStops 7 0 n refl refl
-  carry-stops (suc m) a n c x l = go (readPage h a (partAt (f .area) a)) refl (λ y. carry-stops m (suc a) (suc n) (suc c) y (omega arith))
+  carry-stops (suc m) a n c x l = go (readPage (f .layout) h a (partAt (f .area) a)) refl (λ y. carry-stops m (suc a) (suc n) (suc c) y (omega arith))
     where
-      room : (q : List Record) (u : Bool) (on : Walked) → StopsWith carryStops on → StopsWith carryStops (cond u (went ((a, q) ∷ []) (suc n) c) (andPage a (take 12 q) on))
+      room : (q : List Record) (u : Bool) (on : Walked) → StopsWith carryStops on → StopsWith carryStops (cond u (went ((a, q) ∷ []) (suc n) c) (andPage a (take (slotsOf (f .layout)) q) on))
       room q true on t = tt
-      room q false on t = wrote-stops carryStops a (take 12 q) on t
+      room q false on t = wrote-stops carryStops a (take (slotsOf (f .layout)) q) on t
 
-      go : (o : Option (List Record)) → readPage h a (partAt (f .area) a) ≡ o → ((y : Record) → StopsWith carryStops (carry 12 h (suc a) (suc n) (suc c) y (from m (suc a))))
-          → StopsWith carryStops (carry 12 h a n c x (o ∷ from m (suc a)))
+      go : (o : Option (List Record)) → readPage (f .layout) h a (partAt (f .area) a) ≡ o → ((y : Record) → StopsWith carryStops (carry (slotsOf (f .layout)) h (suc a) (suc n) (suc c) y (from m (suc a))))
+          → StopsWith carryStops (carry (slotsOf (f .layout)) h a n c x (o ∷ from m (suc a)))
       go none q on = stop-broken carryStops a (suc n) refl (omega arith, q)
       go (some p) q on =
           let r = ins (rankIn key h) x p in
-          let y = getD r 12 x in
-          room r (ltb (length p) 12) (carry 12 h (suc a) (suc n) (suc c) y (from m (suc a))) (on y)
+          let y = getD r (slotsOf (f .layout)) x in
+          room r (ltb (length p) (slotsOf (f .layout))) (carry (slotsOf (f .layout)) h (suc a) (suc n) (suc c) y (from m (suc a))) (on y)
 
   -- the numbers of any put
   abbrev putStops : List ℕ
@@ -122,27 +123,27 @@ module _ (f : File) where
         broken = t .broken;
       }
 
-  pub put-stops : (x : Record) → StopsWith putStops (putWalk h (f .area) cap x)
+  pub put-stops : (x : Record) → StopsWith putStops (putWalk (f .layout) h (f .area) cap x)
   unfolding putWalk
-  put-stops x = go (walk h (f .area) cap (key x)) (walk-broken (key x))
+  put-stops x = go (walk (f .layout) h (f .area) cap (key x)) (walk-broken (key x))
     where
       held : (u : Bool) (v n : ℕ) → Stop putStops (numbers (cond u (Held v n) (Clash v n)))
       held true v n = stop putStops 6 v n refl refl
       held false v n = stop putStops 13 v n refl refl
 
-      go : (m : Met) → MetBroken m → StopsWith putStops (putMet h (f .area) cap x m)
+      go : (m : Met) → MetBroken m → StopsWith putStops (putMet (f .layout) h (f .area) cap x m)
       go (Found a i c v n) t = held (eqb (value x) v) v n
       go (mets.Broken a n) t = stop-broken putStops a n refl t
-      go (Ends a i c n) t = carry-put (carry 12 h a (n - 1) 0 x (from (cap - a) a)) (carry-stops (cap - a) a (n - 1) 0 x (omega arith))
+      go (Ends a i c n) t = carry-put (carry (slotsOf (f .layout)) h a (n - 1) 0 x (from (cap - a) a)) (carry-stops (cap - a) a (n - 1) 0 x (omega arith))
       go (mets.AtEnd n) t = stop putStops 7 0 n refl refl
 
   -- and of any removal
   abbrev removeStops : List ℕ
   removeStops = gives (remove 0)
 
-  back-stops : (m a n c : ℕ) (p : List Record) → m ≤ cap - suc a → StopsWith removeStops (pullBack 12 h a n c p (from m (suc a)))
+  back-stops : (m a n c : ℕ) (p : List Record) → m ≤ cap - suc a → StopsWith removeStops (pullBack (slotsOf (f .layout)) h a n c p (from m (suc a)))
   back-stops zero a n c p l = tt
-  back-stops (suc m) a n c p l = go (readPage h (suc a) (partAt (f .area) (suc a))) refl (λ q. back-stops m (suc a) (suc n) (suc c) q (omega arith))
+  back-stops (suc m) a n c p l = go (readPage (f .layout) h (suc a) (partAt (f .area) (suc a))) refl (λ q. back-stops m (suc a) (suc n) (suc c) q (omega arith))
     where
       next : (y : Record) (q : List Record) (u v : Bool) (on : Walked) → StopsWith removeStops on
           → StopsWith removeStops (cond u (andPage a (ins (rankIn key h) y p) (cond v (went ((suc a, q) ∷ []) (suc n) (suc c)) on)) (went ((a, p) ∷ []) (suc n) c))
@@ -150,23 +151,23 @@ module _ (f : File) where
       next y q true false on t = wrote-stops removeStops a (ins (rankIn key h) y p) on t
       next y q false v on t = tt
 
-      go : (o : Option (List Record)) → readPage h (suc a) (partAt (f .area) (suc a)) ≡ o
-          → ((q : List Record) → StopsWith removeStops (pullBack 12 h (suc a) (suc n) (suc c) q (from m (suc (suc a)))))
-          → StopsWith removeStops (pullBack 12 h a n c p (o ∷ from m (suc (suc a))))
+      go : (o : Option (List Record)) → readPage (f .layout) h (suc a) (partAt (f .area) (suc a)) ≡ o
+          → ((q : List Record) → StopsWith removeStops (pullBack (slotsOf (f .layout)) h (suc a) (suc n) (suc c) q (from m (suc (suc a)))))
+          → StopsWith removeStops (pullBack (slotsOf (f .layout)) h a n c p (o ∷ from m (suc (suc a))))
       go none q on = stop-broken removeStops (suc a) (suc n) refl (omega arith, q)
       go (some []) q on = tt
-      go (some (y ∷ r)) q on = next y r (leb (h (key y)) a) (ltb (suc (length r)) 12) (pullBack 12 h (suc a) (suc n) (suc c) r (from m (suc (suc a)))) (on r)
+      go (some (y ∷ r)) q on = next y r (leb (h (key y)) a) (ltb (suc (length r)) (slotsOf (f .layout))) (pullBack (slotsOf (f .layout)) h (suc a) (suc n) (suc c) r (from m (suc (suc a)))) (on r)
 
-  pub remove-stops : (k : ℕ) → StopsWith removeStops (removeWalk h (f .area) cap k)
+  pub remove-stops : (k : ℕ) → StopsWith removeStops (removeWalk (f .layout) h (f .area) cap k)
   unfolding removeWalk
-  remove-stops k = go (walk h (f .area) cap k) (walk-broken k)
+  remove-stops k = go (walk (f .layout) h (f .area) cap k) (walk-broken k)
     where
-      full : (u : Bool) (a i n : ℕ) (p : List Record) → StopsWith removeStops (cond u (went ((a, closed i p) ∷ []) n 0) (pullBack 12 h a n 0 (closed i p) (from (cap - suc a) (suc a))))
+      full : (u : Bool) (a i n : ℕ) (p : List Record) → StopsWith removeStops (cond u (went ((a, closed i p) ∷ []) n 0) (pullBack (slotsOf (f .layout)) h a n 0 (closed i p) (from (cap - suc a) (suc a))))
       full true a i n p = tt
       full false a i n p = back-stops (cap - suc a) a n 0 (closed i p) (omega arith)
 
-      go : (m : Met) → MetBroken m → StopsWith removeStops (removeMet h (f .area) cap m)
-      go (Found a i c v n) t = let p = recordsIn (partAt (f .area) a) in full (ltb (length p) 12) a i n p
+      go : (m : Met) → MetBroken m → StopsWith removeStops (removeMet (f .layout) h (f .area) cap m)
+      go (Found a i c v n) t = let p = recordsIn (f .layout) (partAt (f .area) a) in full (ltb (length p) (slotsOf (f .layout))) a i n p
       go (mets.Broken a n) t = stop-broken removeStops a n refl t
       go (Ends a i c n) t = stop removeStops 5 0 n refl refl
       go (mets.AtEnd n) t = stop removeStops 5 0 n refl refl

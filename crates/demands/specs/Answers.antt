@@ -6,6 +6,7 @@ use contract.Lifetimes.{Lfts}
 use denote.Ref.{now}
 use denote.Triple.Entry.{Args, Res}
 use denote.Triple.Clauses.{Ended, Lasts, AtExit, atExit}
+use Rattle.layouts.specs.Layout.{inUse}
 use Rattle.state.proofs.State.due as Due
 use Rattle.register.proofs.format as Format
 use Rattle.register.proofs.find as Find
@@ -13,7 +14,7 @@ use Rattle.register.proofs.put as Put
 use Rattle.register.proofs.remove as Remove
 use Rattle.register.proofs.check as Check
 use Rattle.register.proofs.grow as Grow
-use Rattle.register.specs.Files.{format, find, put, remove, grow, check, due, fileOf, says, leaves, left}
+use Rattle.register.specs.Files.{format, find, put, remove, grow, check, due, fileIn, fileOf, says, leaves, left}
 
 module _ (T : Ended) where
   -- what a call is given, what it returns, and what it leaves of that which was lent to be changed
@@ -44,23 +45,23 @@ module _ (T : Ended) where
 pub record Answers : Type 0 where
   pub format : Settled Format.ended Format.Reads.Asked Format.Reads.Learnt
       (λ κs a. left (fileOf (a .0) (now (a .1 .1 .1 .0))) (format (a .1 .0) (a .1 .1 .0)))
-      (λ κs a y v. leaves y (v .1 .1 .1 .0) [])
+      (λ κs a y v. leaves inUse y (v .1 .1 .1 .0) [])
   pub find : Settled Find.ended Find.Reads.Asked Find.Reads.Learnt
       (λ κs a. left (fileOf (a .0) (now (a .1 .0))) (find (a .1 .1 .0)))
-      (λ κs a y v. leaves y (now (a .1 .0)) [])
+      (λ κs a y v. leaves inUse y (now (a .1 .0)) [])
   pub put : Settled Put.ended Put.Reads.Asked Put.Reads.Learnt
       (λ κs a. left (fileOf (a .0) (now (a .1 .0))) (put (a .1 .1 .0)))
-      (λ κs a y v. leaves y (v .1 .0) [])
+      (λ κs a y v. leaves inUse y (v .1 .0) [])
   pub remove : Settled Remove.ended Remove.Reads.Asked Remove.Reads.Learnt
       (λ κs a. left (fileOf (a .0) (now (a .1 .0))) (remove (a .1 .1 .0)))
-      (λ κs a y v. leaves y (v .1 .0) [])
+      (λ κs a y v. leaves inUse y (v .1 .0) [])
   pub grow : Settled Grow.ended Grow.Reads.Asked Grow.Reads.Learnt
       (λ κs a. left (fileOf (a .0) (now (a .1 .0))) (grow (now (a .1 .1 .0))))
-      (λ κs a y v. leaves y (v .1 .0) (v .1 .1 .0))
+      (λ κs a y v. leaves inUse y (v .1 .0) (v .1 .1 .0))
   pub check : Settled Check.ended Check.Reads.Asked Check.Reads.Learnt
       (λ κs a. left (fileOf (a .0) (now (a .1 .0))) check)
-      (λ κs a y v. leaves y (now (a .1 .0)) [])
-  -- due is asked of the state alone
+      (λ κs a y v. leaves inUse y (now (a .1 .0)) [])
+  -- due is asked of the state and the layout alone
   pub due : Settled Due.ended Due.Reads.Asked Due.Reads.Learnt
-      (λ κs a. left (fileOf (a .0) []) due)
-      (λ κs a y v. record { said = says y; file = fileOf (a .0) []; row = [] })
+      (λ κs a. left (fileIn (a .1 .0) (a .0) []) due)
+      (λ κs a y v. record { said = says y; file = fileIn (a .1 .0) (a .0) []; row = [] })

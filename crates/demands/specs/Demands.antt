@@ -7,13 +7,14 @@ use mathlib.Core.Option.{none, some}
 use mathlib.Core.List.{List, [], _∷_}
 use lib.ListN.{length}
 use lib.Dec.{ltb}
+use Rattle.layouts.specs.Layout.{slotsOf, slotsOn}
 use Rattle.placing.specs.Image.{All, RecordSet, Room}
 use Rattle.placing.specs.Rows.{counts}
 use Rattle.pages.specs.Page.{Record, key, value, homeFor}
 use Rattle.state.specs.State.{homes, grown}
 use Rattle.register.specs.OneImage.{AreaImage}
 use Rattle.register.specs.Files.{Call, format, find, put, remove, grow, check, due, File, says, left, numbersOf, after}
-use Rattle.demands.specs.Histories.{Fits, refusal, Kept, stateOf, commitOf, kept}
+use Rattle.demands.specs.Histories.{Fits, refusal, Kept, stateOf, recordOf, commitOf, kept}
 use Rattle.demands.specs.ReadMoved.{ReadHeld, ReadAbsent, ReadWithin, Moved}
 
 -- A file that a history left "from a fresh file": calls from any bytes and any state, a format
@@ -21,7 +22,7 @@ use Rattle.demands.specs.ReadMoved.{ReadHeld, ReadAbsent, ReadWithin, Mo
 pub record Fresh (m : Kept) (f : File) : Type 0 where
   pub start : File
   pub calls : List Call
-  pub fits : All Fits calls
+  pub fits : All (Fits (start .layout)) calls
   pub keeps : kept none start calls ≡ some m
   pub leaves : after start calls ≡ f
 
@@ -65,7 +66,7 @@ module _ (m : Kept) (f : File) where
     pub neither : ((refusal f (put x) ≡ 6 → ⊥) × (refusal f (put x) ≡ 13 → ⊥)) ↔ (commitOf (key x) (m .held) ≡ none)
 
   abbrev pub Retried : Type 0
-  Retried = (x : Record) → Fits (put x) → PutTold x
+  Retried = (x : Record) → Fits (m .layout) (put x) → PutTold x
 
   -- a removal is accepted where the request is held, and otherwise refused with 5
   abbrev pub Removed : Type 0
@@ -73,41 +74,43 @@ module _ (m : Kept) (f : File) where
 
   -- no call meets a broken page (4), a wrong count or a wrong image (9), and check says yes
   abbrev pub Sound : Type 0
-  Sound = ((c : Call) → Fits c → (refusal f c ≡ 4 → ⊥) × (refusal f c ≡ 9 → ⊥)) × (refusal f check ≡ 0)
+  Sound = ((c : Call) → Fits (m .layout) c → (refusal f c ≡ 4 → ⊥) × (refusal f c ≡ 9 → ⊥)) × (refusal f check ≡ 0)
 
   -- Demand 3: "the pages are the one image set by parameters, lent size, pages grown to and records
   -- held", in 01's sentence (`AreaImage`) and to the byte
   pub record TheImage : Type 0 where
     pub set : RecordSet key (m .held)
-    pub image : AreaImage (stateOf m) (f .area) (m .held)
+    pub image : AreaImage (m .layout) (stateOf m) (f .area) (m .held)
 
   -- "A put of a number not held .. is refused for room exactly when no arrangement on the lent
   -- pages, twelve to a page, puts every record (the new one included) at its home page .. or a
   -- higher one"; otherwise it is accepted
   abbrev pub RoomPut : Type 0
-  RoomPut = (x : Record) → Fits (put x) → commitOf (key x) (m .held) ≡ none
-      → let room = Room key (homes (stateOf m)) 12 (m .cap) (x ∷ m .held) in ((refusal f (put x) ≡ 7) ↔ (room → ⊥)) × ((refusal f (put x) ≡ 0) ↔ room)
+  RoomPut = (x : Record) → Fits (m .layout) (put x) → commitOf (key x) (m .held) ≡ none
+      → let room = Room key (homes (stateOf m)) (slotsOf (m .layout)) (m .cap) (x ∷ m .held) in ((refusal f (put x) ≡ 7) ↔ (room → ⊥)) × ((refusal f (put x) ≡ 0) ↔ room)
 
   -- and "a growth below the lent size with a row of the right length" likewise, each record at "its
   -- home after it"
   abbrev pub RoomGrow : Type 0
   RoomGrow = (row : List ℕ) → m .p < m .cap → length row ≡ m .cap
-      → let room = Room key (homes (grown (stateOf m))) 12 (m .cap) (m .held) in ((refusal f (grow row) ≡ 7) ↔ (room → ⊥)) × ((refusal f (grow row) ≡ 0) ↔ room)
+      → let room = Room key (homes (grown (stateOf m))) (slotsOf (m .layout)) (m .cap) (m .held) in ((refusal f (grow row) ≡ 7) ↔ (room → ⊥)) × ((refusal f (grow row) ≡ 0) ↔ room)
 
   -- the state tells the parameters, the lent size, the pages grown to and the number of records
-  -- held; 01: "Growth is due exactly when 5r > 48P"
+  -- held; 01: "Growth is due exactly when 5r > 48P", which is four times the slots of P pages
   pub record Counted : Type 0 where
     pub state : f .state ≡ stateOf m
-    pub due : left f due .said ≡ says (ltb (48 * m .p) (5 * length (m .held)))
+    pub layout : f .layout ≡ m .layout
+    pub due : left f due .said ≡ says (ltb (4 * slotsOn (m .layout) (m .p)) (5 * length (m .held)))
 
--- Two files agree in "parameters, lent size, pages grown to and records held": which commit each
--- request became, in whatever order that came about. The edition is a parameter; 02, request 4:
--- "Equal bytes at two sites now need equal editions too."
+-- Two files of one page layout agree in "parameters, lent size, pages grown to and records held":
+-- the record of each request, in whatever order that came about. The edition is a parameter; 02,
+-- request 4: "Equal bytes at two sites now need equal editions too."
 pub record Agree (a b : Kept) : Type 0 where
+  pub layout : a .layout ≡ b .layout
   pub params : a .params ≡ b .params
   pub cap : a .cap ≡ b .cap
   pub p : a .p ≡ b .p
-  pub held : (k : ℕ) → commitOf k (a .held) ≡ commitOf k (b .held)
+  pub held : (k : ℕ) → recordOf k (a .held) ≡ recordOf k (b .held)
 
 -- of every file after a fresh history
 abbrev pub AfterFresh : (Kept → File → Type 0) → Type 0

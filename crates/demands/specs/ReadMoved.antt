@@ -20,7 +20,7 @@ moved f c = numbersOf (left f c .said) .moved
 
 -- page b of a file holds a request, with this commit
 abbrev pub HeldOn : File → (b k v : ℕ) → Type 0
-HeldOn f b k v = (b < f .state .cap) × (commitOf k (recordsIn (partAt (f .area) b)) ≡ some v)
+HeldOn f b k v = (b < f .state .cap) × (commitOf k (recordsIn (f .layout) (partAt (f .area) b)) ≡ some v)
 
 -- "the number of distinct pages judged": the first page after those that a find judges, from the
 -- home of the request on
@@ -34,7 +34,7 @@ ReadHeld f = (k b v : ℕ) → k < 2 ^ 64 → HeldOn f b k v → readTo f k ≡ 
 
 -- a find of one that is not held, to the page that an accepted put of it, now, would put it on
 abbrev pub ReadAbsent : File → Type 0
-ReadAbsent f = (x : Record) (b w : ℕ) → Fits (put x) → refusal f (put x) ≡ 0 → HeldOn (left f (put x) .file) b (key x) w → readTo f (key x) ≡ b + 1
+ReadAbsent f = (x : Record) (b w : ℕ) → Fits (f .layout) (put x) → refusal f (put x) ≡ 0 → HeldOn (left f (put x) .file) b (key x) w → readTo f (key x) ≡ b + 1
 
 -- and no find judges more than there are
 abbrev pub ReadWithin : File → Type 0
@@ -42,7 +42,7 @@ ReadWithin f = (k : ℕ) → k < 2 ^ 64 → readTo f k ≤ f .state .cap
 
 -- the records on each page of a file
 abbrev pub pagesOf : File → List (List Record)
-pagesOf f = heldFrom (f .area) (f .state .cap) 0
+pagesOf f = heldFrom (f .layout) (f .area) (f .state .cap) 0
 
 -- "for put and remove, the number of times a held record went to a neighbouring page; for grow, the
 -- number of records whose page differs; otherwise 0": a record that a put adds, or a removal takes
@@ -58,4 +58,4 @@ differ due before after = 0
 
 -- what a call tells of the records moved is what its two areas show, whether or not it is accepted
 abbrev pub Moved : File → Type 0
-Moved f = (c : Call) → Fits c → moved f c ≡ differ c (pagesOf f) (pagesOf (left f c .file))
+Moved f = (c : Call) → Fits (f .layout) c → moved f c ≡ differ c (pagesOf f) (pagesOf (left f c .file))

@@ -9,6 +9,8 @@ use mathlib.Core.Option.{none}
 use mathlib.Core.List.{List, [], _∷_}
 use lib.ListN.{length}
 use Rattle.numbers.specs.Little.{Bytes}
+use Rattle.layouts.specs.declared.Layout.{Layout}
+use Rattle.layouts.specs.Layout.{slotsOf, slotsOn}
 use Rattle.homes.specs.declared.Params.{Params}
 use Rattle.placing.specs.Image.{Room}
 use Rattle.pages.specs.Page.{Record, key, value, readPage}
@@ -29,7 +31,7 @@ RightArea s area = length area ≡ 256 * s .cap
 module _ (f : File) where
   -- page a of the area breaks a page rule: it is not read
   abbrev pub BrokenAt : ℕ → Type 0
-  BrokenAt a = (a < f .state .cap) × (readPage (homes (f .state)) a (partAt (f .area) a) ≡ none)
+  BrokenAt a = (a < f .state .cap) × (readPage (f .layout) (homes (f .state)) a (partAt (f .area) a) ≡ none)
 
   -- "a page .. is broken"
   abbrev pub SomeBroken : Type 0
@@ -42,8 +44,8 @@ module _ (f : File) where
 
   -- the area is the image of r records, and they have room with one page more
   pub record RoomToGrow : Type 0 where
-    pub is : ImageOfR (f .state) (f .area)
-    pub room : Room key (homes (grown (f .state))) 12 (f .state .cap) (is .records)
+    pub is : ImageOfR (f .layout) (f .state) (f .area)
+    pub room : Room key (homes (grown (f .state))) (slotsOf (f .layout)) (f .state .cap) (is .records)
 
 -- the cause of a number: that something holds, or that it doesn't
 pub data Cause : Type 1 where
@@ -70,23 +72,23 @@ InOrder n clear [] = Unit {0}
 InOrder n clear (c ∷ cs) = ((n ≡ number c) ↔ (clear × Holds c)) × InOrder n (clear × Fails c) cs
 
 -- "1 a state number out of range", "2 area isn't 256 x cap bytes"
-abbrev pub entry : State → List ℕ → List Cause
-entry s area = unless 1 (Ranged s) ∷ unless 2 (RightArea s area) ∷ []
+abbrev pub entry : Layout → State → List ℕ → List Cause
+entry l s area = unless 1 (Ranged l s) ∷ unless 2 (RightArea s area) ∷ []
 
 -- "Order: format 1, 2 (judged on the numbers it is asked for, not on the state before it). Find 1,
 -- 2, then the walk. Put and remove 1, 2, the walk (4, 5, 6 or 7 as met), then 9. Grow 1, 2, 3, 8,
 -- 4, 9, 7. Check 1, 2, 4, 9." 02, request 1: 13 "stands where 6 stood in the walk". Due gives none.
 -- What a walk meets is its definition's to say.
 abbrev pub order : File → Call → List Cause
-order f (format q cap) = entry (fresh q cap) (f .area)
-order f (find k) = entry (f .state) (f .area)
-order f (put x) = entry (f .state) (f .area)
-order f (remove k) = entry (f .state) (f .area)
+order f (format q cap) = entry (f .layout) (fresh q cap) (f .area)
+order f (find k) = entry (f .layout) (f .state) (f .area)
+order f (put x) = entry (f .layout) (f .state) (f .area)
+order f (remove k) = entry (f .layout) (f .state) (f .area)
 order f (grow row) =
-    unless 1 (Ranged (f .state)) ∷ unless 2 (RightArea (f .state) (f .area))
+    unless 1 (Ranged (f .layout) (f .state)) ∷ unless 2 (RightArea (f .state) (f .area))
     ∷ unless 3 (length row ≡ f .state .cap) ∷ when 8 (f .state .p ≡ f .state .cap)
-    ∷ when 4 (SomeBroken f) ∷ unless 9 (ImageOfR (f .state) (f .area)) ∷ unless 7 (RoomToGrow f) ∷ []
-order f check = unless 1 (Ranged (f .state)) ∷ unless 2 (RightArea (f .state) (f .area)) ∷ when 4 (SomeBroken f) ∷ unless 9 (ImageOfR (f .state) (f .area)) ∷ []
+    ∷ when 4 (SomeBroken f) ∷ unless 9 (ImageOfR (f .layout) (f .state) (f .area)) ∷ unless 7 (RoomToGrow f) ∷ []
+order f check = unless 1 (Ranged (f .layout) (f .state)) ∷ unless 2 (RightArea (f .state) (f .area)) ∷ when 4 (SomeBroken f) ∷ unless 9 (ImageOfR (f .layout) (f .state) (f .area)) ∷ []
 order f due = []
 
 -- n is one of these numbers
@@ -148,12 +150,12 @@ pub record RefusalsOf (f : File) : Type 0 where
   pub plain : (c : Call) → Plain (tells f c)
   pub accepted : (c : Call) → refusal f c ≡ 0 → AcceptedTells f c (tells f c)
   -- format is accepted where neither 1 nor 2 is given
-  pub formats : (q : Params) (cap : ℕ) → (refusal f (format q cap) ≡ 0) ↔ (Ranged (fresh q cap) × RightArea (fresh q cap) (f .area))
+  pub formats : (q : Params) (cap : ℕ) → (refusal f (format q cap) ≡ 0) ↔ (Ranged (f .layout) (fresh q cap) × RightArea (fresh q cap) (f .area))
   -- "Check says yes exactly when the area is the image of r records."
-  pub checks : (refusal f check ≡ 0) ↔ (Ranged (f .state) × RightArea (f .state) (f .area) × ImageOfR (f .state) (f .area))
+  pub checks : (refusal f check ≡ 0) ↔ (Ranged (f .layout) (f .state) × RightArea (f .state) (f .area) × ImageOfR (f .layout) (f .state) (f .area))
   -- grow is accepted where none of its seven is given
   pub grows : (row : List ℕ) → (refusal f (grow row) ≡ 0)
-      ↔ (Ranged (f .state) × RightArea (f .state) (f .area) × (length row ≡ f .state .cap) × (f .state .p ≡ f .state .cap → ⊥) × RoomToGrow f)
+      ↔ (Ranged (f .layout) (f .state) × RightArea (f .state) (f .area) × (length row ≡ f .state .cap) × (f .state .p ≡ f .state .cap → ⊥) × RoomToGrow f)
   -- which page 4 tells, and how many pages are read
   pub check-judges : Judges f (tells f check)
   pub grow-judges : (row : List ℕ) → Judges f (tells f (grow row))
@@ -165,12 +167,13 @@ pub record RefusalsOf (f : File) : Type 0 where
   pub repeat : (x : Record) (w n : ℕ) → (tells f (put x) ≡ told 6 0 w n 0) ↔ ((tells f (find (key x)) ≡ told 0 0 w n 0) × (value x ≡ w))
   pub clash : (x : Record) (w n : ℕ) → (tells f (put x) ≡ told 13 0 w n 0) ↔ ((tells f (find (key x)) ≡ told 0 0 w n 0) × (value x ≡ w → ⊥))
   -- "the walk (4, 5, 6 or 7 as met), then 9": where the walk meets no cause, 9 is given exactly
-  -- "where r = 12 x cap" by put, "where r = 0" by remove
-  pub put-count : (x : Record) → OneOf (refusal f (put x)) (0 ∷ 9 ∷ []) → (refusal f (put x) ≡ 9) ↔ (f .state .r ≡ 12 * f .state .cap)
+  -- "where r = 12 x cap" by put, twelve being the slots of a page, "where r = 0" by remove
+  pub put-count : (x : Record) → OneOf (refusal f (put x)) (0 ∷ 9 ∷ []) → (refusal f (put x) ≡ 9) ↔ (f .state .r ≡ slotsOn (f .layout) (f .state .cap))
   pub remove-count : (k : ℕ) → OneOf (refusal f (remove k)) (0 ∷ 9 ∷ []) → (refusal f (remove k) ≡ 9) ↔ (f .state .r ≡ 0)
-  -- "Growth is due exactly when 5r > 48P"; out of range "due answers no"
-  pub due-yes : (left f due .said ≡ says true) ↔ (Ranged (f .state) × (48 * f .state .p < 5 * f .state .r))
-  pub due-no : (left f due .said ≡ says false) ↔ (Ranged (f .state) × (48 * f .state .p < 5 * f .state .r) → ⊥)
+  -- "Growth is due exactly when 5r > 48P", four times the slots of P pages; out of range "due
+  -- answers no"
+  pub due-yes : (left f due .said ≡ says true) ↔ (Ranged (f .layout) (f .state) × (4 * slotsOn (f .layout) (f .state .p) < 5 * f .state .r))
+  pub due-no : (left f due .said ≡ says false) ↔ (Ranged (f .layout) (f .state) × (4 * slotsOn (f .layout) (f .state .p) < 5 * f .state .r) → ⊥)
 
 -- What is promised of every file, any state and any bytes, and proved as `refusals`
 -- (proofs/Refusals.antt).

@@ -1,6 +1,6 @@
 -- What is promised of a state's tests (01, 'The register'; 02, request 4): each says the
 -- inequalities that 01 and 02 write. What is quoted is 01's, or 02's where that is said.
-use Prim.Native.Nat.{_*_, _≤_, _<_}
+use Prim.Native.Nat.{ℕ, _*_, _≤_, _<_}
 use mathlib.Core.Path.{_≡_}
 use mathlib.Core.Bool.{true}
 use mathlib.Core.Logic.{_↔_}
@@ -30,7 +30,9 @@ pub record Ranged (f : Layout) (x : State) : Type 0 where
 pub record StatePromises : Type 0 where
   -- the tests are of these ranges, and of no narrower and no wider ones
   pub in-range : (f : Layout) (x : State) → (inRange f x ≡ true) ↔ Ranged f x
-  -- "Growth is due exactly when 5r > 48P"; of a state out of range "due answers no". 02, request 8:
-  -- with ten slots "growth is due when 5r > 40P"
-  pub due : (x : State) → (isDue Twelve x ≡ true) ↔ (Ranged Twelve x × (48 * x .p < 5 * x .r))
-  pub due-ten : (x : State) → (isDue Ten x ≡ true) ↔ (Ranged Ten x × (40 * x .p < 5 * x .r))
+  -- growth is due where the records are more than four fifths of the slots; of a state out of range
+  -- "due answers no"
+  pub due : (f : Layout) (x : State) → (isDue f x ≡ true) ↔ (Ranged f x × (4 * slotsOn f (x .p) < 5 * x .r))
+  -- so with twelve slots "exactly when 5r > 48P"; 02, request 8: with ten "when 5r > 40P"
+  pub twelve : (p : ℕ) → 4 * slotsOn Twelve p ≡ 48 * p
+  pub ten : (p : ℕ) → 4 * slotsOn Ten p ≡ 40 * p

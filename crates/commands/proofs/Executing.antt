@@ -4,6 +4,7 @@ use mathlib.Core.List.{List}
 use Prim.Native.Nat.{ℕ, _*_, _≤_, _<_}
 use lib.ListN.{take}
 use borrow.Author.Tests.{lt-ltb, le-ltb}
+use Rattle.layouts.specs.Layout.{inUse}
 use Rattle.homes.specs.declared.Params.{Params}
 use Rattle.numbers.proofs.Laws.{written-nil}
 use Rattle.pages.specs.Page.{Record}
@@ -30,34 +31,34 @@ module _ (s : State) (space row : List ℕ) (c : Command) where
     too-many h n is = rw (e, lt-ltb 128 cap h, is) (refl, (refl, refl))
 
     -- any other format is called on the pages that it asks for
-    pub carries-format : cap ≤ 128 → (t : Told) (new : List ℕ) → Back t space new (formatted s q cap (take (256 * cap) space))
+    pub carries-format : cap ≤ 128 → (t : Told) (new : List ℕ) → Back t space new (formatted inUse s q cap (take (256 * cap) space))
         → Leaves t new row (executed (site s space row) c)
     unfolding executed left
     carries-format h t new w = rw (e, le-ltb 128 cap h) (w .0, (w .1, sym (written-nil row 0)))
 
   module _ (t : Told) where
     -- a put is called on the pages of the state, and leaves the row
-    pub carries-put : (x : Record) → c ≡ Put x → (new : List ℕ) → Back t space new (stored s (take (256 * s .cap) space) x) → Leaves t new row (executed (site s space row) c)
+    pub carries-put : (x : Record) → c ≡ Put x → (new : List ℕ) → Back t space new (stored inUse s (take (256 * s .cap) space) x) → Leaves t new row (executed (site s space row) c)
     unfolding executed left
     carries-put x e new w = rw e (w .0, (w .1, sym (written-nil row 0)))
 
     -- a find leaves the pages and the row
-    pub carries-find : (k : ℕ) → c ≡ Find k → t ≡ tells (found s (take (256 * s .cap) space) k) → Leaves t space row (executed (site s space row) c)
+    pub carries-find : (k : ℕ) → c ≡ Find k → t ≡ tells (found inUse s (take (256 * s .cap) space) k) → Leaves t space row (executed (site s space row) c)
     unfolding executed left
     carries-find k e w = rw e (w, (sym (written-first (256 * s .cap) space), sym (written-nil row 0)))
 
     -- a remove leaves the row
-    pub carries-remove : (k : ℕ) → c ≡ Remove k → (new : List ℕ) → Back t space new (removed s (take (256 * s .cap) space) k) → Leaves t new row (executed (site s space row) c)
+    pub carries-remove : (k : ℕ) → c ≡ Remove k → (new : List ℕ) → Back t space new (removed inUse s (take (256 * s .cap) space) k) → Leaves t new row (executed (site s space row) c)
     unfolding executed left
     carries-remove k e new w = rw e (w .0, (w .1, sym (written-nil row 0)))
 
     -- a growth is lent the start of the row with the pages
-    pub carries-grow : c ≡ Grow → (new filled : List ℕ) → GrowsBack t space new row filled (grew s (take (256 * s .cap) space) (take (s .cap) row))
+    pub carries-grow : c ≡ Grow → (new filled : List ℕ) → GrowsBack t space new row filled (grew inUse s (take (256 * s .cap) space) (take (s .cap) row))
         → Leaves t new filled (executed (site s space row) c)
     unfolding executed left
     carries-grow e new filled w = rw e w
 
     -- so does a check
-    pub carries-check : c ≡ Check → t ≡ tells (checked s (take (256 * s .cap) space)) → Leaves t space row (executed (site s space row) c)
+    pub carries-check : c ≡ Check → t ≡ tells (checked inUse s (take (256 * s .cap) space)) → Leaves t space row (executed (site s space row) c)
     unfolding executed left
     carries-check e w = rw e (w, (sym (written-first (256 * s .cap) space), sym (written-nil row 0)))

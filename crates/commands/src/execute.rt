@@ -7,6 +7,7 @@ use state::State;
 ghost use mathlib.Core.Path.{_≡_};
 ghost use Prim.Native.Nat.{_*_, _≤_, min};
 ghost use lib.ListN.{length, take};
+ghost use Rattle.layouts.specs.Layout.{inUse};
 ghost use Rattle.numbers.specs.Little.{written};
 ghost use Rattle.register.specs.Calls.{formatted, found, stored, removed, checked, grew};
 ghost use Rattle.records.specs.Records.{tells};
@@ -26,7 +27,7 @@ fn lent(cap: u16, space: &[u8]) -> usize
 }
 
 fn format_lent(state: State, params: Params, cap: u16, space: &mut [u8]) -> Told
-    ensures { λ r. let o = formatted state params cap (take (256 * cap) (now (space .entry))) in ⌜ (r ≡ tells (o .done)) × (now (space .exit) ≡ written (now (space .entry)) 0 (o .area)) ⌝ }
+    ensures { λ r. let o = formatted inUse state params cap (take (256 * cap) (now (space .entry))) in ⌜ (r ≡ tells (o .done)) × (now (space .exit) ≡ written (now (space .entry)) 0 (o .area)) ⌝ }
 {
     let end = lent(cap, &space[..]);
     let done = register::format(state, params, cap, &mut space[..end]);
@@ -34,7 +35,7 @@ fn format_lent(state: State, params: Params, cap: u16, space: &mut [u8]) -> Told
 }
 
 fn put_lent(state: State, space: &mut [u8], new: Record) -> Told
-    ensures { λ r. let o = stored state (take (256 * state .cap) (now (space .entry))) new in ⌜ (r ≡ tells (o .done)) × (now (space .exit) ≡ written (now (space .entry)) 0 (o .area)) ⌝ }
+    ensures { λ r. let o = stored inUse state (take (256 * state .cap) (now (space .entry))) new in ⌜ (r ≡ tells (o .done)) × (now (space .exit) ≡ written (now (space .entry)) 0 (o .area)) ⌝ }
 {
     let end = lent(state.cap, &space[..]);
     let done = register::put(state, &mut space[..end], new);
@@ -42,7 +43,7 @@ fn put_lent(state: State, space: &mut [u8], new: Record) -> Told
 }
 
 fn find_lent(state: State, space: &[u8], key: u64) -> Told
-    ensures { λ r. ⌜ r ≡ tells (found state (take (256 * state .cap) (now (space .entry))) key) ⌝ }
+    ensures { λ r. ⌜ r ≡ tells (found inUse state (take (256 * state .cap) (now (space .entry))) key) ⌝ }
 {
     let end = lent(state.cap, space);
     let done = register::find(state, &space[..end], key);
@@ -50,7 +51,7 @@ fn find_lent(state: State, space: &[u8], key: u64) -> Told
 }
 
 fn remove_lent(state: State, space: &mut [u8], key: u64) -> Told
-    ensures { λ r. let o = removed state (take (256 * state .cap) (now (space .entry))) key in ⌜ (r ≡ tells (o .done)) × (now (space .exit) ≡ written (now (space .entry)) 0 (o .area)) ⌝ }
+    ensures { λ r. let o = removed inUse state (take (256 * state .cap) (now (space .entry))) key in ⌜ (r ≡ tells (o .done)) × (now (space .exit) ≡ written (now (space .entry)) 0 (o .area)) ⌝ }
 {
     let end = lent(state.cap, &space[..]);
     let done = register::remove(state, &mut space[..end], key);
@@ -58,7 +59,7 @@ fn remove_lent(state: State, space: &mut [u8], key: u64) -> Told
 }
 
 fn grow_lent(state: State, space: &mut [u8], row: &mut [u32]) -> Told
-    ensures { λ r. let o = grew state (take (256 * state .cap) (now (space .entry))) (take (state .cap) (now (row .entry))) in ⌜ (r ≡ tells (o .done)) × ((now (space .exit) ≡ written (now (space .entry)) 0 (o .area)) × (now (row .exit) ≡ written (now (row .entry)) 0 (o .row))) ⌝ }
+    ensures { λ r. let o = grew inUse state (take (256 * state .cap) (now (space .entry))) (take (state .cap) (now (row .entry))) in ⌜ (r ≡ tells (o .done)) × ((now (space .exit) ≡ written (now (space .entry)) 0 (o .area)) × (now (row .exit) ≡ written (now (row .entry)) 0 (o .row))) ⌝ }
 {
     let end = lent(state.cap, &space[..]);
     let cap = state.cap as usize;
@@ -68,7 +69,7 @@ fn grow_lent(state: State, space: &mut [u8], row: &mut [u32]) -> Told
 }
 
 fn check_lent(state: State, space: &[u8]) -> Told
-    ensures { λ r. ⌜ r ≡ tells (checked state (take (256 * state .cap) (now (space .entry)))) ⌝ }
+    ensures { λ r. ⌜ r ≡ tells (checked inUse state (take (256 * state .cap) (now (space .entry)))) ⌝ }
 {
     let end = lent(state.cap, space);
     let done = register::check(state, &space[..end]);

@@ -8,6 +8,7 @@ use lib.Seq.{take-all, drop-drop}
 use Rattle.numbers.specs.Fields.{Field, encode}
 use Rattle.numbers.proofs.Laws.{written-front}
 use Rattle.numbers.proofs.Records.{length-encode}
+use Rattle.layouts.specs.Layout.{inUse}
 use Rattle.state.specs.declared.State.{State}
 use Rattle.state.specs.declared.Done.{Done}
 use Rattle.pages.specs.Page.{Record}
@@ -27,24 +28,30 @@ abbrev pub Put : Left → State → (area part : List ℕ) → Type 0
 Put o s area part = (s ≡ o .file .state) × ((area ≡ o .file .area) × (part ≡ encode (replyTo o)))
 
 -- the register's put and its reply are the item
-pub one-put : (s : State) (area l : List ℕ) (x : Record) → x ≡ recordIn l → (d : Done) (area' : List ℕ) → (d ≡ stored s area x .done) × (area' ≡ stored s area x .area)
+pub one-put : (s : State) (area l : List ℕ) (x : Record) → x ≡ recordIn l → (d : Done) (area' : List ℕ) → (d ≡ stored inUse s area x .done) × (area' ≡ stored inUse s area x .area)
     → (t : Told) → t ≡ tells d → (part : List ℕ) → part ≡ encode (replyOf (t .numbers) (t .state)) → Put (left (fileOf s area) (put (recordIn l))) (t .state) area' part
 unfolding left
 one-put s area l x e d area' h t told part r = rw (← e, ← h .0) (rw told, (h .1, r ∙ rw told))
+
+-- a put leaves a file of the layout in use where it was one
+file-put : (g : File) (x : Record) (s : State) (area : List ℕ) → g .layout ≡ inUse → s ≡ left g (put x) .file .state → area ≡ left g (put x) .file .area → fileOf s area ≡ left g (put x) .file
+unfolding left
+file-put g x s area e p q = rw (p, q, e)
 
 -- i items are done: what the whole run comes to is what is left behind the replies that stand
 pub record Going (f : File) (l : List ℕ) (count : ℕ) (g : File) (room : List ℕ) (i : ℕ) : Type 0 where
   pub high : i ≤ count
   pub within : 20 * count ≤ length l
   pub fits : length room ≡ 28 * count
+  pub layout : g .layout ≡ inUse
   pub area-kept : length (g .area) ≡ length (f .area)
   pub file : after f (putsIn count l) ≡ after g (putsIn (count - i) (drop (20 * i) l))
   pub replies : bytesOfAll (repliesTo f (putsIn count l)) ≡ take (28 * i) room ++ bytesOfAll (repliesTo g (putsIn (count - i) (drop (20 * i) l)))
 
 -- before the first item
-pub goes-first : (f : File) (l : List ℕ) (count : ℕ) (room : List ℕ) → 20 * count ≤ length l → length room ≡ 28 * count → Going f l count f room 0
-goes-first f l count room w h =
-    let z : count - 0 ≡ count = omega arith in record { high = omega arith; within = w; fits = h; area-kept = refl; file = rw z; replies = rw z }
+pub goes-first : (f : File) (l : List ℕ) (count : ℕ) (room : List ℕ) → f .layout ≡ inUse → 20 * count ≤ length l → length room ≡ 28 * count → Going f l count f room 0
+goes-first f l count room u w h =
+    let z : count - 0 ≡ count = omega arith in record { high = omega arith; within = w; fits = h; layout = u; area-kept = refl; file = rw z; replies = rw z }
 
 module _ {f : File} {l : List ℕ} {count : ℕ} {g : File} {room : List ℕ} {i : ℕ} (w : Going f l count g room i) where
   -- one item more
@@ -69,11 +76,12 @@ module _ {f : File} {l : List ℕ} {count : ℕ} {g : File} {room : List ℕ} {i
       goes-on =
           let c : Call = put (recordIn (drop (20 * i) l)) in
           let p : Put (left g c) s area part = rw (from-drop l (20 * i)) at h in
-          let q : fileOf s area ≡ left g c .file = rw (p .0, p .1 .0) in
+          let q : fileOf s area ≡ left g c .file = file-put g (recordIn (drop (20 * i) l)) s area (w .layout) (p .0) (p .1 .0) in
           record {
             high = omega arith;
             within = w .within;
             fits = kept ∙ w .fits;
+            layout = refl;
             area-kept = same ∙ w .area-kept;
             file = w .file ∙ rw (next-put, q);
             replies = w .replies ∙ rw (next-put, q, p .1 .1, next-reply (replyTo (left g c)) (length-encode (replyTo (left g c))), append-assoc);

@@ -8,6 +8,7 @@ use lib.Dec.{eqb}
 use lib.ListN.{length, drop, getD, set, length-set, length-drop}
 use lib.Seq.{drop-drop, getD-set-same, getD-set-other}
 use borrow.Author.Tests.{eqb-true, eqb-false}
+use Rattle.layouts.specs.Layout.{inUse}
 use Rattle.homes.specs.declared.Shape.{Shape}
 use Rattle.homes.specs.Homes.{shapeOf, homeIn}
 use Rattle.pages.specs.Page.{Record, key}
@@ -64,7 +65,7 @@ module _ {l : List ℕ} {lanes : ℕ} {keys : List ℕ} {k : ℕ} (w : Reading l
       rw (e, at, w .read j (omega arith))
 
 -- a state isn't out of range and in range
-pub not-both : (s : State) → inRange s ≡ false → inRange s ≡ true → ⊥
+pub not-both : (s : State) → inRange inUse s ≡ false → inRange inUse s ≡ true → ⊥
 not-both s e h = let n : _≡_ {A = ℕ} 0 1 = cc in omega arith
 
 -- one in range has the homes of its shape
@@ -74,12 +75,12 @@ shape-homes s l row shape is a = rw is at a
 -- at the first of twelve items the homes are those of the items ahead, if the state has homes; at
 -- another they are as they were
 abbrev Looked : State → (l old : List ℕ) → (lane : ℕ) → (row : List ℕ) → Type 0
-Looked s l old lane row = (lane ≡ 0 → inRange s ≡ true → Ahead (homes s) l row) × ((lane ≡ 0 → ⊥) → row ≡ old)
+Looked s l old lane row = (lane ≡ 0 → inRange inUse s ≡ true → Ahead (homes s) l row) × ((lane ≡ 0 → ⊥) → row ≡ old)
 
 -- what stands in the row at an item, on both ways of the loop's turn
 module _ (s : State) (l old : List ℕ) (lane : ℕ) (row : List ℕ) where
   -- the homes ahead are worked out anew
-  pub looks-anew : lane ≡ 0 → (got : List ℕ) → (inRange s ≡ true → Ahead (homes s) l got) → row ≡ got → Looked s l old lane row
+  pub looks-anew : lane ≡ 0 → (got : List ℕ) → (inRange inUse s ≡ true → Ahead (homes s) l got) → row ≡ got → Looked s l old lane row
   looks-anew z got a e = (λ y h. rw e (a h), λ n. absurd (n z))
 
   -- they are as they were
@@ -91,8 +92,8 @@ module _ (s : State) (l old : List ℕ) (lane : ℕ) (row : List ℕ) where
 pub record Knows (f : State) (l : List ℕ) (count i : ℕ) (s : State) (row : List ℕ) : Type 0 where
   pub params : s .params ≡ f .params
   pub p : s .p ≡ f .p
-  pub range : inRange s ≡ inRange f
-  pub ready : inRange f ≡ true → (k : ℕ) → i % 12 + k < 12 → (i % 12 ≡ 0 → ⊥) → i + k < count → getD row (i % 12 + k) 0 ≡ homes f (keyAfter l (i + k))
+  pub range : inRange inUse s ≡ inRange inUse f
+  pub ready : inRange inUse f ≡ true → (k : ℕ) → i % 12 + k < 12 → (i % 12 ≡ 0 → ⊥) → i + k < count → getD row (i % 12 + k) 0 ≡ homes f (keyAfter l (i + k))
 
 -- before the first item nothing stands there yet
 pub knows-first : (f : State) (l : List ℕ) (count : ℕ) (row : List ℕ) → Knows f l count 0 f row
@@ -101,7 +102,7 @@ knows-first f l count row = record { params = refl; p = refl; range = refl; read
 module _ {f : State} {l : List ℕ} {count i : ℕ} {s : State} {old : List ℕ} (w : Knows f l count i s old) (within : 20 * count ≤ length l)
     (row : List ℕ) (looked : Looked s (from l (20 * i)) old (i % 12) row) where
   -- after the look ahead they do
-  here : inRange f ≡ true → (k : ℕ) → i % 12 + k < 12 → i + k < count → getD row (i % 12 + k) 0 ≡ homes f (keyAfter l (i + k))
+  here : inRange inUse f ≡ true → (k : ℕ) → i % 12 + k < 12 → i + k < count → getD row (i % 12 + k) 0 ≡ homes f (keyAfter l (i + k))
   here h k a b = go (eqb (i % 12) 0) refl
     where
       go : (u : Bool) → eqb (i % 12) 0 ≡ u → getD row (i % 12 + k) 0 ≡ homes f (keyAfter l (i + k))
@@ -129,7 +130,7 @@ module _ {f : State} {l : List ℕ} {count i : ℕ} {s : State} {old : List ℕ}
   -- and those of the next stay known, since a put keeps what homes depend on
   pub knows-on : (area : List ℕ) (x : Record) (t : State) → t ≡ left (fileOf s area) (put x) .file .state → Knows f l count (i + 1) t row
   knows-on area x t e =
-      let kept = put-keeps (fileOf s area) x in
+      let kept = put-keeps s area x in
       record {
         params = rw e (kept .params ∙ w .params);
         p = rw e (kept .p ∙ w .p);

@@ -38,7 +38,7 @@ records-items xs = omega (arith, records-length xs)
 module _ (x : Record) (s : Sized (Put x)) (rest : List ℕ) where
   -- a put's bytes begin with its put
   begins : firstOf (putBytes x ++ rest) ≡ Asks (Put x) 20
-  begins = record-promises .reads (Put x) (layoutOf (Put x)) rest s refl
+  begins = record-promises .reads (Put x) (layoutOf (Put x)) rest s (s .2, refl)
 
   is-put : isPut (firstOf (putBytes x ++ rest)) ≡ true
   is-put = rw begins
@@ -75,5 +75,5 @@ only-records (suc n) l b e =
     let (xs, s, q) = only-records n (drop 20 l) (bytes-drop 20 l b) (and-right u (endToEnd n (drop 20 l)) e) in
     let x = recordIn l in
     let (w, is, n, t) = record-promises .read-only l (Put x) 20 b (p .0) in
-    let t : take 20 l ≡ putBytes x = t ∙ ap encode is in
-    (x ∷ xs, ((number-bound 8 l 4 (omega (arith, p .1)) b, number-bound 8 l 12 (omega (arith, p .1)) b), s), rw (← t, q) (take-append-drop 20 l))
+    let t : take 20 l ≡ putBytes x = t ∙ ap encode (is .1) in
+    (x ∷ xs, ((number-bound 8 l 4 (omega (arith, p .1)) b, number-bound 8 l 12 (omega (arith, p .1)) b, refl), s), rw (← t, q) (take-append-drop 20 l))

@@ -1,6 +1,7 @@
 // A pay run in one call: put records end to end, and a reply for each in lent room.
 use gates::Gate;
 use homes::Shape;
+use layouts::IN_USE;
 use pages::Record;
 use records::Told;
 use state::Done;
@@ -11,6 +12,7 @@ ghost use Prim.Native.Nat.{_*_, _≤_};
 ghost use lib.ListN.{length};
 ghost use lib.Dec.{eqb};
 ghost use Rattle.numbers.specs.Fields.{encode};
+ghost use Rattle.layouts.specs.Layout.{inUse};
 ghost use Rattle.homes.specs.Homes.{Ready, homeIn};
 ghost use Rattle.state.specs.State.{inRange, homes};
 ghost use Rattle.register.specs.Calls.{stored};
@@ -70,9 +72,9 @@ fn homes_ahead(shape: Shape, input: &[u8]) -> [u64; LANES]
 
 // The homes ahead of a state. One out of range has none, and every put on it is refused.
 fn look_ahead(state: State, input: &[u8]) -> [u64; LANES]
-    ensures { λ r. ⌜ (inRange state ≡ true → Ahead (homes state) (now (input .entry)) r) ⌝ }
+    ensures { λ r. ⌜ (inRange inUse state ≡ true → Ahead (homes state) (now (input .entry)) r) ⌝ }
 {
-    if !state.in_range() {
+    if !state.in_range(IN_USE) {
         return [0u64; LANES];
     }
     let shape = state.shape();
@@ -82,9 +84,9 @@ fn look_ahead(state: State, input: &[u8]) -> [u64; LANES]
 // A put of a record whose home is known where there is one.
 fn put_known(state: State, area: &mut [u8], home: u64, new: Record) -> Done
     requires { ⌜ Homed state (new .key) home ⌝ }
-    ensures { λ r. let o = stored state (now (area .entry)) new in ⌜ (r ≡ o .done) × (now (area .exit) ≡ o .area) ⌝ }
+    ensures { λ r. let o = stored inUse state (now (area .entry)) new in ⌜ (r ≡ o .done) × (now (area .exit) ≡ o .area) ⌝ }
 {
-    let gate = gates::enter(state, area.len());
+    let gate = gates::enter(state, area.len(), IN_USE);
     match gate {
         Gate::Shut { why } => Done { state, answer: why },
         Gate::Open => changes::put_open(state, area, home, new),

@@ -15,7 +15,7 @@ sized-fit : (c : Command) (w : List Field) → Sized c → IsRecord c w → Fit 
 sized-fit (Format q cap) w h (inl is) =
     rw is (omega arith, (omega arith, (h .0, (h .1, (h .2, (h .4, (h .3, tt)))))))
 sized-fit (Format q cap) w h (inr is) = rw (is .1) (omega arith, (omega arith, (h .0, (h .1, (h .2, (h .4, tt))))))
-sized-fit (Put x) w h is = rw is (omega arith, (omega arith, (h .0, (h .1, tt))))
+sized-fit (Put x) w h is = rw (is .1) (omega arith, (omega arith, (h .0, (h .1, tt))))
 sized-fit (Find k) w h is = rw is (omega arith, (omega arith, (h, tt)))
 sized-fit (Remove k) w h is = rw is (omega arith, (omega arith, (h, tt)))
 sized-fit Grow w h is = rw is (omega arith, (omega arith, tt))

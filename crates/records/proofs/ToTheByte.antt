@@ -12,7 +12,7 @@ use Rattle.numbers.specs.Little.{Bytes, numberAt}
 use Rattle.numbers.specs.Fields.{Field, width, encode, matches}
 use Rattle.numbers.proofs.Records.{Fit, length-encode, match-first, match-rest, matches-sound, matches-complete}
 use Rattle.homes.specs.Homes.{params}
-use Rattle.pages.specs.Page.{key, value}
+use Rattle.pages.specs.Page.{key, value, recordWith}
 use Rattle.records.specs.declared.Kind.{Kind}
 use Rattle.records.specs.declared.Kind.the-variants as kind
 use Rattle.records.specs.declared.Form.{Form}
@@ -65,10 +65,10 @@ tells l (Format q cap) w (inr is) u =
     let d : numberAt 2 l 10 ≡ cap = t .1 .1 .1 .1 .1 .0 in
     (record { what = kind.Format; first = t .0; second = t .1 .0; body = rw (a, b, c, d, ← is .0) }, rw (is .1))
 tells l (Put x) w is u =
-    let t : Says l 0 (layoutOf (Put x)) = rw is at u in
+    let t : Says l 0 (layoutOf (Put x)) = rw (is .1) at u in
     let k : numberAt 8 l 4 ≡ key x = t .1 .1 .0 in
     let v : numberAt 8 l 12 ≡ value x = t .1 .1 .1 .0 in
-    (record { what = kind.Put; first = t .0; second = t .1 .0; body = rw (k, v) }, rw is)
+    (record { what = kind.Put; first = t .0; second = t .1 .0; body = rw (k, v) (ap (λ (r : ℕ). Put (recordWith (key x) (value x) r)) (is .0)) }, rw (is .1))
 tells l (Find k) w is u =
     let t : Says l 0 (layoutOf (Find k)) = rw is at u in
     (record { what = kind.Find; first = t .0; second = t .1 .0; body = cc }, rw is)
@@ -97,7 +97,7 @@ recordAs kind.Check l = layoutOf (commandOf kind.Check l)
 kind-record : (k : Kind) (l : List ℕ) (c : Command) → c ≡ commandOf k l → IsRecord c (recordAs k l)
 kind-record kind.Format l c e = rw e (inr (refl, refl))
 kind-record kind.FormatEdition l c e = rw e (inl refl)
-kind-record kind.Put l c e = rw e refl
+kind-record kind.Put l c e = rw e (refl, refl)
 kind-record kind.Find l c e = rw e refl
 kind-record kind.Remove l c e = rw e refl
 kind-record kind.Grow l c e = rw e refl

@@ -6,17 +6,18 @@ use mathlib.Core.List.{List, _++_}
 use lib.ListN.{take}
 use Rattle.numbers.specs.Little.{Bytes}
 use Rattle.numbers.specs.Fields.{Field, width, encode}
-use Rattle.pages.specs.Page.{key, value}
+use Rattle.layouts.specs.Layout.{inUse}
+use Rattle.pages.specs.Small.{Small}
 use Rattle.records.specs.declared.Command.{Command}
 use Rattle.records.specs.declared.Command.the-variants.{Format, Put, Find, Remove, Grow, Check}
 use Rattle.records.specs.declared.Item.the-variants.{Asks}
 use Rattle.records.specs.Records.{firstOf, IsRecord}
 
 -- the numbers of a command are of the width that they have in its record: "n0, N, s, cap (2 bytes
--- each)", the edition "a last two-byte number" (02, request 4), and a key and a value of 64 bits
+-- each)", the edition "a last two-byte number" (02, request 4), and a record that the layout in use takes
 abbrev pub Sized : Command → Type 0
 Sized (Format q cap) = (q .n0 < 2 ^ 16) × (q .n < 2 ^ 16) × (q .s < 2 ^ 16) × (q .edition < 2 ^ 16) × (cap < 2 ^ 16)
-Sized (Put x) = (key x < 2 ^ 64) × (value x < 2 ^ 64)
+Sized (Put x) = Small inUse x
 Sized (Find k) = k < 2 ^ 64
 Sized (Remove k) = k < 2 ^ 64
 Sized Grow = Unit {0}

@@ -9,9 +9,10 @@ use lib.ListN.{length}
 use lib.Dec.{eqb, ltb}
 use Rattle.numbers.specs.Little.{numberAt}
 use Rattle.numbers.specs.Fields.{Field, encode}
+use Rattle.layouts.specs.Layout.{inUse}
 use Rattle.homes.specs.declared.Params.{Params}
 use Rattle.homes.specs.Homes.{params}
-use Rattle.pages.specs.Page.{Record, key, value, recordWith}
+use Rattle.pages.specs.Page.{Record, key, value, recordWith, run}
 use Rattle.state.specs.declared.State.{State}
 use Rattle.state.specs.declared.Done.{Done}
 use Rattle.state.specs.declared.Numbers.{Numbers}
@@ -57,9 +58,10 @@ formOf n k =
     (cond (eqb k 261) (known kind.Grow)
     (cond (eqb k 262) (known kind.Check) form.Unknown)))))
 
--- the request and the commit of a put record, whose body follows four bytes of length and kind
+-- the request and the commit of a put record, whose body follows four bytes of length and kind; it
+-- names no run
 abbrev pub recordIn : List ℕ → Record
-recordIn l = recordWith (numberAt 8 l 4) (numberAt 8 l 12)
+recordIn l = recordWith (numberAt 8 l 4) (numberAt 8 l 12) 0
 
 -- a format of that edition: "n0, N, s, cap"
 abbrev pub formatIn : List ℕ → (edition : ℕ) → Command
@@ -117,11 +119,11 @@ layoutOf Check = (2, 4) ∷ (2, 262) ∷ []
 abbrev pub shortOf : Params → (cap : ℕ) → List Field
 shortOf q cap = formatWith 12 q cap []
 
--- the records of a command. `RecordPromises` (Promises.antt) says that it is read from their bytes
+-- the records of a command; none names a run. `RecordPromises` (Promises.antt) says that it is read from their bytes
 -- and from no others.
 abbrev pub IsRecord : Command → List Field → Type 0
 IsRecord (Format q cap) w = (w ≡ layoutOf (Format q cap)) ⊎ ((q .edition ≡ 1) × (w ≡ shortOf q cap))
-IsRecord (Put x) w = w ≡ layoutOf (Put x)
+IsRecord (Put x) w = (run x ≡ 0) × (w ≡ layoutOf (Put x))
 IsRecord (Find k) w = w ≡ layoutOf (Find k)
 IsRecord (Remove k) w = w ≡ layoutOf (Remove k)
 IsRecord Grow w = w ≡ layoutOf Grow
@@ -135,7 +137,7 @@ bit u = cond u 1 0
 abbrev pub replyOf : Numbers → State → List Field
 replyOf n s =
     (2, 28) ∷ (2, 513) ∷ (2, n .refusal) ∷ (2, n .page) ∷ (8, n .value) ∷ (4, n .read) ∷ (4, n .moved) ∷ (2, s .p)
-    ∷ (2, bit (isDue s)) ∷ []
+    ∷ (2, bit (isDue inUse s)) ∷ []
 
 -- the bytes of replies
 unfoldable pub bytesOfAll : List (List Field) → List ℕ

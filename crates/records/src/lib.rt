@@ -1,6 +1,7 @@
 // The log's records: a command read, a reply written. They stand by themselves, so that a pay run
 // needs no log.
 use homes::Params;
+use layouts::IN_USE;
 use pages::Record;
 use state::Done;
 use state::Numbers;
@@ -101,7 +102,7 @@ fn form_of(told: u16, kind: u16) -> Form
     }
 }
 
-// The request and the commit of a put record.
+// The request and the commit of a put record. It names no run.
 pub fn record_in(input: &[u8]) -> Record
     requires { ⌜ 20 ≤ length (now input) ⌝ }
     ensures { λ r. ⌜ r ≡ recordIn (now (input .entry)) ⌝ }
@@ -109,6 +110,7 @@ pub fn record_in(input: &[u8]) -> Record
     Record {
         key: numbers::get_u64(input, 4),
         value: numbers::get_u64(input, 12),
+        run: 0,
     }
 }
 
@@ -232,7 +234,7 @@ pub fn reply(part: &mut [u8], told: Numbers, state: State)
     requires { ⌜ length (now part) ≡ 28 ⌝ }
     ensures { λ _. ⌜ now (part .exit) ≡ encode (replyOf told state) ⌝ }
 {
-    let due = if state.due() { 1 } else { 0 };
+    let due = if state.due(IN_USE) { 1 } else { 0 };
     numbers::put_u16(part, 0, 28);
     numbers::put_u16(part, 2, 513);
     numbers::put_u16(part, 4, told.refusal);

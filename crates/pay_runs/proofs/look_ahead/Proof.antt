@@ -3,6 +3,8 @@ use mathlib.Core.Path.{sym, _∙_}
 use denote.Ref.{now}
 use borrow.Author.Needs.{needs}
 use borrow.Author.Tests.{not-true, not-false}
+use Rattle.layouts.specs.Layout.{inUse}
+use Rattle.state.proofs.Ranges.{in-shape}
 use Rattle.pay_runs.proofs.Lookahead.{not-both, shape-homes}
 use Rattle.pay_runs.proofs.look_ahead.Statement.{statement}
 use Rattle.pay_runs.proofs.look_ahead.Tie as tie
@@ -14,7 +16,7 @@ returns c =
     λ h. absurd (not-both (a .state) (sym (r .in-range .ensures) ∙ not-true _ (c .if1 .taken)) h)
 
 shape-requires : tie.Need-shape-requires
-shape-requires c κs = sym (c .before .in-range .ensures) ∙ not-false _ (c .if1 .left)
+shape-requires c κs = in-shape inUse _ (sym (c .before .in-range .ensures) ∙ not-false _ (c .if1 .left))
 
 homes-ahead-requires : tie.Need-homes-ahead-requires
 homes-ahead-requires c κs = c .shape .ensures .1

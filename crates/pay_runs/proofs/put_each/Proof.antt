@@ -1,5 +1,6 @@
 -- `pay_runs::put_each` meets its contract. The loop's invariant is `Going`, with `Knows` for the
 -- homes ahead; the measure is how many items are left.
+use mathlib.Core.Path.{refl}
 use mathlib.Core.Logic.{⊎-elim}
 use Prim.Native.Nat.{_-_}
 use native.Mathlib.Omega.{arith}
@@ -18,7 +19,7 @@ abbrev μ-loop : tie.MeasureT-loop
 μ-loop area₀ input room₀ count after₀ ahead₀ i₀ area room after ahead i = count - i
 
 loop-holds : tie.Need-loop-holds Inv-loop μ-loop
-loop-holds c = (goes-first _ _ _ _ (omega arith) (search needs), knows-first _ _ _ _)
+loop-holds c = (goes-first (fileOf _ _) _ _ _ refl (omega arith) (search needs), knows-first _ _ _ _)
 
 put-one-requires : tie.Need-put-one-requires Inv-loop μ-loop
 put-one-requires c κs =

@@ -10,7 +10,7 @@ put-open-requires : tie.Need-put-open-requires
 put-open-requires c κs =
     let t = c .before in
     let e = t .before .before in
-    let w = past _ _ _ (e .enter .ensures .1) (t .enum-told .given .1) in
+    let w = past _ _ _ _ (e .enter .ensures .1) (t .enum-told .given .1) in
     (w .0, w .1, e .before .before .pre (w .0))
 
 returns : tie.Need-returns

@@ -4,6 +4,7 @@ use mathlib.Core.Path.{_≡_}
 use mathlib.Core.Bool.{true}
 use mathlib.Core.List.{List}
 use lib.ListN.{length, drop, getD}
+use Rattle.layouts.specs.Layout.{inUse}
 use Rattle.pages.specs.Page.{key}
 use Rattle.state.specs.declared.State.{State}
 use Rattle.state.specs.State.{inRange, homes}
@@ -19,4 +20,4 @@ Ahead f l row = (k : ℕ) → k < 12 → 20 * k + 20 ≤ length l → getD row k
 
 -- the home that an item comes with is its own, if the state has homes
 abbrev pub Homed : State → (k home : ℕ) → Type 0
-Homed s k home = inRange s ≡ true → home ≡ homes s k
+Homed s k home = inRange inUse s ≡ true → home ≡ homes s k

@@ -4,6 +4,7 @@ use mathlib.Core.Path.{_≡_}
 use mathlib.Core.Logic.{⊎-elim}
 use native.Mathlib.Omega.{arith}
 use borrow.Author.Needs.{needs}
+use Rattle.layouts.specs.Layout.{inUse}
 use Rattle.state.specs.State.{isDue}
 use Rattle.records.specs.Records.{bit}
 use Rattle.records.proofs.Replying.{reply-stored}
@@ -29,7 +30,7 @@ returns c =
     let p₁ = p₂ .before .before .before .before in
     let j = p₁ .before .before in
     let s = j .before .before .before in
-    let d : j .if1 .due ≡ bit (isDue (s .args .state)) = ⊎-elim (λ w. cc) (λ w. cc) (j .if1 .came) in
+    let d : j .if1 .due ≡ bit (isDue inUse (s .args .state)) = ⊎-elim (λ w. cc) (λ w. cc) (j .if1 .came) in
     reply-stored (s .args .told) (s .args .state) _ (s .pre) d (p₁ .put-u16 .ensures) (p₂ .put-u162 .ensures) (p₃ .put-u163 .ensures) (p₄ .put-u164 .ensures)
     (p₅ .put-u64 .ensures) (p₆ .put-u32 .ensures) (p₇ .put-u322 .ensures) (p₈ .put-u165 .ensures) (p₉ .put-u166 .ensures)
 

@@ -5,6 +5,7 @@ use Prim.Native.Nat.{_*_}
 use lib.Seq.{length-take-le}
 use denote.Ref.{now}
 use borrow.Author.Needs.{needs}
+use Rattle.layouts.specs.Layout.{inUse}
 use Rattle.register.specs.Calls.{formatted}
 use Rattle.commands.proofs.Lending.{wrote-lent}
 use Rattle.commands.proofs.execute.format_lent.Statement.{statement}
@@ -18,7 +19,7 @@ returns c =
     let g = c .before .before .before in
     let l = g .before .before in
     let a = l .before .before .before .args in
-    wrote-lent (256 * a .cap) _ (now (a .space)) (l .lent .ensures .0) (λ area. formatted (a .state) (a .params) (a .cap) area) _ _ (g .format .ensures) (g .format .kept .1 .1 .1 .0) _ (c .tell .ensures)
+    wrote-lent (256 * a .cap) _ (now (a .space)) (l .lent .ensures .0) (λ area. formatted inUse (a .state) (a .params) (a .cap) area) _ _ (g .format .ensures) (g .format .kept .1 .1 .1 .0) _ (c .tell .ensures)
 
 pub format-lent-spec : {M : Type 1} → statement M
 format-lent-spec =

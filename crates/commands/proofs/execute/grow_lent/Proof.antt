@@ -8,6 +8,7 @@ use lib.ListN.{length}
 use lib.Seq.{length-take-le}
 use denote.Ref.{now}
 use borrow.Author.Needs.{needs}
+use Rattle.layouts.specs.Layout.{inUse}
 use Rattle.register.specs.Calls.{grew}
 use Rattle.commands.proofs.Lending.{grew-lent}
 use Rattle.commands.proofs.execute.grow_lent.Statement.{statement}
@@ -30,7 +31,7 @@ returns c =
     let l = j .before .before in
     let a = l .before .before .before .before .args in
     let counts : j .if1 .counts ≡ min (a .state .cap) (length (now (a .row))) = ⊎-elim (λ w. omega arith) (λ w. omega arith) (j .if1 .came) in
-    grew-lent (256 * a .state .cap) _ (now (a .space)) (l .lent .ensures .0) (a .state .cap) _ (now (a .row)) counts (grew (a .state)) _ _ _ (g .grow .ensures)
+    grew-lent (256 * a .state .cap) _ (now (a .space)) (l .lent .ensures .0) (a .state .cap) _ (now (a .row)) counts (grew inUse (a .state)) _ _ _ (g .grow .ensures)
     (g .grow .kept .1 .0) (g .grow .kept .1 .1 .0) _ (c .tell .ensures)
 
 pub grow-lent-spec : {M : Type 1} → statement M

@@ -25,6 +25,7 @@ use Rattle.state.proofs.Answers.{again-same, again-other}
 use Rattle.changes.specs.Changes.{done}
 use Rattle.register.specs.Files.{Call, format, find, put, remove, grow, check, due, File, says, Left, leaves, left, numbersOf, after}
 use Rattle.demands.specs.Histories.{Fits, refusal, Kept, stateOf, without, commitOf, begun, holding, paged, makes, kept}
+use Rattle.register.proofs.After.{same-layout}
 use Rattle.register.proofs.FormatImage.{Begins, began, outside, elsewhere, format-begins}
 use Rattle.register.proofs.ImageCalls.{room-told}
 use Rattle.register.proofs.GrownImage.{grownRow, check-yes, grow-other-row, grow-no-page, grow-no-room, grow-with-room}
@@ -180,17 +181,6 @@ none-next f (remove k) = still (left f (remove k))
 none-next f (grow row) = still (left f (grow row))
 none-next f check = still (left f check)
 none-next f due = still (left f due)
-
--- a file keeps its layout
-same-layout : (f : File) (c : Call) → left f c .file .layout ≡ f .layout
-unfolding left
-same-layout f (format q cap) = refl
-same-layout f (find k) = refl
-same-layout f (put x) = refl
-same-layout f (remove k) = refl
-same-layout f (grow row) = refl
-same-layout f check = refl
-same-layout f due = refl
 
 -- so what a history keeps stands after it
 pub history : (o : Option Kept) (f : File) (cs : List Call) → Known o f → All (Fits (f .layout)) cs → Known (kept o f cs) (after f cs)

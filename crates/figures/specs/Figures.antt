@@ -7,6 +7,7 @@ use Prim.Native.Nat.{ℕ, _*_}
 use lib.ListN.{replicate}
 use Rattle.numbers.specs.Little.{little, bytesOf, numberAt, written}
 use Rattle.numbers.specs.Fields.{encode}
+use Rattle.layouts.specs.Layout.{inUse}
 use Rattle.homes.specs.Homes.{draw, later, mover, swept, newPage, movedTo, nextGroups, steps, params, home}
 use Rattle.pages.specs.Page.{key, recordWith, pageBytes, recordsIn, wellFormed, readPage, inMemory}
 use Rattle.pages.specs.Places.{closed}
@@ -41,20 +42,20 @@ movers = map (λ K. cond (mover (later 1) 2 K 1) 1 0) (42590 ∷ 42591 ∷ [])
 
 -- "P 4: 38 records not due, 39 due": 1 for due, 0 for not
 abbrev dues : List ℕ
-dues = map (λ r. cond (isDue (record { params = params 2 2 1 1; p = 4; cap = 4; r = r })) 1 0) (38 ∷ 39 ∷ [])
+dues = map (λ r. cond (isDue inUse (record { params = params 2 2 1 1; p = 4; cap = 4; r = r })) 1 0) (38 ∷ 39 ∷ [])
 
 -- a file of n0, N and s all 1 in an area that held other bytes before
 abbrev file : (cap : ℕ) → Outcome
-file cap = formatted (record { params = params 0 0 0 0; p = 0; cap = 0; r = 0 }) (params 1 1 1 1) cap (replicate (256 * cap) 255)
+file cap = formatted inUse (record { params = params 0 0 0 0; p = 0; cap = 0; r = 0 }) (params 1 1 1 1) cap (replicate (256 * cap) 255)
 
 -- keys put one after the other, each with itself as its value
 abbrev putAll : List ℕ → Outcome → Outcome
 putAll [] o = o
-putAll (k ∷ ks) o = putAll ks (stored (o .done .state) (o .area) (recordWith k k))
+putAll (k ∷ ks) o = putAll ks (stored inUse (o .done .state) (o .area) (recordWith k k 0))
 
 -- and then one page more
 abbrev grow : Outcome → Growth
-grow o = grew (o .done .state) (o .area) (replicate 2 0)
+grow o = grew inUse (o .done .state) (o .area) (replicate 2 0)
 
 -- the refusal of an answer, and what it moved
 abbrev refusal : Done → ℕ
@@ -65,7 +66,7 @@ movedBy d = numbers (d .answer) .moved
 
 -- the keys of a page
 abbrev keysOn : List ℕ → ℕ → List ℕ
-keysOn area a = map key (recordsIn (partAt area a))
+keysOn area a = map key (recordsIn inUse (partAt area a))
 
 abbrev twelve : List ℕ
 twelve = 0 ∷ 1 ∷ 2 ∷ 3 ∷ 4 ∷ 5 ∷ 6 ∷ 7 ∷ 8 ∷ 9 ∷ 10 ∷ 11 ∷ []
@@ -76,7 +77,7 @@ moves g = (refusal (g .done) ∷ movedBy (g .done) ∷ []) ∷ keysOn (g .area) 
 
 -- "Then key 12 is refused with 7, though page 0 is empty."
 abbrev then12 : Growth → List (List ℕ)
-then12 g = (refusal (stored (g .done .state) (g .area) (recordWith 12 12) .done) ∷ []) ∷ []
+then12 g = (refusal (stored inUse (g .done .state) (g .area) (recordWith 12 12 0) .done) ∷ []) ∷ []
 
 -- "Keys 0 to 12 put at P 1: page 0 holds 0 to 11, page 1 holds 12; grow is refused with 7."
 abbrev thirteen : Outcome → List (List ℕ)
@@ -85,7 +86,7 @@ thirteen o = keysOn (o .area) 0 ∷ keysOn (o .area) 1 ∷ (refusal (grow o .don
 -- "cap 1: the thirteenth key is refused with 7, a held key still gets 6." With another value than
 -- its own it gets 13 (02, request 1).
 abbrev onePage : Outcome → List (List ℕ)
-onePage o = map (λ x. refusal (stored (o .done .state) (o .area) x .done)) (recordWith 12 12 ∷ recordWith 5 5 ∷ recordWith 5 12 ∷ []) ∷ []
+onePage o = map (λ x. refusal (stored inUse (o .done .state) (o .area) x .done)) (recordWith 12 12 0 ∷ recordWith 5 5 0 ∷ recordWith 5 12 0 ∷ []) ∷ []
 
 -- what takes no call
 abbrev alone : List (List ℕ)

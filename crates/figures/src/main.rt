@@ -4,6 +4,7 @@ mod text;
 
 use homes::Params;
 use homes::Shape;
+use layouts::IN_USE;
 use state::State;
 use text::print_item;
 use text::say;
@@ -155,7 +156,7 @@ fn print_due(r: u32) {
         r,
     };
     say_number(b"P 4, ", r as u64);
-    if state.due() {
+    if state.due(IN_USE) {
         say(b" records: due\n");
     } else {
         say(b" records: not due\n");

@@ -18,7 +18,7 @@ fn put_below(mut state: State, area: &mut [u8], end: u64) -> State
     let mut key = 0;
     while key < end {
         let value = 10 * key;
-        let done = register::put(state, area, Record { key, value });
+        let done = register::put(state, area, Record { key, value, run: 0 });
         state = done.state;
         key += 1;
     }
@@ -98,6 +98,7 @@ fn print_put_12(state: State, area: &mut [u8]) {
     let new = Record {
         key: 12,
         value: 120,
+        run: 0,
     };
     let put = register::put(state, area, new);
     print_answer(b"  then put of key 12", put);
@@ -124,10 +125,18 @@ fn print_spilt(area: &mut [u8], row: &mut [u32])
 
 // The held key is put again, with its value and with another.
 fn print_held(state: State, area: &mut [u8]) {
-    let again = Record { key: 5, value: 50 };
+    let again = Record {
+        key: 5,
+        value: 50,
+        run: 0,
+    };
     let held = register::put(state, area, again);
     print_answer(b"cap 1, held key 5 (value 50) put again", held);
-    let other = Record { key: 5, value: 1 };
+    let other = Record {
+        key: 5,
+        value: 1,
+        run: 0,
+    };
     let clash = register::put(held.state, area, other);
     print_answer(b"cap 1, held key 5 (value 50) put with value 1", clash);
 }
@@ -137,6 +146,7 @@ fn print_full(area: &mut [u8]) {
     let new = Record {
         key: 12,
         value: 120,
+        run: 0,
     };
     let thirteenth = register::put(state, area, new);
     print_answer(b"cap 1, thirteenth key", thirteenth);

@@ -9,6 +9,7 @@ use lib.ListN.{length, drop}
 use borrow.Author.Tests.{ltb-false}
 use Rattle.numbers.specs.Little.{Bytes, numberAt}
 use Rattle.numbers.proofs.Laws.{bytes-drop, number-bound}
+use Rattle.layouts.specs.Layout.{inUse}
 use Rattle.placing.specs.Image.{All}
 use Rattle.demands.specs.Histories.{Fits}
 use Rattle.records.specs.declared.Kind.{Kind}
@@ -25,7 +26,7 @@ use Rattle.log_demands.specs.LogDemands.{onFirst, asked}
 
 -- a command's numbers fit: its call's do, with any row
 abbrev pub Fit : Command → Type 0
-Fit c = (row : List ℕ) → Fits (callOf c row)
+Fit c = (row : List ℕ) → Fits inUse (callOf c row)
 
 -- so do those of what an input asks for
 abbrev ItemFits : Item → Type 0
@@ -37,7 +38,7 @@ ItemFits Cut = Unit {0}
 kind-fits : (k : Kind) (l : List ℕ) → Bytes l → lengthOf k ≤ length l → Fit (commandOf k l)
 kind-fits kind.Format l b h row = tt
 kind-fits kind.FormatEdition l b h row = tt
-kind-fits kind.Put l b h row = (number-bound 8 l 4 (omega arith) b, number-bound 8 l 12 (omega arith) b)
+kind-fits kind.Put l b h row = (number-bound 8 l 4 (omega arith) b, number-bound 8 l 12 (omega arith) b, refl)
 kind-fits kind.Find l b h row = number-bound 8 l 4 (omega arith) b
 kind-fits kind.Remove l b h row = number-bound 8 l 4 (omega arith) b
 kind-fits kind.Grow l b h row = tt

@@ -9,11 +9,13 @@ use native.Mathlib.Omega.{arith}
 use lib.Dec.{ltb, eqb}
 use lib.ListN.{length, take, length-take}
 use borrow.Author.Tests.{eqb-true, eqb-false}
+use Rattle.layouts.specs.Layout.{inUse}
 use Rattle.homes.specs.declared.Params.{Params}
 use Rattle.numbers.specs.Little.{written}
 use Rattle.numbers.proofs.Laws.{written-front, written-length}
 use Rattle.state.specs.declared.State.{State}
 use Rattle.register.specs.Files.{Call, format, find, put, remove, grow, check, File, Left, left, numbersOf}
+use Rattle.register.proofs.After.{same-layout}
 use Rattle.demands.specs.Histories.{Fits, refusal, Kept, without, holding, paged, begun, makes}
 use Rattle.demands.specs.Demands.{Fresh}
 use Rattle.demands.proofs.Demands.{demands}
@@ -27,7 +29,7 @@ use Rattle.log_demands.proofs.OneMore.{fresh-more, fresh-format, format
 
 -- the first pages of a space, with a state
 abbrev firstOn : State → List ℕ → (pages : ℕ) → File
-firstOn s space n = record { state = s; area = take (256 * n) space }
+firstOn s space n = record { layout = inUse; state = s; area = take (256 * n) space }
 
 -- what is kept is of the file at the start of a space that has all its pages
 abbrev pub Holds : Option Kept → State → List ℕ → Type 0
@@ -47,25 +49,25 @@ back-front : (space new : List ℕ) → take (length new) (written space 0 new) 
 back-front space new = rw zero-add at (written-front space 0 new (omega arith))
 
 -- a file that a fresh history left is that of the space where its pages have room in it
-back-fresh : (m : Kept) (space : List ℕ) (l : Left) → Fresh m (l .file) → 256 * m .cap ≤ length space → HoldsBack (some m) space l
-back-fresh m space l w h =
+back-fresh : (m : Kept) (space : List ℕ) (l : Left) → l .file .layout ≡ inUse → Fresh m (l .file) → 256 * m .cap ≤ length space → HoldsBack (some m) space l
+back-fresh m space l u w h =
     let n : length (l .file .area) ≡ 256 * l .file .state .cap = omega (arith, fresh-length w, fresh-cap w) in
-    (rw (← n, back-front space (l .file .area)) w, omega (arith, fresh-length w, written-length space 0 (l .file .area) (omega (arith, fresh-length w)), n))
+    (rw (← n, back-front space (l .file .area), ← u) w, omega (arith, fresh-length w, written-length space 0 (l .file .area) (omega (arith, fresh-length w)), n))
 
 -- what is kept after a call is of the file that it left
 abbrev KeepsBack : Option Kept → Call → List ℕ → Left → Type 0
-KeepsBack o c space l = HoldsBack (cond (eqb (numbersOf (l .said) .refusal) 0) (makes o c) o) space l
+KeepsBack o c space l = HoldsBack (cond (eqb (numbersOf (l .said) .refusal) 0) (makes inUse o c) o) space l
 
 -- it is so of every call, since a refused one leaves the file, if it is so where the call is
 -- accepted
 by-refusal : (o : Option Kept) (s : State) (space : List ℕ) (n : ℕ) (c : Call) → Holds o s space
-    → (refusal (firstOn s space n) c ≡ 0 → HoldsBack (makes o c) space (left (firstOn s space n) c)) → KeepsBack o c space (left (firstOn s space n) c)
+    → (refusal (firstOn s space n) c ≡ 0 → HoldsBack (makes inUse o c) space (left (firstOn s space n) c)) → KeepsBack o c space (left (firstOn s space n) c)
 by-refusal o s space n c h k = go (eqb (refusal f c) 0) refl
   where
     f : File
     f = firstOn s space n
 
-    go : (u : Bool) → eqb (refusal f c) 0 ≡ u → HoldsBack (cond u (makes o c) o) space (left f c)
+    go : (u : Bool) → eqb (refusal f c) 0 ≡ u → HoldsBack (cond u (makes inUse o c) o) space (left f c)
     go true e = k (eqb-true (refusal f c) 0 e)
     go false e = back-same o s space n (left f c) (demands .total f c (eqb-false (refusal f c) 0 e) .0) h
 
@@ -74,21 +76,21 @@ format-keeps : (o : Option Kept) (s : State) (space : List ℕ) (q : Params) (ca
     → KeepsBack o (format q cap) space (left (firstOn s space cap) (format q cap))
 format-keeps o s space q cap h =
     by-refusal o s space cap (format q cap) h
-    (λ z. back-fresh (begun q cap) space (left (firstOn s space cap) (format q cap)) (fresh-format (firstOn s space cap) q cap z)
+    (λ z. back-fresh (begun inUse q cap) space (left (firstOn s space cap) (format q cap)) (same-layout (firstOn s space cap) (format q cap)) (fresh-format (firstOn s space cap) q cap z)
     (omega (arith, format-lent (firstOn s space cap) q cap z, length-take (256 * cap) space)))
 
 -- of any other call: it goes on with the file on as many pages, and where nothing is kept it keeps
 -- nothing
-module _ (c : Call) (fits : Fits c) (nothing : makes none c ≡ none)
-    (something : (m : Kept) → (new : Kept) × (makes (some m) c ≡ some new) × (new .cap ≡ m .cap)) where
+module _ (c : Call) (fits : Fits inUse c) (nothing : makes inUse none c ≡ none)
+    (something : (m : Kept) → (new : Kept) × (makes inUse (some m) c ≡ some new) × (new .cap ≡ m .cap)) where
   -- where it is accepted
   accepted-keeps : (o : Option Kept) (s : State) (space : List ℕ) → Holds o s space → refusal (firstOn s space (s .cap)) c ≡ 0
-      → HoldsBack (makes o c) space (left (firstOn s space (s .cap)) c)
+      → HoldsBack (makes inUse o c) space (left (firstOn s space (s .cap)) c)
   accepted-keeps none s space h z = rw nothing tt
   accepted-keeps (some m) s space h z =
       let t = something m in
       rw (t .1)
-      (back-fresh (t .0) space (left (firstOn s space (s .cap)) c) (fresh-more c fits z (t .1) (h .0)) (omega (arith, t .2, fresh-cap (h .0), h .1)))
+      (back-fresh (t .0) space (left (firstOn s space (s .cap)) c) (same-layout (firstOn s space (s .cap)) c) (fresh-more c fits z (t .1) (h .0)) (omega (arith, t .2, fresh-cap (h .0), h .1)))
 
   -- accepted or not
   call-keeps : (o : Option Kept) (s : State) (space : List ℕ) → Holds o s space → KeepsBack o c space (left (firstOn s space (s .cap)) c)
@@ -96,7 +98,7 @@ module _ (c : Call) (fits : Fits c) (nothing : makes none c ≡ none)
 
 -- what is kept after a command is of the file that it left
 abbrev Keeps : Option Kept → Command → Executed → Type 0
-Keeps o c r = Holds (cond (eqb (r .numbers .refusal) 0) (makes o (callOf c [])) o) (r .site .state) (r .site .space)
+Keeps o c r = Holds (cond (eqb (r .numbers .refusal) 0) (makes inUse o (callOf c [])) o) (r .site .state) (r .site .space)
 
 -- and it is so of every command
 pub command-keeps : (o : Option Kept) (d : Site) (c : Command) → Fit c → Holds o (d .state) (d .space) → Keeps o c (executed d c)

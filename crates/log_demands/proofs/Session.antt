@@ -5,6 +5,7 @@ use mathlib.Core.Bool.{true}
 use mathlib.Core.List.{List, [], _∷_, _++_}
 use Prim.Native.Nat.{ℕ}
 use lib.ListN.{replicate}
+use Rattle.layouts.specs.Layout.{inUse}
 use Rattle.homes.specs.Homes.{params}
 use Rattle.numbers.specs.Little.{Bytes, little, bytesOf, numberAt, written}
 use Rattle.numbers.specs.Fields.{encode}
@@ -51,14 +52,14 @@ session = refl
 
 -- what it keeps: one record on one of two pages
 abbrev outcome : Kept
-outcome = record { params = params 1 1 1 1; cap = 2; p = 1; held = recordWith 5 9 ∷ [] }
+outcome = record { layout = inUse; params = params 1 1 1 1; cap = 2; p = 1; held = recordWith 5 9 0 ∷ [] }
 
 -- the session's bytes are those of its three commands
 bytes : Bytes input
 unfolding bytesOf encode
 bytes =
-    bytes-append (encode (shortOf (params 1 1 1 1) 2)) (encode (layoutOf (Put (recordWith 5 9))) ++ encode (layoutOf (Find 5))) (bytes-encode (shortOf (params 1 1 1 1) 2))
-    (bytes-append (encode (layoutOf (Put (recordWith 5 9)))) (encode (layoutOf (Find 5))) (bytes-encode (layoutOf (Put (recordWith 5 9)))) (bytes-encode (layoutOf (Find 5))))
+    bytes-append (encode (shortOf (params 1 1 1 1) 2)) (encode (layoutOf (Put (recordWith 5 9 0))) ++ encode (layoutOf (Find 5))) (bytes-encode (shortOf (params 1 1 1 1) 2))
+    (bytes-append (encode (layoutOf (Put (recordWith 5 9 0)))) (encode (layoutOf (Find 5))) (bytes-encode (layoutOf (Put (recordWith 5 9 0)))) (bytes-encode (layoutOf (Find 5))))
 
 pub session-after : After outcome (wholeLog start input .site)
 unfolding draw mover swept movedTo nextGroups steps home little bytesOf numberAt written encode pageBytes recordsIn wellFormed readPage partAt closed all inRange walk putWalk removeWalk gateOf left formOf firstOf executed asked keptBy

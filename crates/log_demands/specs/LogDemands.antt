@@ -8,6 +8,7 @@ use mathlib.Core.Option.{Option, none, some}
 use mathlib.Core.List.{List, [], _∷_}
 use lib.ListN.{take, drop}
 use lib.Dec.{eqb}
+use Rattle.layouts.specs.Layout.{inUse}
 use Rattle.homes.specs.Homes.{params}
 use Rattle.numbers.specs.Little.{Bytes}
 use Rattle.state.specs.declared.State.{State}
@@ -37,7 +38,7 @@ asked (suc room) l = onFirst (firstOf l) (λ n. asked room (drop n l))
 -- from the last accepted format on
 unfoldable pub keptBy : Option Kept → Site → List Command → Option Kept
 keptBy o d [] = o
-keptBy o d (c ∷ cs) = keptBy (cond (eqb (executed d c .numbers .refusal) 0) (makes o (callOf c [])) o) (executed d c .site) cs
+keptBy o d (c ∷ cs) = keptBy (cond (eqb (executed d c .numbers .refusal) 0) (makes inUse o (callOf c [])) o) (executed d c .site) cs
 
 -- the file at a site: the state, and the pages that it tells of
 abbrev pub fileAt : Site → File

@@ -26,7 +26,8 @@ fit-run : (f : Layout) (r : ℕ) → RunFits f r → Fit (runField f r)
 fit-run Twelve r k = tt
 fit-run Ten r k = (k, tt)
 
-no-run : (f : Layout) → RunFits f 0
+-- no run is one that every layout takes
+pub no-run : (f : Layout) → RunFits f 0
 no-run Twelve = refl
 no-run Ten = omega arith
 

@@ -130,7 +130,7 @@ module _ {f : State} {l : List ℕ} {count i : ℕ} {s : State} {old : List ℕ}
   -- and those of the next stay known, since a put keeps what homes depend on
   pub knows-on : (area : List ℕ) (x : Record) (t : State) → t ≡ left (fileOf s area) (put x) .file .state → Knows f l count (i + 1) t row
   knows-on area x t e =
-      let kept = put-keeps s area x in
+      let kept = put-keeps (fileOf s area) x in
       record {
         params = rw e (kept .params ∙ w .params);
         p = rw e (kept .p ∙ w .p);

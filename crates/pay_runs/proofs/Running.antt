@@ -1,5 +1,5 @@
 -- A run, on each way out of `put_run`.
-use mathlib.Core.Path.{_≡_, refl, sym, _∙_}
+use mathlib.Core.Path.{_≡_, refl, sym, _∙_, ap}
 use mathlib.Core.Bool.{Bool, true, false, cond}
 use mathlib.Core.List.{List, []}
 use Prim.Native.Nat.{ℕ, _*_}
@@ -8,6 +8,7 @@ use lib.ListN.{length}
 use borrow.Author.Tests.{eqb-true}
 use Rattle.state.specs.declared.State.{State}
 use Rattle.state.specs.declared.Numbers.{Numbers}
+use Rattle.register.proofs.After.{after-layout}
 use Rattle.register.specs.Files.{File, fileOf, after}
 use Rattle.records.specs.declared.Told.{Told}
 use Rattle.records.specs.Records.{bytesOfAll, refusedBy}
@@ -34,6 +35,10 @@ run-after f l room = go (eqb (runRefusal l room) 0)
     go : (u : Bool) → cond u (putAll f (putsIn (items l) l)) (refuses (runRefusal l room) f room) .file ≡ after f (cond u (putsIn (items l) l) [])
     go true = refl
     go false = refl
+
+-- in the layout that it had
+pub run-layout : (f : File) (l room : List ℕ) → ran f l room .file .layout ≡ f .layout
+run-layout f l room = ap (λ (g : File). g .layout) (run-after f l room) ∙ after-layout f (madeBy l room)
 
 module _ (s : State) (area l room : List ℕ) (heads : Bool) (is : heads ≡ endToEnd (items l) l) where
   -- 10: nothing is changed

@@ -49,6 +49,7 @@ fn call(asked: Asked, area: &mut [u8], second: &[u8], row: &mut [u32], room: &mu
             let new = Record {
                 key: asked.a,
                 value: asked.b,
+                run: 0,
             };
             records::tell(register::put(state, area, new))
         }

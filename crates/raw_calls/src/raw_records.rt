@@ -1,5 +1,6 @@
 // The records of raw calls: 46 bytes of numbers, then four byte strings, each with its length in
 // front: area, second, row and room. A reply has 54 bytes of numbers before area, row and room.
+use layouts::IN_USE;
 use records::Told;
 use state::State;
 ghost use mathlib.Core.Path.{_≡_};
@@ -105,5 +106,5 @@ pub(crate) fn reply(head: &mut [u8], told: Told, end: usize)
     numbers::put_u16(head, 4, 513);
     slips::put_reply(head, 6, numbers);
     slips::put_state(head, 36, state);
-    numbers::put_u16(head, 52, if state.due() { 1 } else { 0 });
+    numbers::put_u16(head, 52, if state.due(IN_USE) { 1 } else { 0 });
 }

@@ -5,6 +5,7 @@ use mathlib.Core.List.{List}
 use Prim.Native.Nat.{ℕ}
 use lib.ListN.{length}
 use borrow.Author.Tests.{eq-eqb, ne-eqb}
+use Rattle.layouts.specs.Layout.{inUse}
 use Rattle.state.specs.declared.State.{State}
 use Rattle.state.specs.declared.Done.{Done}
 use Rattle.state.specs.State.{isDue}
@@ -37,10 +38,10 @@ module _ (l : List ℕ) where
 
   -- a slip, and its state
   module _ (forty : length l ≡ 40) (s : State) (is : s ≡ stateIn l) where
-    pub is-due : (u : Bool) → isDue s ≡ u → (n : ℕ) → n ≡ cond u 1 0 → n ≡ dueOn l
+    pub is-due : (u : Bool) → isDue inUse s ≡ u → (n : ℕ) → n ≡ cond u 1 0 → n ≡ dueOn l
     unfolding dueOn
     is-due u e n w =
-        let d : isDue (stateIn l) ≡ u = rw is at e in
+        let d : isDue inUse (stateIn l) ≡ u = rw is at e in
         rw (eq-eqb (length l) 40 forty, d, w)
 
     -- what a run came to is told, and its room left
@@ -51,12 +52,12 @@ module _ (l : List ℕ) where
 
     -- what the register's call left is told
     module _ (area : List ℕ) (d : Done) (new row : List ℕ) where
-      pub is-served : (c : Call) → leaves d new row ≡ left (fileOf s area) c → served l area c ≡ servedBy (leaves d new row)
+      pub is-served : (c : Call) → leaves inUse d new row ≡ left (fileOf s area) c → served l area c ≡ servedBy (leaves inUse d new row)
       unfolding served
       is-served c e = rw (eq-eqb (length l) 40 forty, ← is, ← e)
 
       -- and of a growth the row
-      pub grew-served : (old : List ℕ) → leaves d new row ≡ left (fileOf s area) (grow old)
-          → (served l area (grow old) ≡ servedBy (leaves d new row)) × (servedRow l area old ≡ row)
+      pub grew-served : (old : List ℕ) → leaves inUse d new row ≡ left (fileOf s area) (grow old)
+          → (served l area (grow old) ≡ servedBy (leaves inUse d new row)) × (servedRow l area old ≡ row)
       unfolding servedRow
       grew-served old e = (is-served (grow old) e, rw (eq-eqb (length l) 40 forty, ← is, ← e))

@@ -6,6 +6,7 @@ use mathlib.Core.List.{List, _++_}
 use lib.ListN.{length}
 use lib.Dec.{eqb}
 use Rattle.numbers.specs.Fields.{encode}
+use Rattle.layouts.specs.Layout.{inUse}
 use Rattle.homes.specs.Homes.{params}
 use Rattle.state.specs.declared.State.{State}
 use Rattle.state.specs.declared.Numbers.{Numbers}
@@ -76,4 +77,4 @@ servedRoom slip area l room = cond (isSlip slip) (ran (fileIn slip area) l room 
 
 -- whether growth is due, as 1 or 0; with a slip of another length it isn't
 unfoldable pub dueOn : List ℕ → ℕ
-dueOn slip = cond (isSlip slip) (cond (isDue (stateIn slip)) 1 0) 0
+dueOn slip = cond (isSlip slip) (cond (isDue inUse (stateIn slip)) 1 0) 0

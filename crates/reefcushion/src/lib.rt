@@ -2,6 +2,7 @@
 // of forty bytes brings; the slip then holds the state after it and the answer. It takes any
 // lengths and any bytes, and returns the number of its refusal.
 use homes::Params;
+use layouts::IN_USE;
 use pages::Record;
 use records::Told;
 use state::Done;
@@ -123,13 +124,13 @@ pub extern "C" fn reefcushion_find(slip: &mut [u8], area: &[u8], key: u64) -> u3
 
 #[no_mangle]
 pub extern "C" fn reefcushion_put(slip: &mut [u8], area: &mut [u8], key: u64, value: u64) -> u32
-    ensures { λ r. let o = served (now (slip .entry)) (now (area .entry)) (put (recordWith key value)) in ⌜ (r ≡ o .returned) × ((now (slip .exit) ≡ o .slip) × ((now (area .exit) ≡ o .file .area) × (stateIn (now (slip .exit)) ≡ o .file .state))) ⌝ }
+    ensures { λ r. let o = served (now (slip .entry)) (now (area .entry)) (put (recordWith key value 0)) in ⌜ (r ≡ o .returned) × ((now (slip .exit) ≡ o .slip) × ((now (area .exit) ≡ o .file .area) × (stateIn (now (slip .exit)) ≡ o .file .state))) ⌝ }
 {
     if slip.len() != SLIP {
         return NO_SLIP;
     }
     let state = state_in(&slip[..]);
-    let done = register::put(state, area, Record { key, value });
+    let done = register::put(state, area, Record { key, value, run: 0 });
     tell(slip, done)
 }
 
@@ -196,5 +197,5 @@ pub extern "C" fn reefcushion_due(slip: &[u8]) -> u32
         return 0;
     }
     let state = state_in(slip);
-    if state.due() { 1 } else { 0 }
+    if state.due(IN_USE) { 1 } else { 0 }
 }

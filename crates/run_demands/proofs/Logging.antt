@@ -12,13 +12,13 @@ use Rattle.numbers.specs.Little.{written}
 use Rattle.numbers.proofs.Laws.{written-nil}
 use Rattle.numbers.proofs.Records.{and-left, and-right}
 use Rattle.register.specs.Files.{Call, put, File, left, after}
-use Rattle.records.specs.declared.Command.the-variants.{Put}
 use Rattle.records.specs.Records.{firstOf, isPut, recordIn}
 use Rattle.records.proofs.ToTheByte.{put-first}
 use Rattle.commands.specs.Execute.{Site, site, executed}
 use Rattle.commands.specs.Log.{turn, Log, rests, log, wholeLog}
 use Rattle.commands.proofs.Lending.{written-first}
 use Rattle.log_demands.specs.LogDemands.{fileAt}
+use Rattle.register.proofs.After.{same-layout}
 use Rattle.pay_runs.specs.PayRun.{endToEnd, putsIn, repliesTo}
 use Rattle.pay_runs.proofs.Items.{replyTo}
 use Rattle.pay_runs.proofs.PutKeeps.{put-keeps}
@@ -50,22 +50,22 @@ over-again l a b e =
 abbrev pub having : Site → File → Site
 having d f = site (f .state) (written (d .space) 0 (f .area)) (d .row)
 
--- as many bytes of area, and the same lent size
+-- the same layout and lent size, and as many bytes of area
 abbrev SameSize : File → File → Type 0
-SameSize f g = (g .state .cap ≡ f .state .cap) × (length (g .area) ≡ length (f .area))
+SameSize f g = (g .layout ≡ f .layout) × (g .state .cap ≡ f .state .cap) × (length (g .area) ≡ length (f .area))
 
--- puts leave both as they are
+-- puts leave them as they are
 pub puts-keep : (f : File) (n : ℕ) (l : List ℕ) → SameSize f (after f (putsIn n l))
 unfolding after putsIn
-puts-keep f zero l = (refl, refl)
+puts-keep f zero l = (refl, refl, refl)
 puts-keep f (suc n) l =
     let k = put-keeps f (recordIn l) in
     let w = puts-keep (left f (put (recordIn l)) .file) n (drop 20 l) in
-    (w .0 ∙ k .cap, w .1 ∙ k .long)
+    (w .0 ∙ same-layout f (put (recordIn l)), w .1 ∙ k .cap, w .2 ∙ k .long)
 
 -- the file at a site that has a file of the same size in the place of its own
 pub file-had : (d : Site) (f : File) → SameSize (fileAt d) f → fileAt (having d f) ≡ f
-file-had d f w = rw (w .0, first-back (256 * d .state .cap) (d .space) (f .area) (w .1))
+file-had d f w = rw (w .1, first-back (256 * d .state .cap) (d .space) (f .area) (w .2), ← w .0)
 
 -- what the log comes to
 abbrev pub logged : Site → List Call → (taken : ℕ) → Log
@@ -98,8 +98,8 @@ log-puts (suc n) more d l e =
     let cs : List Call = putsIn n (drop 20 l) in
     let z : suc n + more ≡ suc (n + more) = omega arith in
     let on = log-puts n more (having d g) (drop 20 l) (and-right u v e) in
-    let had : fileAt (having d g) ≡ g = let k = put-keeps (fileAt d) (recordIn l) in file-had d g (k .cap, k .long) in
-    let same : length (after g cs .area) ≡ length (g .area) = puts-keep g n (drop 20 l) .1 in
+    let had : fileAt (having d g) ≡ g = let k = put-keeps (fileAt d) (recordIn l) in file-had d g (same-layout (fileAt d) (put (recordIn l)), k .cap, k .long) in
+    let same : length (after g cs .area) ≡ length (g .area) = puts-keep g n (drop 20 l) .2 in
     let m : 20 * suc n ≡ 20 + 20 * n = omega arith in
     rw (z, log-put (n + more) d l (and-left u v e), on, had, over-again (d .space) (g .area) (after g cs .area) same, m)
 

@@ -8,6 +8,7 @@ use lib.Dec.{eqb}
 use lib.ListN.{length}
 use borrow.Author.Tests.{eq-eqb, eqb-true}
 use Rattle.numbers.specs.Little.{Bytes}
+use Rattle.layouts.specs.declared.Layout.{Layout}
 use Rattle.placing.specs.Image.{All}
 use Rattle.placing.proofs.Lists.{all-append}
 use Rattle.pages.specs.Page.{Record}
@@ -17,6 +18,7 @@ use Rattle.demands.specs.Histories.{Fits}
 use Rattle.commands.specs.Execute.{Site}
 use Rattle.commands.specs.Log.{wholeLog}
 use Rattle.log_demands.specs.LogDemands.{fileAt}
+use Rattle.pages.proofs.RoundTrip.{no-run}
 use Rattle.pay_runs.specs.PayRun.{items, endToEnd, putsIn, putAll, runRefusal, ran, madeBy}
 use Rattle.pay_runs.specs.Promises.{putsOf, AllSized}
 use Rattle.pay_runs.proofs.Running.{run-after}
@@ -38,30 +40,30 @@ histories f (a ∷ acts) =
     histories (leftBy f a) acts ∙ ap (λ g. after g (oneByOne acts)) (left-by f a) ∙ sym (after-append f (callsOf a) (oneByOne acts))
 
 -- the puts of sized records fit
-puts-fit : (xs : List Record) → AllSized xs → All Fits (putsOf xs)
+puts-fit : (form : Layout) (xs : List Record) → AllSized xs → All (Fits form) (putsOf xs)
 unfolding putsOf
-puts-fit [] s = tt
-puts-fit (x ∷ xs) s = (s .0, puts-fit xs (s .1))
+puts-fit form [] s = tt
+puts-fit form (x ∷ xs) s = ((s .0 .0, s .0 .1, rw (s .0 .2) (no-run form)), puts-fit form xs (s .1))
 
 -- and so do the calls of a run
-run-fits : (l room : List ℕ) → Bytes l → All Fits (madeBy l room)
-run-fits l room b = go (eqb (runRefusal l room) 0) refl
+run-fits : (form : Layout) (l room : List ℕ) → Bytes l → All (Fits form) (madeBy l room)
+run-fits form l room b = go (eqb (runRefusal l room) 0) refl
   where
-    go : (u : Bool) → eqb (runRefusal l room) 0 ≡ u → All Fits (cond u (putsIn (items l) l) [])
+    go : (u : Bool) → eqb (runRefusal l room) 0 ≡ u → All (Fits form) (cond u (putsIn (items l) l) [])
     go false e = tt
     go true e =
         let z : runRefusal l room ≡ 0 = eqb-true (runRefusal l room) 0 e in
         let (xs, s, q) = run-promises .ten l room b .0 (λ t. omega arith) in
-        rw (← q, run-promises .reads xs s .1) (puts-fit xs s)
+        rw (← q, run-promises .reads xs s .1) (puts-fit form xs s)
 
-act-fits : (a : Act) → FitsAct a → All Fits (callsOf a)
-act-fits (call c) w = (w, tt)
-act-fits (run l room) w = run-fits l room w
+act-fits : (form : Layout) (a : Act) → FitsAct form a → All (Fits form) (callsOf a)
+act-fits form (call c) w = (w, tt)
+act-fits form (run l room) w = run-fits form l room w
 
-all-fit : (acts : List Act) → All FitsAct acts → All Fits (oneByOne acts)
+all-fit : (form : Layout) (acts : List Act) → All (FitsAct form) acts → All (Fits form) (oneByOne acts)
 unfolding oneByOne
-all-fit [] w = tt
-all-fit (a ∷ acts) w = all-append Fits (callsOf a) (oneByOne acts) (act-fits a (w .0)) (all-fit acts (w .1))
+all-fit form [] w = tt
+all-fit form (a ∷ acts) w = all-append (Fits form) (callsOf a) (oneByOne acts) (act-fits form a (w .0)) (all-fit form acts (w .1))
 
 -- an accepted run has put records end to end, and leaves what its puts leave
 module _ (l room : List ℕ) (z : runRefusal l room ≡ 0) where
@@ -94,6 +96,6 @@ module _ (l room : List ℕ) (z : runRefusal l room ≡ 0) where
 pub run-demands : RunDemands
 run-demands = record {
   histories = histories;
-  fresh = λ f acts fits m keeps. record { start = f; calls = oneByOne acts; fits = all-fit acts fits; keeps = keeps; leaves = sym (histories f acts) };
+  fresh = λ f acts fits m keeps. record { start = f; calls = oneByOne acts; fits = all-fit (f .layout) acts fits; keeps = keeps; leaves = sym (histories f acts) };
   as-log = λ d l room z. as-log l room z d;
 }

@@ -7,6 +7,7 @@ use mathlib.Core.Option.{none, some}
 use mathlib.Core.List.{List, [], _∷_, _++_}
 use lib.ListN.{length}
 use Rattle.numbers.specs.Little.{Bytes, written}
+use Rattle.layouts.specs.declared.Layout.{Layout}
 use Rattle.placing.specs.Image.{All}
 use Rattle.register.specs.Files.{Call, File, left, after}
 use Rattle.demands.specs.Histories.{Fits, Kept, kept}
@@ -23,9 +24,9 @@ pub data Act : Type 0 where
   run : (l room : List ℕ) → Act
 
 -- a call's numbers fit, and a run's bytes are bytes
-abbrev pub FitsAct : Act → Type 0
-FitsAct (call c) = Fits c
-FitsAct (run l room) = Bytes l
+abbrev pub FitsAct : Layout → Act → Type 0
+FitsAct form (call c) = Fits form c
+FitsAct form (run l room) = Bytes l
 
 abbrev pub leftBy : File → Act → File
 leftBy f (call c) = left f c .file
@@ -62,5 +63,5 @@ pub record RunDemands : Type 0 where
   pub histories : (f : File) (acts : List Act) → afterAll f acts ≡ after f (oneByOne acts)
   -- so once a format was accepted it is a file after a fresh history, with what its calls and its
   -- runs' puts kept, and all of `Demands` is of it; `Refusals` is of every file
-  pub fresh : (f : File) (acts : List Act) → All FitsAct acts → (m : Kept) → kept none f (oneByOne acts) ≡ some m → Fresh m (afterAll f acts)
+  pub fresh : (f : File) (acts : List Act) → All (FitsAct (f .layout)) acts → (m : Kept) → kept none f (oneByOne acts) ≡ some m → Fresh m (afterAll f acts)
   pub as-log : (d : Site) (l room : List ℕ) → runRefusal l room ≡ 0 → AsLog d l room

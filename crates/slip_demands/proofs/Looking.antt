@@ -1,10 +1,14 @@
--- A find and a check by slip leave the area.
+-- A find and a check by slip leave the area, and every call the layout in use.
 use mathlib.Core.Path.{_≡_, refl}
 use mathlib.Core.Bool.{Bool, true, false, cond}
 use mathlib.Core.List.{List}
 use Prim.Native.Nat.{ℕ}
+use Rattle.layouts.specs.Layout.{inUse}
 use Rattle.register.specs.Files.{Call, find, check, left}
-use Rattle.reefcushion.specs.Slip.{Served, isSlip, fileIn, servedBy, unserved, served}
+use Rattle.register.proofs.After.{same-layout}
+use Rattle.pay_runs.specs.PayRun.{ran}
+use Rattle.pay_runs.proofs.Running.{run-layout as ran-layout}
+use Rattle.reefcushion.specs.Slip.{Served, isSlip, fileIn, servedBy, servedRan, unserved, served, servedRun}
 
 module _ (slip area : List ℕ) where
   -- where both ways of a call come to the same, it does
@@ -23,3 +27,14 @@ module _ (slip area : List ℕ) where
   pub check-area : served slip area check .file .area ≡ area
   unfolding left
   check-area = both check (λ v. v .file .area) area refl refl
+
+  pub call-layout : (c : Call) → served slip area c .file .layout ≡ inUse
+  call-layout c = both c (λ v. v .file .layout) inUse (same-layout (fileIn slip area) c) refl
+
+  pub run-layout : (l room : List ℕ) → servedRun slip area l room .file .layout ≡ inUse
+  unfolding servedRun
+  run-layout l room = go (isSlip slip)
+    where
+      go : (u : Bool) → cond u (servedRan (ran (fileIn slip area) l room)) (unserved slip area) .file .layout ≡ inUse
+      go true = ran-layout (fileIn slip area) l room
+      go false = refl

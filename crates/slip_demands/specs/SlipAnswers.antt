@@ -36,7 +36,7 @@ pub record SlipAnswers : Type 0 where
       (λ κs a. served (now (a .0)) (now (a .1 .0)) (find (a .1 .1 .0)))
       (λ κs a y v. came y (v .0) (now (a .1 .0)))
   pub put : Settled Put.ended Put.Reads.Asked Put.Reads.Learnt
-      (λ κs a. served (now (a .0)) (now (a .1 .0)) (put (recordWith (a .1 .1 .0) (a .1 .1 .1 .0))))
+      (λ κs a. served (now (a .0)) (now (a .1 .0)) (put (recordWith (a .1 .1 .0) (a .1 .1 .1 .0) 0)))
       (λ κs a y v. came y (v .0) (v .1 .0))
   pub put-run : Settled PutRun.ended {O = Served × List ℕ} PutRun.Reads.Asked PutRun.Reads.Learnt
       (λ κs a.

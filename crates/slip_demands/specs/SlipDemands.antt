@@ -7,6 +7,7 @@ use Prim.Native.Nat.{ℕ}
 use lib.ListN.{length}
 use Rattle.numbers.specs.Little.{numberAt}
 use Rattle.numbers.specs.Fields.{encode}
+use Rattle.layouts.specs.Layout.{inUse}
 use Rattle.homes.specs.Homes.{params}
 use Rattle.placing.specs.Image.{All}
 use Rattle.state.specs.declared.Numbers.{Numbers}
@@ -34,7 +35,7 @@ pub record SlipDemands : Type 0 where
       → fileIn slip' area' ≡ after (fileIn slip area) cs
   -- so once a format was accepted they are a file after a fresh history, and all of `Demands` is of
   -- it
-  pub fresh : {cs : List Call} {slip area slip' area' : List ℕ} → Handed cs slip area slip' area' → length slip ≡ 40 → All Fits cs
+  pub fresh : {cs : List Call} {slip area slip' area' : List ℕ} → Handed cs slip area slip' area' → length slip ≡ 40 → All (Fits inUse) cs
       → (m : Kept) → kept none (fileIn slip area) cs ≡ some m → Fresh m (fileIn slip' area')
   -- 02, request 4: "Edition 1 files stay readable and writable as they are": a slip with 0 before
   -- r, as all were before there were editions, is of edition 1, and one of edition 1 is written so

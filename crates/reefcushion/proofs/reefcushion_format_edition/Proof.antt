@@ -4,6 +4,7 @@ use mathlib.Core.Path.{refl}
 use mathlib.Core.List.{[]}
 use denote.Ref.{now}
 use borrow.Author.Needs.{needs}
+use Rattle.layouts.specs.Layout.{inUse}
 use Rattle.homes.specs.Homes.{params}
 use Rattle.register.specs.Files.{format, leaves, left}
 use Rattle.reefcushion.proofs.Calling.{not-served, is-served}
@@ -25,7 +26,7 @@ returns-2 c =
     let a = e .before .before .before .args in
     let came = g .format .ensures in
     let told = t .tell .ensures in
-    rw (is-served (now (a .slip)) (e .if1 .left) _ (i .state-in .ensures) (now (a .area)) _ _ [] (format (params (a .n0) (a .n) (a .s) (a .edition)) (a .cap)) (λ j. leaves (came .0 j) (came .1 j) [])) (told .0, (told .1 .0, (refl, told .1 .1)))
+    rw (is-served (now (a .slip)) (e .if1 .left) _ (i .state-in .ensures) (now (a .area)) _ _ [] (format (params (a .n0) (a .n) (a .s) (a .edition)) (a .cap)) (λ j. leaves inUse (came .0 j) (came .1 j) [])) (told .0, (told .1 .0, (refl, told .1 .1)))
 
 pub reefcushion-format-edition-spec : {M : Type 1} → statement M
 reefcushion-format-edition-spec =

@@ -3,6 +3,7 @@
 use mathlib.Core.Path.{refl}
 use denote.Ref.{now}
 use borrow.Author.Needs.{needs}
+use Rattle.layouts.specs.Layout.{inUse}
 use Rattle.register.specs.Files.{grow, leaves, left}
 use Rattle.reefcushion.proofs.Calling.{not-served, row-kept, grew-served}
 use Rattle.reefcushion.proofs.reefcushion_grow.Statement.{statement}
@@ -24,7 +25,7 @@ returns-2 c =
     let a = e .before .before .before .before .args in
     let came = g .grow .ensures in
     let told = t .tell .ensures in
-    let w = grew-served (now (a .slip)) (e .if1 .left) _ (i .state-in .ensures) (now (a .area)) _ _ _ (now (a .row)) (λ j. leaves (came .0 j) (came .1 .0 j) (came .1 .1 j)) in
+    let w = grew-served (now (a .slip)) (e .if1 .left) _ (i .state-in .ensures) (now (a .area)) _ _ _ (now (a .row)) (λ j. leaves inUse (came .0 j) (came .1 .0 j) (came .1 .1 j)) in
     rw (w .0, w .1) (told .0, (told .1 .0, (refl, (refl, told .1 .1))))
 
 pub reefcushion-grow-spec : {M : Type 1} → statement M

@@ -4,6 +4,7 @@ use mathlib.Core.Path.{refl}
 use mathlib.Core.List.{[]}
 use denote.Ref.{now}
 use borrow.Author.Needs.{needs}
+use Rattle.layouts.specs.Layout.{inUse}
 use Rattle.register.specs.Files.{remove, leaves, left}
 use Rattle.reefcushion.proofs.Calling.{not-served, is-served}
 use Rattle.reefcushion.proofs.reefcushion_remove.Statement.{statement}
@@ -24,7 +25,7 @@ returns-2 c =
     let a = e .before .before .before .args in
     let came = g .remove .ensures in
     let told = t .tell .ensures in
-    rw (is-served (now (a .slip)) (e .if1 .left) _ (i .state-in .ensures) (now (a .area)) _ _ [] (remove (a .key)) (λ j. leaves (came .0 j) (came .1 j) [])) (told .0, (told .1 .0, (refl, told .1 .1)))
+    rw (is-served (now (a .slip)) (e .if1 .left) _ (i .state-in .ensures) (now (a .area)) _ _ [] (remove (a .key)) (λ j. leaves inUse (came .0 j) (came .1 j) [])) (told .0, (told .1 .0, (refl, told .1 .1)))
 
 pub reefcushion-remove-spec : {M : Type 1} → statement M
 reefcushion-remove-spec =

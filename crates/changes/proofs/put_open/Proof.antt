@@ -27,9 +27,6 @@ gone c = c .before .before .before .before .before .before .before .before .befo
 shape-requires : tie.Need-shape-requires
 shape-requires c κs = in-shape inUse _ (c .before .pre .0)
 
-cast-plan-put : tie.Need-cast-plan-put
-cast-plan-put c = search needs
-
 plan-put-requires : tie.Need-plan-put-requires
 plan-put-requires c κs =
     let h = c .before .before in
@@ -42,24 +39,6 @@ plan-put-requires c κs =
       shape-fits s _ is (b .pre .0),
       home-shaped s _ is (b .args .new .key) (b .args .home) (b .pre .2),
     )
-
-enum-known-plan : tie.Need-enum-known-plan
-enum-known-plan c = search needs
-
-enum-known-plan-2 : tie.Need-enum-known-plan-2
-enum-known-plan-2 c = search needs
-
-cast-if1 : tie.Need-cast-if1
-cast-if1 c = search needs
-
-cast-if1-2 : tie.Need-cast-if1-2
-cast-if1-2 c = search needs
-
-mul-if1 : tie.Need-mul-if1
-mul-if1 c = search needs
-
-same-length : tie.Need-same-length
-same-length c = search needs
 
 returns : tie.Need-returns
 returns c =
@@ -93,18 +72,12 @@ one-more-requires c κs =
 wrote-requires : tie.Need-wrote-requires
 wrote-requires c κs = let w = low (gone c) in (w .0, w .1)
 
-same-length-2 : tie.Need-same-length-2
-same-length-2 c = search needs
-
 returns-2 : tie.Need-returns-2
 returns-2 c =
     let o = c .before .before .before in
     let h = o .before .before .before in
     let a = h .before .before .args in
     put-stops (a .state) _ (h .shape .ensures .0) (now (a .area)) (a .new) _ (o .plan-put .ensures .0) _ (c .before .plan .given .1)
-
-same-length-3 : tie.Need-same-length-3
-same-length-3 c = search needs
 
 returns-3 : tie.Need-returns-3
 returns-3 d =
@@ -124,19 +97,19 @@ put-open-spec =
     tie.close
     (tie.spec
     shape-requires
-    cast-plan-put
+    (λ c. search needs)
     plan-put-requires
-    enum-known-plan
-    enum-known-plan-2
-    cast-if1
-    cast-if1-2
-    mul-if1
-    same-length
+    (λ c. search needs)
+    (λ c. search needs)
+    (λ c. search needs)
+    (λ c. search needs)
+    (λ c. search needs)
+    (λ c. search needs)
     returns
     pour-requires
     one-more-requires
     wrote-requires
-    same-length-2
+    (λ c. search needs)
     returns-2
-    same-length-3
+    (λ c. search needs)
     returns-3)

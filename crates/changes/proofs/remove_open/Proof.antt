@@ -26,23 +26,11 @@ gone c = c .before .before .before .before .before .before .before .before
 shape-requires : tie.Need-shape-requires
 shape-requires c κs = in-shape inUse _ (c .before .pre .0)
 
-cast-plan-remove : tie.Need-cast-plan-remove
-cast-plan-remove c = search needs
-
 plan-remove-requires : tie.Need-plan-remove-requires
 plan-remove-requires c κs =
     let h = c .before .before in
     let b = h .before .before in
     (ranged inUse (b .args .state) (b .pre .0) .cap-high, b .pre .1, h .shape .ensures .1, shape-fits (b .args .state) _ (h .shape .ensures .0) (b .pre .0))
-
-enum-known-plan : tie.Need-enum-known-plan
-enum-known-plan c = search needs
-
-enum-known-plan-2 : tie.Need-enum-known-plan-2
-enum-known-plan-2 c = search needs
-
-same-length : tie.Need-same-length
-same-length c = search needs
 
 returns : tie.Need-returns
 returns c =
@@ -61,14 +49,8 @@ draw-back-requires c κs =
     let w = low k in
     (w .0, w .1, w .2, h .shape .ensures .1)
 
-one-less-requires : tie.Need-one-less-requires
-one-less-requires c κs = search needs
-
 wrote-requires : tie.Need-wrote-requires
 wrote-requires c κs = let w = low (gone c) in (w .0, w .1)
-
-same-length-2 : tie.Need-same-length-2
-same-length-2 c = search needs
 
 returns-2 : tie.Need-returns-2
 returns-2 c =
@@ -76,9 +58,6 @@ returns-2 c =
     let h = o .before .before .before in
     let a = h .before .before .args in
     remove-stops (a .state) _ (h .shape .ensures .0) (now (a .area)) (a .key) _ (o .plan-remove .ensures .0) _ (c .before .plan .given .1)
-
-same-length-3 : tie.Need-same-length-3
-same-length-3 c = search needs
 
 returns-3 : tie.Need-returns-3
 returns-3 d =
@@ -98,16 +77,16 @@ remove-open-spec =
     tie.close
     (tie.spec
     shape-requires
-    cast-plan-remove
+    (λ c. search needs)
     plan-remove-requires
-    enum-known-plan
-    enum-known-plan-2
-    same-length
+    (λ c. search needs)
+    (λ c. search needs)
+    (λ c. search needs)
     returns
     draw-back-requires
-    one-less-requires
+    (λ c κs. search needs)
     wrote-requires
-    same-length-2
+    (λ c. search needs)
     returns-2
-    same-length-3
+    (λ c. search needs)
     returns-3)

@@ -6,19 +6,10 @@ use Rattle.gates.proofs.Gating.{range-shut, area-shut, gate-open}
 use Rattle.gates.proofs.enter.Statement.{statement}
 use Rattle.gates.proofs.enter.Tie as tie
 
-in-range-requires : tie.Need-in-range-requires
-in-range-requires c κs = search needs
-
 returns : tie.Need-returns
 returns c =
     let a = c .before .before .args in
     (range-shut (a .layout) (a .state) (a .length) (sym (c .before .in-range .ensures) ∙ not-true _ (c .if1 .taken)), tt)
-
-cast-if2 : tie.Need-cast-if2
-cast-if2 c = search needs
-
-mul-if2 : tie.Need-mul-if2
-mul-if2 c = search needs
 
 returns-2 : tie.Need-returns-2
 returns-2 c =
@@ -32,4 +23,4 @@ returns-3 c =
     (gate-open (a .layout) (a .state) (a .length) e (c .if2 .left), (e, c .if2 .left))
 
 pub enter-spec : {M : Type 1} → statement M
-enter-spec = tie.close (tie.spec in-range-requires returns cast-if2 mul-if2 returns-2 returns-3)
+enter-spec = tie.close (tie.spec (λ c κs. search needs) returns (λ c. search needs) (λ c. search needs) returns-2 returns-3)

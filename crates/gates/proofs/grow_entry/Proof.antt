@@ -4,18 +4,6 @@ use Rattle.gates.proofs.Gating.{past, entry-shut, entry-row, entry-cap,
 use Rattle.gates.proofs.grow_entry.Statement.{statement}
 use Rattle.gates.proofs.grow_entry.Tie as tie
 
-enter-requires : tie.Need-enter-requires
-enter-requires c κs = search needs
-
-enum-known-gate : tie.Need-enum-known-gate
-enum-known-gate c = search needs
-
-enum-told : tie.Need-enum-told
-enum-told c = search needs
-
-cast-if1 : tie.Need-cast-if1
-cast-if1 c = search needs
-
 returns : tie.Need-returns
 returns c =
     let t = c .before .before in
@@ -51,10 +39,10 @@ pub grow-entry-spec : {M : Type 1} → statement M
 grow-entry-spec =
     tie.close
     (tie.spec
-    enter-requires
-    enum-known-gate
-    enum-told
-    cast-if1
+    (λ c κs. search needs)
+    (λ c. search needs)
+    (λ c. search needs)
+    (λ c. search needs)
     returns
     returns-2
     returns-3

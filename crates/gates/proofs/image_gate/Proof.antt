@@ -12,12 +12,6 @@ use Rattle.gates.proofs.image_gate.Tie as tie
 shape-requires : tie.Need-shape-requires
 shape-requires c κs = in-shape (c .before .args .layout) (c .before .args .state) (c .before .pre .0)
 
-cast-survey : tie.Need-cast-survey
-cast-survey c = search needs
-
-slice-aggregate-survey : tie.Need-slice-aggregate-survey
-slice-aggregate-survey c = search needs
-
 survey-requires : tie.Need-survey-requires
 survey-requires c κs =
     let b = c .before .before .before .before in
@@ -41,8 +35,8 @@ image-gate-spec =
     tie.close
     (tie.spec
     shape-requires
-    cast-survey
-    slice-aggregate-survey
+    (λ c. search needs)
+    (λ c. search needs)
     survey-requires
     image-of-requires
     returns)

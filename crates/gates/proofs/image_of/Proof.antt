@@ -6,9 +6,6 @@ use Rattle.gates.proofs.Judging.{broken-shut, image-open, image-shut}
 use Rattle.gates.proofs.image_of.Statement.{statement}
 use Rattle.gates.proofs.image_of.Tie as tie
 
-enum-known-verdict : tie.Need-enum-known-verdict
-enum-known-verdict c = search needs
-
 -- a broken page is one of 4,096 at most
 low : (c : tie.After-known-told) → c .before .verdict .given .0 .0 < 4096
 low c = c .before .before .before .pre _ (c .before .verdict .given .1)
@@ -22,16 +19,10 @@ cast-t8 c = let l = low c in omega arith
 add-t9 : tie.Need-add-t9
 add-t9 c = let l = low c in omega arith
 
-enum-known-verdict-2 : tie.Need-enum-known-verdict-2
-enum-known-verdict-2 c = search needs
-
 returns : tie.Need-returns
 returns c =
     let a = c .before .before .before .before .before .args in
     image-open (a .state) (a .verdict) _ _ (c .before .before .before .verdict2 .given .1) (c .if1 .taken)
-
-cast-t13 : tie.Need-cast-t13
-cast-t13 c = search needs
 
 returns-2 : tie.Need-returns-2
 returns-2 c =
@@ -47,12 +38,12 @@ pub image-of-spec : {M : Type 1} → statement M
 image-of-spec =
     tie.close
     (tie.spec
-    enum-known-verdict
+    (λ c. search needs)
     cast-t7
     cast-t8
     add-t9
-    enum-known-verdict-2
+    (λ c. search needs)
     returns
-    cast-t13
+    (λ c. search needs)
     returns-2
     returns-3)

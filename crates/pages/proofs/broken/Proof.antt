@@ -4,12 +4,9 @@ use Rattle.pages.specs.Page.{judged}
 use Rattle.pages.proofs.broken.Statement.{statement}
 use Rattle.pages.proofs.broken.Tie as tie
 
-blank-requires : tie.Need-blank-requires
-blank-requires c κs = search needs
-
 returns : tie.Need-returns
 unfolding judged
 returns c = rw (c .blank .ensures)
 
 pub broken-spec : {M : Type 1} → statement M
-broken-spec = tie.close (tie.spec blank-requires returns)
+broken-spec = tie.close (tie.spec (λ c κs. search needs) returns)

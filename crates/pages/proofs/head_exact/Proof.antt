@@ -5,30 +5,6 @@ use Rattle.pages.proofs.Read.{head-tests}
 use Rattle.pages.proofs.head_exact.Statement.{statement}
 use Rattle.pages.proofs.head_exact.Tie as tie
 
-get-u16-requires : tie.Need-get-u16-requires
-get-u16-requires c κs = search needs
-
-get-u16-requires-2 : tie.Need-get-u16-requires-2
-get-u16-requires-2 c κs = search needs
-
-kind-requires : tie.Need-kind-requires
-kind-requires c κs = search needs
-
-get-u32-requires : tie.Need-get-u32-requires
-get-u32-requires c κs = search needs
-
-get-u16-requires-3 : tie.Need-get-u16-requires-3
-get-u16-requires-3 c κs = search needs
-
-cast-used : tie.Need-cast-used
-cast-used c = search needs
-
-get-u16-requires-4 : tie.Need-get-u16-requires-4
-get-u16-requires-4 c κs = search needs
-
-get-u32-requires-2 : tie.Need-get-u32-requires-2
-get-u32-requires-2 c κs = search needs
-
 returns : tie.Need-returns
 returns c =
     let place = c .before .before .before in
@@ -40,12 +16,12 @@ pub head-exact-spec : {M : Type 1} → statement M
 head-exact-spec =
     tie.close
     (tie.spec
-    get-u16-requires
-    get-u16-requires-2
-    kind-requires
-    get-u32-requires
-    get-u16-requires-3
-    cast-used
-    get-u16-requires-4
-    get-u32-requires-2
+    (λ c κs. search needs)
+    (λ c κs. search needs)
+    (λ c κs. search needs)
+    (λ c κs. search needs)
+    (λ c κs. search needs)
+    (λ c. search needs)
+    (λ c κs. search needs)
+    (λ c κs. search needs)
     returns)

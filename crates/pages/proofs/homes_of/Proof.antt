@@ -17,13 +17,10 @@ at-place h ks hs e i l = ap (λ (row : List ℕ). getD row i 0) (e ∙ sym (appe
 returns : tie.Need-returns
 returns c i l = absurd (omega arith)
 
-homes-requires : tie.Need-homes-requires
-homes-requires c κs = search needs
-
 returns-2 : tie.Need-returns-2
 returns-2 c i l =
     let b = c .before .before .before .before in
     at-place (homeIn (b .args .shape)) (b .args .page .keys) _ (c .homes .ensures) i (omega (arith, b .pre .0, b .pre .1))
 
 pub homes-of-spec : {M : Type 1} → statement M
-homes-of-spec = tie.close (tie.spec returns homes-requires returns-2)
+homes-of-spec = tie.close (tie.spec returns (λ c κs. search needs) returns-2)

@@ -9,19 +9,10 @@ use Rattle.pages.proofs.Judging.{judged-unformed, judged-formed}
 use Rattle.pages.proofs.judge.Statement.{statement}
 use Rattle.pages.proofs.judge.Tie as tie
 
-well-formed-requires : tie.Need-well-formed-requires
-well-formed-requires c κs = search needs
-
-broken-requires : tie.Need-broken-requires
-broken-requires c κs = search needs
-
 returns : tie.Need-returns
 returns c =
     let a = c .before .before .before .before .args in
     judged-unformed (a .layout) (homeIn (a .shape)) (a .address) (now (a .part)) _ (sym (c .before .before .well-formed .ensures) ∙ not-true _ (c .before .if1 .taken)) (c .broken .ensures)
-
-parse-requires : tie.Need-parse-requires
-parse-requires c κs = search needs
 
 judge-records-requires : tie.Need-judge-records-requires
 judge-records-requires c κs =
@@ -39,9 +30,9 @@ pub judge-spec : {M : Type 1} → statement M
 judge-spec =
     tie.close
     (tie.spec
-    well-formed-requires
-    broken-requires
+    (λ c κs. search needs)
+    (λ c κs. search needs)
     returns
-    parse-requires
+    (λ c κs. search needs)
     judge-records-requires
     returns-2)

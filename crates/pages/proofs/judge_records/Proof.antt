@@ -28,24 +28,6 @@ loop-holds c h f =
     let b = c .before .before in
     judging-starts h (b .args .address) (b .args .page) (ranked 0 0) (b .pre .0)
 
-mul-key : tie.Need-mul-key Inv-loop μ-loop
-mul-key c = search needs
-
-array-read-key : tie.Need-array-read-key Inv-loop μ-loop
-array-read-key c = search needs
-
-mul-home : tie.Need-mul-home Inv-loop μ-loop
-mul-home c = search needs
-
-array-read-home : tie.Need-array-read-home Inv-loop μ-loop
-array-read-home c = search needs
-
-before-requires : tie.Need-before-requires Inv-loop μ-loop
-before-requires c κs = search needs
-
-broken-requires : tie.Need-broken-requires Inv-loop μ-loop
-broken-requires c κs = search needs
-
 returns : tie.Need-returns Inv-loop μ-loop
 returns c =
     let l = c .before .before .before .before .loop in
@@ -54,18 +36,6 @@ returns c =
     let h = homeIn (a .shape) in
     judging-breaks h (a .address) (a .page) (l .homes) (ranked (l .last-home) (l .last-key)) (l .i) _ _ (omega arith)
     (m .homes-of .ensures (l .i) (omega arith)) (c .before .before .before2 .ensures) (l .inv h (m .homes-of .ensures)) _ (not-true _ (c .before .if1 .taken)) (c .broken .ensures)
-
-mul-homes : tie.Need-mul-homes Inv-loop μ-loop
-mul-homes c = search needs
-
-array-write-homes : tie.Need-array-write-homes Inv-loop μ-loop
-array-write-homes c = search needs
-
-add-i : tie.Need-add-i Inv-loop μ-loop
-add-i c = search needs
-
-loop-less : tie.Need-loop-less Inv-loop μ-loop
-loop-less c = search needs
 
 loop-again : tie.Need-loop-again Inv-loop μ-loop
 loop-again c h f =
@@ -90,16 +60,16 @@ judge-records-spec =
     μ-loop
     homes-of-requires
     loop-holds
-    mul-key
-    array-read-key
-    mul-home
-    array-read-home
-    before-requires
-    broken-requires
+    (λ c. search needs)
+    (λ c. search needs)
+    (λ c. search needs)
+    (λ c. search needs)
+    (λ c κs. search needs)
+    (λ c κs. search needs)
     returns
-    mul-homes
-    array-write-homes
-    add-i
-    loop-less
+    (λ c. search needs)
+    (λ c. search needs)
+    (λ c. search needs)
+    (λ c. search needs)
     loop-again
     returns-2)

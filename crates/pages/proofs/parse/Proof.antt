@@ -18,46 +18,16 @@ Inv-loop part layout count keys₀ values₀ runs₀ i₀ keys values runs i =
 abbrev μ-loop : tie.MeasureT-loop
 μ-loop part layout count keys₀ values₀ runs₀ i₀ keys values runs i = count - i
 
-count-in-requires : tie.Need-count-in-requires Inv-loop μ-loop
-count-in-requires c κs = search needs
-
 loop-holds : tie.Need-loop-holds Inv-loop μ-loop
 loop-holds c =
     let a = c .before .before .args in
     (omega arith, omega (arith, c .count-in .ensures, slots-few (a .layout) .1), λ e. parse-starts (a .layout) (now (a .part)) (c .count-in .result) e)
-
-slot-at-requires : tie.Need-slot-at-requires Inv-loop μ-loop
-slot-at-requires c κs = search needs
 
 get-requires : tie.Need-get-requires Inv-loop μ-loop
 get-requires c κs =
     let s = c .before .before .before .before .before in
     let fits = slot-fits (s .args .layout) (c .before .before .loop .i) (omega arith) in
     (omega (arith, c .slot-at .ensures, fits, width-low (s .args .layout), s .pre), omega (arith, c .slot-at .ensures, fits, s .pre))
-
-mul-keys : tie.Need-mul-keys Inv-loop μ-loop
-mul-keys c = search needs
-
-array-write-keys : tie.Need-array-write-keys Inv-loop μ-loop
-array-write-keys c = search needs
-
-mul-values : tie.Need-mul-values Inv-loop μ-loop
-mul-values c = search needs
-
-array-write-values : tie.Need-array-write-values Inv-loop μ-loop
-array-write-values c = search needs
-
-mul-runs : tie.Need-mul-runs Inv-loop μ-loop
-mul-runs c = search needs
-
-array-write-runs : tie.Need-array-write-runs Inv-loop μ-loop
-array-write-runs c = search needs
-
-add-i : tie.Need-add-i Inv-loop μ-loop
-add-i c = search needs
-
-loop-less : tie.Need-loop-less Inv-loop μ-loop
-loop-less c = search needs
 
 loop-again : tie.Need-loop-again Inv-loop μ-loop
 loop-again c =
@@ -78,17 +48,17 @@ parse-spec =
     (tie.spec
     Inv-loop
     μ-loop
-    count-in-requires
+    (λ c κs. search needs)
     loop-holds
-    slot-at-requires
+    (λ c κs. search needs)
     get-requires
-    mul-keys
-    array-write-keys
-    mul-values
-    array-write-values
-    mul-runs
-    array-write-runs
-    add-i
-    loop-less
+    (λ c. search needs)
+    (λ c. search needs)
+    (λ c. search needs)
+    (λ c. search needs)
+    (λ c. search needs)
+    (λ c. search needs)
+    (λ c. search needs)
+    (λ c. search needs)
     loop-again
     returns)

@@ -20,16 +20,10 @@ Inv-loop part layout count all i₀ i = slotsLeft layout part count i ≡ matche
 abbrev μ-loop : tie.MeasureT-loop
 μ-loop part layout count all i₀ i = all - i
 
-slots-requires : tie.Need-slots-requires Inv-loop μ-loop
-slots-requires c κs = search needs
-
 loop-holds : tie.Need-loop-holds Inv-loop μ-loop
 loop-holds c =
     let a = c .before .before .args in
     slots-start (a .layout) (now (a .part)) (a .count)
-
-slot-at-requires : tie.Need-slot-at-requires Inv-loop μ-loop
-slot-at-requires c κs = search needs
 
 formed-requires : tie.Need-formed-requires Inv-loop μ-loop
 formed-requires c κs =
@@ -43,12 +37,6 @@ returns c =
     let a = c .before .before .before .before .before .before .before .args in
     let l = c .before .before .before .before .loop in
     slots-stop (a .layout) (now (a .part)) (a .count) (l .i) _ (omega arith) (rw (c .before .before .slot-at .ensures) at (c .before .formed .ensures)) (not-true _ (c .if1 .taken)) ∙ l .inv
-
-add-i : tie.Need-add-i Inv-loop μ-loop
-add-i c = search needs
-
-loop-less : tie.Need-loop-less Inv-loop μ-loop
-loop-less c = search needs
 
 loop-again : tie.Need-loop-again Inv-loop μ-loop
 loop-again c =
@@ -68,12 +56,12 @@ slots-formed-spec =
     (tie.spec
     Inv-loop
     μ-loop
-    slots-requires
+    (λ c κs. search needs)
     loop-holds
-    slot-at-requires
+    (λ c κs. search needs)
     formed-requires
     returns
-    add-i
-    loop-less
+    (λ c. search needs)
+    (λ c. search needs)
     loop-again
     returns-2)

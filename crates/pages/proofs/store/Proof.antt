@@ -27,37 +27,10 @@ Inv-loop part₀ address layout count keys values runs all i₀ part i =
 abbrev μ-loop : tie.MeasureT-loop
 μ-loop part₀ address layout count keys values runs all i₀ part i = all - i
 
-slots-requires : tie.Need-slots-requires Inv-loop μ-loop
-slots-requires c κs = search needs
-
-put-head-requires : tie.Need-put-head-requires Inv-loop μ-loop
-put-head-requires c κs = search needs
-
 loop-holds : tie.Need-loop-holds Inv-loop μ-loop
 loop-holds c =
     let s = c .before .before .before .before .before .before .before .before .before in
     (search needs, λ rs h. head-first (s .args .layout) _ _ _ _ _ _ _ rs (s .pre .0) (c .before .before .put-head .ensures) h)
-
-mul-t18 : tie.Need-mul-t18 Inv-loop μ-loop
-mul-t18 c = search needs
-
-array-read-t21 : tie.Need-array-read-t21 Inv-loop μ-loop
-array-read-t21 c = search needs
-
-mul-t22 : tie.Need-mul-t22 Inv-loop μ-loop
-mul-t22 c = search needs
-
-array-read-t25 : tie.Need-array-read-t25 Inv-loop μ-loop
-array-read-t25 c = search needs
-
-mul-t26 : tie.Need-mul-t26 Inv-loop μ-loop
-mul-t26 c = search needs
-
-array-read-t29 : tie.Need-array-read-t29 Inv-loop μ-loop
-array-read-t29 c = search needs
-
-slot-at-requires : tie.Need-slot-at-requires Inv-loop μ-loop
-slot-at-requires c κs = search needs
 
 put-requires : tie.Need-put-requires Inv-loop μ-loop
 put-requires c κs =
@@ -65,12 +38,6 @@ put-requires c κs =
     let l = c .before .before .before .before .loop in
     let fits = slot-fits f (l .i) (omega arith) in
     (omega (arith, c .slot-at .ensures, fits, width-low f, l .inv .0), omega (arith, c .slot-at .ensures, fits, l .inv .0))
-
-add-i : tie.Need-add-i Inv-loop μ-loop
-add-i c = search needs
-
-loop-less : tie.Need-loop-less Inv-loop μ-loop
-loop-less c = search needs
 
 loop-again : tie.Need-loop-again Inv-loop μ-loop
 loop-again c =
@@ -87,9 +54,6 @@ loop-again c =
           ∙ l .inv .1 rs h,
     )
 
-same-length : tie.Need-same-length Inv-loop μ-loop
-same-length c = search needs
-
 returns : tie.Need-returns Inv-loop μ-loop
 returns c =
     let e = c .before .before .before .before .before .before .before .before .before .before .before in
@@ -103,19 +67,19 @@ store-spec =
     (tie.spec
     Inv-loop
     μ-loop
-    slots-requires
-    put-head-requires
+    (λ c κs. search needs)
+    (λ c κs. search needs)
     loop-holds
-    mul-t18
-    array-read-t21
-    mul-t22
-    array-read-t25
-    mul-t26
-    array-read-t29
-    slot-at-requires
+    (λ c. search needs)
+    (λ c. search needs)
+    (λ c. search needs)
+    (λ c. search needs)
+    (λ c. search needs)
+    (λ c. search needs)
+    (λ c κs. search needs)
     put-requires
-    add-i
-    loop-less
+    (λ c. search needs)
+    (λ c. search needs)
     loop-again
-    same-length
+    (λ c. search needs)
     returns)

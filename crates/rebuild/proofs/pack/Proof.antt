@@ -17,14 +17,8 @@ Inv-loop area₀ cap new at₀ a₀ area at a = Above (newHome new) cap area₀ 
 abbrev μ-loop : tie.MeasureT-loop
 μ-loop area₀ cap new at₀ a₀ area at a = a
 
-mul-at : tie.Need-mul-at Inv-loop μ-loop
-mul-at c = search needs
-
 loop-holds : tie.Need-loop-holds Inv-loop μ-loop
 loop-holds c = above-start _ _ _ (c .before .pre .1)
-
-sub-a : tie.Need-sub-a Inv-loop μ-loop
-sub-a c = search needs
 
 parse-at-requires : tie.Need-parse-at-requires Inv-loop μ-loop
 parse-at-requires c κs =
@@ -58,9 +52,6 @@ pack-page-requires c κs =
       c .before .homes-at .ensures ∙ sym (homes-page (newHome (start .args .new)) _ _ (read .parse-at .ensures)),
     )
 
-loop-less : tie.Need-loop-less Inv-loop μ-loop
-loop-less c = search needs
-
 loop-again : tie.Need-loop-again Inv-loop μ-loop
 loop-again c =
     let called = c .before .before in
@@ -87,13 +78,13 @@ pack-spec =
     (tie.spec
     Inv-loop
     μ-loop
-    mul-at
+    (λ c. search needs)
     loop-holds
-    sub-a
+    (λ c. search needs)
     parse-at-requires
     homes-at-requires
     pack-page-requires
-    loop-less
+    (λ c. search needs)
     loop-again
     same-length
     returns)

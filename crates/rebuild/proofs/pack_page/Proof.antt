@@ -31,18 +31,6 @@ abbrev μ-loop : tie.MeasureT-loop
 loop-holds : tie.Need-loop-holds Inv-loop μ-loop
 loop-holds c = (omega arith, omega arith, refl, λ h e. refl)
 
-sub-i : tie.Need-sub-i Inv-loop μ-loop
-sub-i c = search needs
-
-sub-at : tie.Need-sub-at Inv-loop μ-loop
-sub-at c = search needs
-
-mul-t15 : tie.Need-mul-t15 Inv-loop μ-loop
-mul-t15 c = search needs
-
-array-read-t18 : tie.Need-array-read-t18 Inv-loop μ-loop
-array-read-t18 c = search needs
-
 cast-t19 : tie.Need-cast-t19 Inv-loop μ-loop
 unfolding recordsOf
 cast-t19 c =
@@ -50,33 +38,6 @@ cast-t19 c =
     let p = start .args .page in
     let is = homes-key (homeIn (start .args .shape)) (p .count) (p .keys) (p .values) (p .runs) _ (start .pre .5) (c .before .loop .i - 1) (omega arith) in
     record { fits = home-small (start .args .shape) _ _ (start .pre .4) is }
-
-cast-t20 : tie.Need-cast-t20 Inv-loop μ-loop
-cast-t20 c = search needs
-
-mul-t21 : tie.Need-mul-t21 Inv-loop μ-loop
-mul-t21 c = search needs
-
-array-read-t24 : tie.Need-array-read-t24 Inv-loop μ-loop
-array-read-t24 c = search needs
-
-mul-t25 : tie.Need-mul-t25 Inv-loop μ-loop
-mul-t25 c = search needs
-
-array-read-t28 : tie.Need-array-read-t28 Inv-loop μ-loop
-array-read-t28 c = search needs
-
-mul-t29 : tie.Need-mul-t29 Inv-loop μ-loop
-mul-t29 c = search needs
-
-array-read-t32 : tie.Need-array-read-t32 Inv-loop μ-loop
-array-read-t32 c = search needs
-
-put-entry-requires : tie.Need-put-entry-requires Inv-loop μ-loop
-put-entry-requires c κs = search needs
-
-loop-less : tie.Need-loop-less Inv-loop μ-loop
-loop-less c = search needs
 
 loop-again : tie.Need-loop-again Inv-loop μ-loop
 loop-again c =
@@ -90,9 +51,6 @@ loop-again c =
       search needs,
       λ h e. page-turn (l .area) _ h (start .args .a) _ (l .i) _ _ _ _ _ (turn .loop-test .taken) (omega arith) (omega arith) (homes-key h (p .count) (p .keys) (p .values) (p .runs) _ e (l .i - 1) (omega arith)) (called .put-entry .ensures) ∙ l .inv .3 h e,
     )
-
-same-length : tie.Need-same-length Inv-loop μ-loop
-same-length c = search needs
 
 returns : tie.Need-returns Inv-loop μ-loop
 unfolding recordsOf
@@ -109,20 +67,20 @@ pack-page-spec =
     Inv-loop
     μ-loop
     loop-holds
-    sub-i
-    sub-at
-    mul-t15
-    array-read-t18
+    (λ c. search needs)
+    (λ c. search needs)
+    (λ c. search needs)
+    (λ c. search needs)
     cast-t19
-    cast-t20
-    mul-t21
-    array-read-t24
-    mul-t25
-    array-read-t28
-    mul-t29
-    array-read-t32
-    put-entry-requires
-    loop-less
+    (λ c. search needs)
+    (λ c. search needs)
+    (λ c. search needs)
+    (λ c. search needs)
+    (λ c. search needs)
+    (λ c. search needs)
+    (λ c. search needs)
+    (λ c κs. search needs)
+    (λ c. search needs)
     loop-again
-    same-length
+    (λ c. search needs)
     returns)

@@ -25,18 +25,6 @@ gathered c =
       bytes = c .pack .ensures .1;
     }
 
-pack-requires : tie.Need-pack-requires
-pack-requires c κs = search needs
-
-sub-sort-row : tie.Need-sub-sort-row
-sub-sort-row c = search needs
-
-part-sort-row-start : tie.Need-part-sort-row-start
-part-sort-row-start c = search needs
-
-part-sort-row-end : tie.Need-part-sort-row-end
-part-sort-row-end c = search needs
-
 sort-row-requires : tie.Need-sort-row-requires
 sort-row-requires c κs =
     let g = gathered (c .before .before .before) in
@@ -51,9 +39,6 @@ unpack-requires c κs =
     let pre = packed .before .before .before .pre in
     ((pre .0 .0, back-length _ _ _ _ _ g _ e, omega (arith, begins _ _ _ _ _ g), base-whole _ _ _ _ _ g), (back-sorted _ _ _ _ _ g _ e, back-room _ _ _ _ _ g _ e (pre .1 .1)))
 
-same-length : tie.Need-same-length
-same-length c = search needs
-
 returns : tie.Need-returns
 returns c =
     let laid = c .before .before in
@@ -66,11 +51,11 @@ pub rebuild-spec : {M : Type 1} → statement M
 rebuild-spec =
     tie.close
     (tie.spec
-    pack-requires
-    sub-sort-row
-    part-sort-row-start
-    part-sort-row-end
+    (λ c κs. search needs)
+    (λ c. search needs)
+    (λ c. search needs)
+    (λ c. search needs)
     sort-row-requires
     unpack-requires
-    same-length
+    (λ c. search needs)
     returns)

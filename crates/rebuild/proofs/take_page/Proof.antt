@@ -22,40 +22,19 @@ loop-holds c = taking-start _ _ _ (c .before .pre .1) (c .before .pre .0)
 get-entry-requires : tie.Need-get-entry-requires Inv-loop μ-loop
 get-entry-requires c κs = entry-left (c .before .loop .inv) (c .loop-test .taken)
 
-cast-if1 : tie.Need-cast-if1 Inv-loop μ-loop
-cast-if1 c = search needs
-
-mul-keys : tie.Need-mul-keys Inv-loop μ-loop
-mul-keys c = search needs
-
 array-write-keys : tie.Need-array-write-keys Inv-loop μ-loop
 array-write-keys c = slot-left (c .before .before .before .before .loop .inv) (c .before .before .before .loop-test .taken)
-
-mul-values : tie.Need-mul-values Inv-loop μ-loop
-mul-values c = search needs
 
 array-write-values : tie.Need-array-write-values Inv-loop μ-loop
 array-write-values c = slot-left (c .before .before .before .before .loop .inv) (c .before .before .before .loop-test .taken)
 
-mul-runs : tie.Need-mul-runs Inv-loop μ-loop
-mul-runs c = search needs
-
 array-write-runs : tie.Need-array-write-runs Inv-loop μ-loop
 array-write-runs c = slot-left (c .before .before .before .before .loop .inv) (c .before .before .before .loop-test .taken)
-
-strange-requires : tie.Need-strange-requires Inv-loop μ-loop
-strange-requires c κs = search needs
 
 add-moved : tie.Need-add-moved Inv-loop μ-loop
 add-moved c = record {
   fits = moves-fit (c .before .before .before .before .before .loop .inv) (c .before .before .before .before .loop-test .taken) (c .before .before .before .get-entry .result .from) _ (c .strange .ensures);
 }
-
-add-count : tie.Need-add-count Inv-loop μ-loop
-add-count c = search needs
-
-add-next : tie.Need-add-next Inv-loop μ-loop
-add-next c = search needs
 
 loop-less : tie.Need-loop-less Inv-loop μ-loop
 loop-less c = omega (arith, slot-left (c .before .before .before .before .before .loop .inv) (c .before .before .before .before .loop-test .taken))
@@ -79,17 +58,17 @@ take-page-spec =
     μ-loop
     loop-holds
     get-entry-requires
-    cast-if1
-    mul-keys
+    (λ c. search needs)
+    (λ c. search needs)
     array-write-keys
-    mul-values
+    (λ c. search needs)
     array-write-values
-    mul-runs
+    (λ c. search needs)
     array-write-runs
-    strange-requires
+    (λ c κs. search needs)
     add-moved
-    add-count
-    add-next
+    (λ c. search needs)
+    (λ c. search needs)
     loop-less
     loop-again
     returns

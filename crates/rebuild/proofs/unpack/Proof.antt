@@ -30,20 +30,11 @@ add-moved c =
     let more = c .before .before .before .before .before .before .before .before .loop-test .taken in
     record { fits = moved-fits inv more _ (c .before .before .before .before .before .before .take-page .ensures) (c .before .before .before .before .before .before .before .before .before .before .before .pre .0 .0) }
 
-add-a : tie.Need-add-a Inv-loop μ-loop
-add-a c = search needs
-
-loop-less : tie.Need-loop-less Inv-loop μ-loop
-loop-less c = search needs
-
 loop-again : tie.Need-loop-again Inv-loop μ-loop
 loop-again c =
     let inv = c .before .before .before .before .before .before .before .before .before .loop .inv in
     let more = c .before .before .before .before .before .before .before .before .loop-test .taken in
     unpacking-turn inv more _ (c .before .before .before .before .before .before .take-page .ensures) _ (c .before .before .before .store-at .ensures)
-
-same-length : tie.Need-same-length Inv-loop μ-loop
-same-length c = search needs
 
 returns : tie.Need-returns Inv-loop μ-loop
 returns c =
@@ -59,8 +50,8 @@ unpack-spec =
     take-page-requires
     store-at-requires
     add-moved
-    add-a
-    loop-less
+    (λ c. search needs)
+    (λ c. search needs)
     loop-again
-    same-length
+    (λ c. search needs)
     returns)

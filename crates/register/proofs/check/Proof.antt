@@ -6,28 +6,10 @@ use Rattle.register.proofs.Answers.{check-shut, check-no, check-yes}
 use Rattle.register.proofs.check.Statement.{statement}
 use Rattle.register.proofs.check.Tie as tie
 
-enter-requires : tie.Need-enter-requires
-enter-requires c κs = search needs
-
-enum-known-gate : tie.Need-enum-known-gate
-enum-known-gate c = search needs
-
-enum-told : tie.Need-enum-told
-enum-told c = search needs
-
 image-gate-requires : tie.Need-image-gate-requires
 image-gate-requires c κs =
     let e = c .before .before in
     past _ _ _ _ (e .enter .ensures .1) (c .enum-told .given .1)
-
-enum-known-image : tie.Need-enum-known-image
-enum-known-image c = search needs
-
-enum-told-2 : tie.Need-enum-told-2
-enum-told-2 c = search needs
-
-cast-t13 : tie.Need-cast-t13
-cast-t13 c = search needs
 
 returns : tie.Need-returns
 returns c =
@@ -53,13 +35,13 @@ pub check-spec : {M : Type 1} → statement M
 check-spec =
     tie.close
     (tie.spec
-    enter-requires
-    enum-known-gate
-    enum-told
+    (λ c κs. search needs)
+    (λ c. search needs)
+    (λ c. search needs)
     image-gate-requires
-    enum-known-image
-    enum-told-2
-    cast-t13
+    (λ c. search needs)
+    (λ c. search needs)
+    (λ c. search needs)
     returns
     returns-2
     returns-3)

@@ -15,9 +15,6 @@ Inv-loop area₀ cap blank a₀ area a = Cleared cap area a
 abbrev μ-loop : tie.MeasureT-loop
 μ-loop area₀ cap blank a₀ area a = cap - a
 
-blank-requires : tie.Need-blank-requires Inv-loop μ-loop
-blank-requires c κs = search needs
-
 loop-holds : tie.Need-loop-holds Inv-loop μ-loop
 loop-holds c = clear-starts _ _ (c .before .before .pre .1)
 
@@ -27,20 +24,11 @@ store-at-requires c κs =
     let r = ready _ _ (c .before .before .before .blank .ensures) (omega arith) in
     (omega (arith, l .inv .low), omega (arith, l .inv .long), r .0, r .1)
 
-add-a : tie.Need-add-a Inv-loop μ-loop
-add-a c = search needs
-
-loop-less : tie.Need-loop-less Inv-loop μ-loop
-loop-less c = search needs
-
 loop-again : tie.Need-loop-again Inv-loop μ-loop
 loop-again c =
     let s = c .before .before in
     let l = s .before .before .before in
     clear-goes-on (l .loop .inv) (s .before .before .loop-test .taken) _ (l .before .blank .ensures) _ (s .store-at .ensures)
-
-same-length : tie.Need-same-length Inv-loop μ-loop
-same-length c = search needs
 
 returns : tie.Need-returns Inv-loop μ-loop
 returns c = clear-ends (c .before .loop .inv) (c .loop-test .left)
@@ -51,11 +39,11 @@ clear-pages-spec =
     (tie.spec
     Inv-loop
     μ-loop
-    blank-requires
+    (λ c κs. search needs)
     loop-holds
     store-at-requires
-    add-a
-    loop-less
+    (λ c. search needs)
+    (λ c. search needs)
     loop-again
-    same-length
+    (λ c. search needs)
     returns)

@@ -9,20 +9,8 @@ use Rattle.register.proofs.Settling.{met-low, find-shut, find-open}
 use Rattle.register.proofs.find.Statement.{statement}
 use Rattle.register.proofs.find.Tie as tie
 
-enter-requires : tie.Need-enter-requires
-enter-requires c κs = search needs
-
-enum-known-gate : tie.Need-enum-known-gate
-enum-known-gate c = search needs
-
-enum-told : tie.Need-enum-told
-enum-told c = search needs
-
 shape-requires : tie.Need-shape-requires
 shape-requires c κs = in-shape inUse _ (past _ _ _ _ (c .before .before .enter .ensures .1) (c .enum-told .given .1) .0)
-
-cast-meet : tie.Need-cast-meet
-cast-meet c = search needs
 
 meet-requires : tie.Need-meet-requires
 meet-requires c κs =
@@ -60,11 +48,11 @@ pub find-spec : {M : Type 1} → statement M
 find-spec =
     tie.close
     (tie.spec
-    enter-requires
-    enum-known-gate
-    enum-told
+    (λ c κs. search needs)
+    (λ c. search needs)
+    (λ c. search needs)
     shape-requires
-    cast-meet
+    (λ c. search needs)
     meet-requires
     find-answer-requires
     returns

@@ -9,12 +9,6 @@ use Rattle.register.proofs.Answers.{fresh-fits, format-wide, format-shu
 use Rattle.register.proofs.format.Statement.{statement}
 use Rattle.register.proofs.format.Tie as tie
 
-cast-if1 : tie.Need-cast-if1
-cast-if1 c = search needs
-
-cast-if1-2 : tie.Need-cast-if1-2
-cast-if1-2 c = search needs
-
 mul-if1 : tie.Need-mul-if1
 mul-if1 c = omega (arith, product-fits (c .before .before .before .args .params .n0) (c .before .before .before .args .params .n) (omega arith) (omega arith))
 
@@ -22,18 +16,6 @@ returns : tie.Need-returns
 returns c =
     let a = c .before .before .before .before .args in
     format-wide (a .state) (a .params) (a .cap) (now (a .area)) (c .if1 .taken) (omega arith)
-
-new-requires : tie.Need-new-requires
-new-requires c κs = search needs
-
-enter-requires : tie.Need-enter-requires
-enter-requires c κs = search needs
-
-enum-known-gate : tie.Need-enum-known-gate
-enum-known-gate c = search needs
-
-enum-told : tie.Need-enum-told
-enum-told c = search needs
 
 clear-pages-requires : tie.Need-clear-pages-requires
 clear-pages-requires c κs =
@@ -49,9 +31,6 @@ returns-2 c =
     let a = e .before .before .before .before .before .before .args in
     format-shut (a .state) (a .params) (a .cap) (now (a .area)) _ (e .before .new .ensures) _ (e .enter .ensures .0) _ (c .before .gate .given .1)
 
-same-length : tie.Need-same-length
-same-length c = search needs
-
 returns-3 : tie.Need-returns-3
 returns-3 c =
     let p = c .before .before in
@@ -64,15 +43,15 @@ pub format-spec : {M : Type 1} → statement M
 format-spec =
     tie.close
     (tie.spec
-    cast-if1
-    cast-if1-2
+    (λ c. search needs)
+    (λ c. search needs)
     mul-if1
     returns
-    new-requires
-    enter-requires
-    enum-known-gate
-    enum-told
+    (λ c κs. search needs)
+    (λ c κs. search needs)
+    (λ c. search needs)
+    (λ c. search needs)
     clear-pages-requires
     returns-2
-    same-length
+    (λ c. search needs)
     returns-3)

@@ -6,15 +6,6 @@ use Rattle.register.proofs.Answers.{grew-shut, grew-open}
 use Rattle.register.proofs.grow.Statement.{statement}
 use Rattle.register.proofs.grow.Tie as tie
 
-grow-entry-requires : tie.Need-grow-entry-requires
-grow-entry-requires c κs = search needs
-
-enum-known-gate : tie.Need-enum-known-gate
-enum-known-gate c = search needs
-
-enum-told : tie.Need-enum-told
-enum-told c = search needs
-
 grow-entered-requires : tie.Need-grow-entered-requires
 grow-entered-requires c κs =
     let t = c .before .before in
@@ -25,12 +16,6 @@ returns c =
     let g = c .before .before .before in
     let a = g .before .before .before .args in
     grew-shut (a .state) (now (a .area)) (now (a .row)) _ (g .grow-entry .ensures .0) _ (c .before .gate .given .1)
-
-same-length : tie.Need-same-length
-same-length c = search needs
-
-same-length-2 : tie.Need-same-length-2
-same-length-2 c = search needs
 
 returns-2 : tie.Need-returns-2
 returns-2 c =
@@ -44,11 +29,11 @@ pub grow-spec : {M : Type 1} → statement M
 grow-spec =
     tie.close
     (tie.spec
-    grow-entry-requires
-    enum-known-gate
-    enum-told
+    (λ c κs. search needs)
+    (λ c. search needs)
+    (λ c. search needs)
     grow-entered-requires
     returns
-    same-length
-    same-length-2
+    (λ c. search needs)
+    (λ c. search needs)
     returns-2)

@@ -8,15 +8,6 @@ use Rattle.register.proofs.Settling.{home-stated, put-shut, put-past}
 use Rattle.register.proofs.put.Statement.{statement}
 use Rattle.register.proofs.put.Tie as tie
 
-enter-requires : tie.Need-enter-requires
-enter-requires c κs = search needs
-
-enum-known-gate : tie.Need-enum-known-gate
-enum-known-gate c = search needs
-
-enum-told : tie.Need-enum-told
-enum-told c = search needs
-
 shape-requires : tie.Need-shape-requires
 shape-requires c κs = in-shape inUse _ (past _ _ _ _ (c .before .before .enter .ensures .1) (c .enum-told .given .1) .0)
 
@@ -39,9 +30,6 @@ returns c =
     let a = e .before .before .args in
     put-shut (a .state) (now (a .area)) _ (e .enter .ensures .0) _ (c .before .gate .given .1) (a .new)
 
-same-length : tie.Need-same-length
-same-length c = search needs
-
 returns-2 : tie.Need-returns-2
 returns-2 c =
     let o = c .before .before in
@@ -54,12 +42,12 @@ pub put-spec : {M : Type 1} → statement M
 put-spec =
     tie.close
     (tie.spec
-    enter-requires
-    enum-known-gate
-    enum-told
+    (λ c κs. search needs)
+    (λ c. search needs)
+    (λ c. search needs)
     shape-requires
     home-requires
     put-open-requires
     returns
-    same-length
+    (λ c. search needs)
     returns-2)

@@ -6,15 +6,6 @@ use Rattle.register.proofs.Settling.{remove-shut, remove-past}
 use Rattle.register.proofs.remove.Statement.{statement}
 use Rattle.register.proofs.remove.Tie as tie
 
-enter-requires : tie.Need-enter-requires
-enter-requires c κs = search needs
-
-enum-known-gate : tie.Need-enum-known-gate
-enum-known-gate c = search needs
-
-enum-told : tie.Need-enum-told
-enum-told c = search needs
-
 remove-open-requires : tie.Need-remove-open-requires
 remove-open-requires c κs = past _ _ _ _ (c .before .before .before .enter .ensures .1) (c .before .enum-told .given .1)
 
@@ -23,9 +14,6 @@ returns c =
     let e = c .before .before .before in
     let a = e .before .before .args in
     remove-shut (a .state) (now (a .area)) _ (e .enter .ensures .0) _ (c .before .gate .given .1) (a .key)
-
-same-length : tie.Need-same-length
-same-length c = search needs
 
 returns-2 : tie.Need-returns-2
 returns-2 c =
@@ -39,10 +27,10 @@ pub remove-spec : {M : Type 1} → statement M
 remove-spec =
     tie.close
     (tie.spec
-    enter-requires
-    enum-known-gate
-    enum-told
+    (λ c κs. search needs)
+    (λ c. search needs)
+    (λ c. search needs)
     remove-open-requires
     returns
-    same-length
+    (λ c. search needs)
     returns-2)

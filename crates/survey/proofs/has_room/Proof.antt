@@ -23,29 +23,14 @@ next : (c : tie.Joined1 Inv-loop μ-loop)
     → c .if1 .over ≡ c .before .before .before .loop .over + getD (c .before .before .before .before .before .before .args .row .now) (c .before .before .before .loop .i) 0 - c .before .before .before .before .slots .result
 next c = ⊎-elim (λ w. omega arith) (λ w. omega arith) (c .if1 .came)
 
-slots-requires : tie.Need-slots-requires Inv-loop μ-loop
-slots-requires c κs = search needs
-
 loop-holds : tie.Need-loop-holds Inv-loop μ-loop
 loop-holds c = (omega arith, omega arith, refl)
-
-mul-here : tie.Need-mul-here Inv-loop μ-loop
-mul-here c = search needs
-
-shared-slice-read-here : tie.Need-shared-slice-read-here Inv-loop μ-loop
-shared-slice-read-here c = search needs
 
 cast-here : tie.Need-cast-here Inv-loop μ-loop
 cast-here c = omega (arith, c .shared-slice-known2 .given (c .before .before .loop .i))
 
 add-here : tie.Need-add-here Inv-loop μ-loop
 add-here c = omega (arith, c .shared-slice-known2 .given (c .before .before .loop .i))
-
-add-i : tie.Need-add-i Inv-loop μ-loop
-add-i c = search needs
-
-loop-less : tie.Need-loop-less Inv-loop μ-loop
-loop-less c = search needs
 
 loop-again : tie.Need-loop-again Inv-loop μ-loop
 loop-again c =
@@ -63,13 +48,13 @@ has-room-spec =
     (tie.spec
     Inv-loop
     μ-loop
-    slots-requires
+    (λ c κs. search needs)
     loop-holds
-    mul-here
-    shared-slice-read-here
+    (λ c. search needs)
+    (λ c. search needs)
     cast-here
     add-here
-    add-i
-    loop-less
+    (λ c. search needs)
+    (λ c. search needs)
     loop-again
     returns)

@@ -26,12 +26,6 @@ Inv-loop area cap layout shape count row₀ seen₀ a₀ row seen a = ToSurvey l
 abbrev μ-loop : tie.MeasureT-loop
 μ-loop area cap layout shape count row₀ seen₀ a₀ row seen a = cap - a
 
-clear-requires : tie.Need-clear-requires Inv-loop μ-loop
-clear-requires c κs = search needs
-
-unseen-requires : tie.Need-unseen-requires Inv-loop μ-loop
-unseen-requires c κs = search needs
-
 loop-holds : tie.Need-loop-holds Inv-loop μ-loop
 loop-holds c =
     let a = c .before .before .before .before .before .before .before .args in
@@ -43,9 +37,6 @@ cleared c = ap length (c .clear .ensures) ∙ length-replicate (length (now (c .
 
 long : (c : tie.At-loop Inv-loop μ-loop) → length (c .loop .row) ≡ length (now (c .before .before .before .before .before .before .before .before .args .row))
 long c = c .loop .inv .1 .long ∙ cleared (c .before .before .before .before)
-
-judge-at-requires : tie.Need-judge-at-requires Inv-loop μ-loop
-judge-at-requires c κs = search needs
 
 same-length : tie.Need-same-length Inv-loop μ-loop
 same-length c = long (c .before .before .before .before)
@@ -81,9 +72,6 @@ tally-requires c κs =
 add-a : tie.Need-add-a Inv-loop μ-loop
 add-a c = omega (arith, c .before .before .before .before .before .before .before .before .loop-test .taken, c .before .before .before .before .before .before .before .before .before .before .before .before .before .before .before .before .before .pre .0)
 
-loop-less : tie.Need-loop-less Inv-loop μ-loop
-loop-less c = search needs
-
 loop-again : tie.Need-loop-again Inv-loop μ-loop
 loop-again c =
     let e = c .before .before .before .before .before in
@@ -111,16 +99,16 @@ survey-spec =
     (tie.spec
     Inv-loop
     μ-loop
-    clear-requires
-    unseen-requires
+    (λ c κs. search needs)
+    (λ c κs. search needs)
     loop-holds
-    judge-at-requires
+    (λ c κs. search needs)
     same-length
     returns
     look-requires
     tally-requires
     add-a
-    loop-less
+    (λ c. search needs)
     loop-again
     same-length-2
     returns-2)

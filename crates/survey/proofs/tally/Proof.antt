@@ -31,32 +31,11 @@ top l = l .before .before .before .before .before .before
 known : (c : tie.After-count Inv-loop μ-loop) → Countable (Homes (c .count .given .0 .0)) (Stands (c .before .before .before .args .judged)) (length (now (c .before .before .before .args .row)))
 known c = rw (c .count .given .1) at (c .before .before .before .pre .1)
 
-enum-known-count : tie.Need-enum-known-count Inv-loop μ-loop
-enum-known-count c = search needs
-
-enum-told : tie.Need-enum-told Inv-loop μ-loop
-enum-told c = search needs
-
-returns : tie.Need-returns Inv-loop μ-loop
-returns c = search needs
-
 loop-holds : tie.Need-loop-holds Inv-loop μ-loop
 loop-holds c = tally-starts _ _ _ _ _
 
-mul-old : tie.Need-mul-old Inv-loop μ-loop
-mul-old c = search needs
-
-array-read-old : tie.Need-array-read-old Inv-loop μ-loop
-array-read-old c = search needs
-
 keeps-requires : tie.Need-keeps-requires Inv-loop μ-loop
 keeps-requires c κs = known (top (c .before .before)) .0
-
-mul-home : tie.Need-mul-home Inv-loop μ-loop
-mul-home c = search needs
-
-array-read-home : tie.Need-array-read-home Inv-loop μ-loop
-array-read-home c = search needs
 
 home-requires : tie.Need-home-requires Inv-loop μ-loop
 home-requires c κs = known (top (c .before .before .before)) .0 .ready
@@ -92,9 +71,6 @@ mul-row c =
     let l = c .before .before .before .before in
     omega (arith, part-length (l .loop .inv), inside (c .before), known (top l) .2)
 
-slice-read-row : tie.Need-slice-read-row Inv-loop μ-loop
-slice-read-row c = inside (c .before .before)
-
 add-row : tie.Need-add-row Inv-loop μ-loop
 add-row c =
     let l = c .before .before .before .before .before in
@@ -103,15 +79,6 @@ add-row c =
 
 mul-row-2 : tie.Need-mul-row-2 Inv-loop μ-loop
 mul-row-2 c = mul-row (c .before)
-
-slice-write-row : tie.Need-slice-write-row Inv-loop μ-loop
-slice-write-row c = inside (c .before .before)
-
-add-i : tie.Need-add-i Inv-loop μ-loop
-add-i c = search needs
-
-loop-less : tie.Need-loop-less Inv-loop μ-loop
-loop-less c = search needs
 
 loop-again : tie.Need-loop-again Inv-loop μ-loop
 loop-again c =
@@ -136,23 +103,23 @@ tally-spec =
     (tie.spec
     Inv-loop
     μ-loop
-    enum-known-count
-    enum-told
-    returns
+    (λ c. search needs)
+    (λ c. search needs)
+    (λ c. search needs)
     loop-holds
-    mul-old
-    array-read-old
+    (λ c. search needs)
+    (λ c. search needs)
     keeps-requires
-    mul-home
-    array-read-home
+    (λ c. search needs)
+    (λ c. search needs)
     home-requires
     mul-row
-    slice-read-row
+    (λ c. inside (c .before .before))
     add-row
     mul-row-2
-    slice-write-row
-    add-i
-    loop-less
+    (λ c. inside (c .before .before))
+    (λ c. search needs)
+    (λ c. search needs)
     loop-again
     same-length
     returns-2)

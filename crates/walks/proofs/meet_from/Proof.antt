@@ -36,12 +36,6 @@ pages-holds c =
     let f : a .home < a .cap = home-fits (a .shape) (a .key) (a .cap) (a .home) (s .pre .2) (s .pre .3) (s .pre .4) in
     (omega arith, omega arith, walk-starts (homeIn (a .shape)) (now (a .area)) (a .cap) (a .key) (a .home) 0 (s .pre .4) refl)
 
-judge-at-requires : tie.Need-judge-at-requires Inv-loop μ-loop Inv-pages μ-pages
-judge-at-requires c κs = search needs
-
-add-read : tie.Need-add-read Inv-loop μ-loop Inv-pages μ-pages
-add-read c = search needs
-
 -- the page is judged where the walk is
 seen : (c : tie.After-judge-at Inv-loop μ-loop Inv-pages μ-pages)
     → Seen (homeIn (c .before .before .before .before .args .shape)) (now (c .before .before .before .before .args .area))
@@ -88,47 +82,8 @@ tested c =
 loop-holds : tie.Need-loop-holds Inv-loop μ-loop Inv-pages μ-pages
 loop-holds c = left-all _ _ _
 
-mul-before : tie.Need-mul-before Inv-loop μ-loop Inv-pages μ-pages
-mul-before c = search needs
-
-array-read-before : tie.Need-array-read-before Inv-loop μ-loop Inv-pages μ-pages
-array-read-before c = search needs
-
-mul-before-2 : tie.Need-mul-before-2 Inv-loop μ-loop Inv-pages μ-pages
-mul-before-2 c = search needs
-
-element-copy-out-before : tie.Need-element-copy-out-before Inv-loop μ-loop Inv-pages μ-pages
-element-copy-out-before c = search needs
-
-before-requires : tie.Need-before-requires Inv-loop μ-loop Inv-pages μ-pages
-before-requires c κs = search needs
-
-mul-if4 : tie.Need-mul-if4 Inv-loop μ-loop Inv-pages μ-pages
-mul-if4 c = search needs
-
-element-copy-out-if4 : tie.Need-element-copy-out-if4 Inv-loop μ-loop Inv-pages μ-pages
-element-copy-out-if4 c = search needs
-
-mul-value : tie.Need-mul-value Inv-loop μ-loop Inv-pages μ-pages
-mul-value c = search needs
-
-element-copy-out-value : tie.Need-element-copy-out-value Inv-loop μ-loop Inv-pages μ-pages
-element-copy-out-value c = search needs
-
-add-slot : tie.Need-add-slot Inv-loop μ-loop Inv-pages μ-pages
-add-slot c = search needs
-
-loop-less : tie.Need-loop-less Inv-loop μ-loop Inv-pages μ-pages
-loop-less c = search needs
-
 loop-again : tie.Need-loop-again Inv-loop μ-loop Inv-pages μ-pages
 loop-again c = slot-on (tested (c .before .before .before)) (c .before .before .if3 .left) (c .if4 .left)
-
-add-a : tie.Need-add-a Inv-loop μ-loop Inv-pages μ-pages
-add-a c = search needs
-
-pages-less : tie.Need-pages-less Inv-loop μ-loop Inv-pages μ-pages
-pages-less c = search needs
 
 pages-again : tie.Need-pages-again Inv-loop μ-loop Inv-pages μ-pages
 pages-again c =
@@ -192,23 +147,23 @@ meet-from-spec =
     Inv-pages
     μ-pages
     pages-holds
-    judge-at-requires
-    add-read
+    (λ c κs. search needs)
+    (λ c. search needs)
     loop-holds
-    mul-before
-    array-read-before
-    mul-before-2
-    element-copy-out-before
-    before-requires
-    mul-if4
-    element-copy-out-if4
-    mul-value
-    element-copy-out-value
-    add-slot
-    loop-less
+    (λ c. search needs)
+    (λ c. search needs)
+    (λ c. search needs)
+    (λ c. search needs)
+    (λ c κs. search needs)
+    (λ c. search needs)
+    (λ c. search needs)
+    (λ c. search needs)
+    (λ c. search needs)
+    (λ c. search needs)
+    (λ c. search needs)
     loop-again
-    add-a
-    pages-less
+    (λ c. search needs)
+    (λ c. search needs)
     pages-again
     returns
     returns-2

@@ -4,18 +4,6 @@ use borrow.Author.Needs.{needs}
 use Rattle.layouts.proofs.Layout.slots_on.Statement.{statement}
 use Rattle.layouts.proofs.Layout.slots_on.Tie as tie
 
-enum-told : tie.Need-enum-told
-enum-told c = search needs
-
-mul-result : tie.Need-mul-result
-mul-result c = search needs
-
-enum-told-2 : tie.Need-enum-told-2
-enum-told-2 c = search needs
-
-mul-result-2 : tie.Need-mul-result-2
-mul-result-2 c = search needs
-
 returns : tie.Need-returns
 returns c = (rw (c .enum-told .given .1), omega arith)
 
@@ -24,4 +12,11 @@ returns-2 c = (rw (c .enum-told2 .given .1), omega arith)
 
 pub slots-on-spec : {M : Type 1} → statement M
 slots-on-spec =
-    tie.close (tie.spec enum-told mul-result enum-told-2 mul-result-2 returns returns-2)
+    tie.close
+    (tie.spec
+    (λ c. search needs)
+    (λ c. search needs)
+    (λ c. search needs)
+    (λ c. search needs)
+    returns
+    returns-2)

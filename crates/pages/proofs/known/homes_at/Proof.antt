@@ -10,12 +10,6 @@ use Rattle.pages.proofs.Homing.{known-page, homes-page}
 use Rattle.pages.proofs.known.homes_at.Statement.{statement}
 use Rattle.pages.proofs.known.homes_at.Tie as tie
 
-keeps-requires : tie.Need-keeps-requires
-keeps-requires c κs = search needs
-
-full-before-requires : tie.Need-full-before-requires
-full-before-requires c κs = search needs
-
 homes-on-requires : tie.Need-homes-on-requires
 homes-on-requires c κs =
     let b = c .before .before .before in
@@ -31,4 +25,4 @@ returns c =
     c .homes-on .ensures ∙ homes-page (newHome (b .args .new)) (b .args .page) _ (b .pre .0 .2)
 
 pub homes-at-spec : {M : Type 1} → statement M
-homes-at-spec = tie.close (tie.spec keeps-requires full-before-requires homes-on-requires returns)
+homes-at-spec = tie.close (tie.spec (λ c κs. search needs) (λ c κs. search needs) homes-on-requires returns)

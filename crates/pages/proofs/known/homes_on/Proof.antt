@@ -24,15 +24,6 @@ loop-holds c =
     let b = c .args in
     homing-starts (homeIn (b .shape)) (b .a) (b .t1 .count) (b .t1 .keys) (b .t1 .values) (b .t1 .runs) (b .all) (b .once) (c .pre .0) (c .pre .2)
 
-mul-home : tie.Need-mul-home Inv-loop μ-loop
-mul-home c = search needs
-
-element-copy-out-home : tie.Need-element-copy-out-home Inv-loop μ-loop
-element-copy-out-home c = search needs
-
-home-requires : tie.Need-home-requires Inv-loop μ-loop
-home-requires c κs = search needs
-
 -- known or worked out, it is the home
 home-is : (c : tie.Joined1 Inv-loop μ-loop) → c .if1 .home ≡ homeIn (c .before .before .before .args .shape) (getD (c .before .before .before .args .t1 .keys) (c .before .before .loop .i) 0)
 home-is c =
@@ -42,18 +33,6 @@ home-is c =
     (λ w. w .1 ∙ home-here (homeIn (b .shape)) (b .a) (b .t1 .count) (b .t1 .keys) (b .t1 .values) (b .t1 .runs) (b .once) (l .homes) (l .here) (l .i) (c .before .loop-test .taken) (l .inv) (w .0 .taken))
     (λ w. w .3 ∙ w .2 .ensures)
     (c .if1 .came)
-
-mul-homes : tie.Need-mul-homes Inv-loop μ-loop
-mul-homes c = search needs
-
-array-write-homes : tie.Need-array-write-homes Inv-loop μ-loop
-array-write-homes c = search needs
-
-add-i : tie.Need-add-i Inv-loop μ-loop
-add-i c = search needs
-
-loop-less : tie.Need-loop-less Inv-loop μ-loop
-loop-less c = search needs
 
 loop-again : tie.Need-loop-again Inv-loop μ-loop
 loop-again c =
@@ -75,12 +54,12 @@ homes-on-spec =
     Inv-loop
     μ-loop
     loop-holds
-    mul-home
-    element-copy-out-home
-    home-requires
-    mul-homes
-    array-write-homes
-    add-i
-    loop-less
+    (λ c. search needs)
+    (λ c. search needs)
+    (λ c κs. search needs)
+    (λ c. search needs)
+    (λ c. search needs)
+    (λ c. search needs)
+    (λ c. search needs)
     loop-again
     returns)

@@ -5,25 +5,10 @@ use Rattle.pages.proofs.Read.{full-tests, empty-tests}
 use Rattle.pages.proofs.slot.formed.Statement.{statement}
 use Rattle.pages.proofs.slot.formed.Tie as tie
 
-get-u16-requires : tie.Need-get-u16-requires
-get-u16-requires c κs = search needs
-
-width-requires : tie.Need-width-requires
-width-requires c κs = search needs
-
-add-get-u16 : tie.Need-add-get-u16
-add-get-u16 c = search needs
-
-get-u16-requires-2 : tie.Need-get-u16-requires-2
-get-u16-requires-2 c κs = search needs
-
 returns : tie.Need-returns
 returns c =
     let a = c .before .before .before .before .before .args in
     rw (c .if1 .taken, c .before .before .before .get-u16 .ensures, c .before .before .width .ensures, c .before .get-u162 .ensures) (full-tests (a .layout) (now (a .part)) (a .at))
-
-get-requires : tie.Need-get-requires
-get-requires c κs = search needs
 
 returns-2 : tie.Need-returns-2
 returns-2 c =
@@ -35,10 +20,10 @@ pub formed-spec : {M : Type 1} → statement M
 formed-spec =
     tie.close
     (tie.spec
-    get-u16-requires
-    width-requires
-    add-get-u16
-    get-u16-requires-2
+    (λ c κs. search needs)
+    (λ c κs. search needs)
+    (λ c. search needs)
+    (λ c κs. search needs)
     returns
-    get-requires
+    (λ c κs. search needs)
     returns-2)

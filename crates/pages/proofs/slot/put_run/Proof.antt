@@ -8,15 +8,6 @@ use Rattle.numbers.proofs.Laws.{written-nil}
 use Rattle.pages.proofs.slot.put_run.Statement.{statement}
 use Rattle.pages.proofs.slot.put_run.Tie as tie
 
-enum-told : tie.Need-enum-told
-enum-told c = search needs
-
-enum-told-2 : tie.Need-enum-told-2
-enum-told-2 c = search needs
-
-add-put : tie.Need-add-put
-add-put c = search needs
-
 put-requires : tie.Need-put-requires
 put-requires c κs = omega (arith, rw (c .before .enum-told2 .given .1) at (c .before .before .before .before .pre))
 
@@ -24,13 +15,18 @@ returns : tie.Need-returns
 unfolding encode
 returns c = rw (c .enum-told .given .1, written-nil)
 
-same-length : tie.Need-same-length
-same-length c = search needs
-
 returns-2 : tie.Need-returns-2
 unfolding encode
 returns-2 c = rw (c .before .before .before .before .enum-told2 .given .1, append-nil) (c .before .before .put .ensures)
 
 pub put-run-spec : {M : Type 1} → statement M
 put-run-spec =
-    tie.close (tie.spec enum-told enum-told-2 add-put put-requires returns same-length returns-2)
+    tie.close
+    (tie.spec
+    (λ c. search needs)
+    (λ c. search needs)
+    (λ c. search needs)
+    put-requires
+    returns
+    (λ c. search needs)
+    returns-2)

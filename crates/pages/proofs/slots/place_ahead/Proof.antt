@@ -22,18 +22,6 @@ abbrev μ-loop : tie.MeasureT-loop
 loop-holds : tie.Need-loop-holds Inv-loop μ-loop
 loop-holds c = (omega arith, rw sub-zero)
 
-mul-other : tie.Need-mul-other Inv-loop μ-loop
-mul-other c = search needs
-
-array-read-other : tie.Need-array-read-other Inv-loop μ-loop
-array-read-other c = search needs
-
-home-requires : tie.Need-home-requires Inv-loop μ-loop
-home-requires c κs = search needs
-
-before-requires : tie.Need-before-requires Inv-loop μ-loop
-before-requires c κs = search needs
-
 returns : tie.Need-returns Inv-loop μ-loop
 returns c =
     let a = c .before .before .before .before .before .before .args in
@@ -42,12 +30,6 @@ returns c =
     let r = ranked (a .home) (a .key) in
     let t = key-test h r (a .page .keys) (l .i) _ _ _ (c .before .before .home .ensures) (c .before .before2 .ensures) (not-true _ (c .if1 .taken)) in
     sym (passed-here (keyRank h (a .page .keys)) (a .page .count) (l .i) r (omega arith) t) ∙ l .inv .1 ∙ records-ahead h r (a .page)
-
-add-i : tie.Need-add-i Inv-loop μ-loop
-add-i c = search needs
-
-loop-less : tie.Need-loop-less Inv-loop μ-loop
-loop-less c = search needs
 
 loop-again : tie.Need-loop-again Inv-loop μ-loop
 loop-again c =
@@ -73,12 +55,12 @@ place-ahead-spec =
     Inv-loop
     μ-loop
     loop-holds
-    mul-other
-    array-read-other
-    home-requires
-    before-requires
+    (λ c. search needs)
+    (λ c. search needs)
+    (λ c κs. search needs)
+    (λ c κs. search needs)
     returns
-    add-i
-    loop-less
+    (λ c. search needs)
+    (λ c. search needs)
     loop-again
     returns-2)

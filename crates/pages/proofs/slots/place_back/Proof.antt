@@ -19,21 +19,6 @@ abbrev μ-loop : tie.MeasureT-loop
 loop-holds : tie.Need-loop-holds Inv-loop μ-loop
 loop-holds c = (omega arith, refl)
 
-sub-other : tie.Need-sub-other Inv-loop μ-loop
-sub-other c = search needs
-
-mul-other : tie.Need-mul-other Inv-loop μ-loop
-mul-other c = search needs
-
-array-read-other : tie.Need-array-read-other Inv-loop μ-loop
-array-read-other c = search needs
-
-home-requires : tie.Need-home-requires Inv-loop μ-loop
-home-requires c κs = search needs
-
-before-requires : tie.Need-before-requires Inv-loop μ-loop
-before-requires c κs = search needs
-
 returns : tie.Need-returns Inv-loop μ-loop
 returns c =
     let a = c .before .before .before .before .before .before .args in
@@ -42,12 +27,6 @@ returns c =
     let r = ranked (a .home) (a .key) in
     let t = key-test h r (a .page .keys) (l .i - 1) _ _ _ (c .before .before .home .ensures) (c .before .before2 .ensures) (c .if1 .taken) in
     sym (back-here h r (a .page .keys) (l .i) (omega arith) t) ∙ l .inv .1 ∙ records-back h r (a .page)
-
-sub-i : tie.Need-sub-i Inv-loop μ-loop
-sub-i c = search needs
-
-loop-less : tie.Need-loop-less Inv-loop μ-loop
-loop-less c = search needs
 
 loop-again : tie.Need-loop-again Inv-loop μ-loop
 loop-again c =
@@ -74,13 +53,13 @@ place-back-spec =
     Inv-loop
     μ-loop
     loop-holds
-    sub-other
-    mul-other
-    array-read-other
-    home-requires
-    before-requires
+    (λ c. search needs)
+    (λ c. search needs)
+    (λ c. search needs)
+    (λ c κs. search needs)
+    (λ c κs. search needs)
     returns
-    sub-i
-    loop-less
+    (λ c. search needs)
+    (λ c. search needs)
     loop-again
     returns-2)

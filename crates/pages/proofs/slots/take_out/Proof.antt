@@ -5,18 +5,6 @@ use Rattle.pages.proofs.Held.{held, taken-out}
 use Rattle.pages.proofs.slots.take_out.Statement.{statement}
 use Rattle.pages.proofs.slots.take_out.Tie as tie
 
-close-row-requires : tie.Need-close-row-requires
-close-row-requires c κs = search needs
-
-close-row-requires-2 : tie.Need-close-row-requires-2
-close-row-requires-2 c κs = search needs
-
-close-row-requires-3 : tie.Need-close-row-requires-3
-close-row-requires-3 c κs = search needs
-
-sub-t9 : tie.Need-sub-t9
-sub-t9 c = search needs
-
 returns : tie.Need-returns
 returns c =
     let s = c .before .before .before .before .before .before .before in
@@ -27,4 +15,4 @@ returns c =
 pub take-out-spec : {M : Type 1} → statement M
 take-out-spec =
     tie.close
-    (tie.spec close-row-requires close-row-requires-2 close-row-requires-3 sub-t9 returns)
+    (tie.spec (λ c κs. search needs) (λ c κs. search needs) (λ c κs. search needs) (λ c. search needs) returns)

@@ -14,14 +14,8 @@ use Rattle.register.proofs.Answers.{entered-shut, entered-open}
 use Rattle.register.proofs.growth.grow_counting.Statement.{statement}
 use Rattle.register.proofs.growth.grow_counting.Tie as tie
 
-cast-cap : tie.Need-cast-cap
-cast-cap c = search needs
-
 shape-requires : tie.Need-shape-requires
 shape-requires c κs = in-shape inUse _ (c .before .before .before .before .pre .0 .0)
-
-homes-after-requires : tie.Need-homes-after-requires
-homes-after-requires c κs = search needs
 
 survey-requires : tie.Need-survey-requires
 survey-requires c κs =
@@ -37,12 +31,6 @@ image-of-requires c κs a e =
     let o = c .before .before .before .before .before .before in
     let b = o .before .before .before .before .before in
     omega (arith, sick-below inUse (homeIn (o .shape .result)) (now (b .args .area)) (b .args .state .cap) _ a (c .before .before .survey .ensures .0) e, ranged inUse (b .args .state) (b .pre .0 .0) .cap-high)
-
-enum-known-gate : tie.Need-enum-known-gate
-enum-known-gate c = search needs
-
-enum-told : tie.Need-enum-told
-enum-told c = search needs
 
 -- the gate is that of the pages
 gate : (c : tie.After-image-of) → c .image-of .result ≡ imageGate inUse (c .before .before .before .before .before .before .before .before .before .before .before .before .args .state) (now (c .before .before .before .before .before .before .before .before .before .before .before .before .args .area))
@@ -65,26 +53,11 @@ grow-image-requires c κs =
       more,
     )
 
-same-length : tie.Need-same-length
-same-length c = search needs
-
-same-length-2 : tie.Need-same-length-2
-same-length-2 c = search needs
-
 returns : tie.Need-returns
 returns c =
     let i = c .before .before .before in
     let b = i .before .before .before .before .before .before .before .before .before .before .before .before in
     entered-shut (b .args .state) (now (b .args .area)) (now (b .args .row)) _ (gate i) _ (c .before .gate .given .1)
-
-same-length-3 : tie.Need-same-length-3
-same-length-3 c = search needs
-
-same-length-4 : tie.Need-same-length-4
-same-length-4 c = search needs
-
-same-length-5 : tie.Need-same-length-5
-same-length-5 c = search needs
 
 returns-2 : tie.Need-returns-2
 returns-2 c =
@@ -98,18 +71,18 @@ pub grow-counting-spec : {M : Type 1} → statement M
 grow-counting-spec =
     tie.close
     (tie.spec
-    cast-cap
+    (λ c. search needs)
     shape-requires
-    homes-after-requires
+    (λ c κs. search needs)
     survey-requires
     image-of-requires
-    enum-known-gate
-    enum-told
+    (λ c. search needs)
+    (λ c. search needs)
     grow-image-requires
-    same-length
-    same-length-2
+    (λ c. search needs)
+    (λ c. search needs)
     returns
-    same-length-3
-    same-length-4
-    same-length-5
+    (λ c. search needs)
+    (λ c. search needs)
+    (λ c. search needs)
     returns-2)

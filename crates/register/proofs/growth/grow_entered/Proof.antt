@@ -14,9 +14,6 @@ use Rattle.register.proofs.growth.grow_entered.Tie as tie
 cut : (m n : ℕ) → n ≤ m → length {A = ℕ} (take n (replicate m 0)) ≡ n
 cut m n l = length-take-le {A = ℕ} n (replicate m 0) (omega (arith, length-replicate {A = ℕ} m 0))
 
-cast-cap : tie.Need-cast-cap
-cast-cap c = search needs
-
 array-borrow-prefix-counts : tie.Need-array-borrow-prefix-counts
 array-borrow-prefix-counts c =
     let b = c .before .before .before .before .before in
@@ -32,23 +29,14 @@ grow-counting-requires c κs =
     let b = c .before .before .before .before .before .before in
     (b .pre, cut 4096 (b .args .state .cap) (ranged inUse (b .args .state) (b .pre .0) .cap-high))
 
-same-length : tie.Need-same-length
-same-length c = search needs
-
-same-length-2 : tie.Need-same-length-2
-same-length-2 c = search needs
-
-returns : tie.Need-returns
-returns c = search needs
-
 pub grow-entered-spec : {M : Type 1} → statement M
 grow-entered-spec =
     tie.close
     (tie.spec
-    cast-cap
+    (λ c. search needs)
     array-borrow-prefix-counts
     slice-aggregate-grow-counting
     grow-counting-requires
-    same-length
-    same-length-2
-    returns)
+    (λ c. search needs)
+    (λ c. search needs)
+    (λ c. search needs))

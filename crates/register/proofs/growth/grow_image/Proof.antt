@@ -13,9 +13,6 @@ use Rattle.register.proofs.Growing.{held-set, counts-many, grown-low, g
 use Rattle.register.proofs.growth.grow_image.Statement.{statement}
 use Rattle.register.proofs.growth.grow_image.Tie as tie
 
-cast-cap : tie.Need-cast-cap
-cast-cap c = search needs
-
 fill-row-requires : tie.Need-fill-row-requires
 fill-row-requires c κs =
     let b = c .before .before .before .before .before in
@@ -30,12 +27,6 @@ has-room-requires c κs =
     let w = c .before .before .before in
     let b = w .before .before .before .before .before .before in
     omega (arith, counts-many inUse (b .args .state) (now (b .args .area)) _ (filled w), ranged inUse (b .args .state) (b .pre .0 .0) .cap-high)
-
-cast-t17 : tie.Need-cast-t17
-cast-t17 c = search needs
-
-same-length : tie.Need-same-length
-same-length c = search needs
 
 returns : tie.Need-returns
 returns c =
@@ -60,19 +51,10 @@ rebuild-requires c κs =
       (held-set inUse s area (bytes k) (n .1) (n .4), takes-all inUse s (n .0) (n .3) area _ (filled w) _ (c .before .before .has-room .ensures) (not-false _ (c .before .if1 .left)) m),
     )
 
-cast-t21 : tie.Need-cast-t21
-cast-t21 c = search needs
-
 grown-requires : tie.Need-grown-requires
 grown-requires c κs =
     let b = c .before .before .before .before .before .before .before .before .before .before .before .before .before .before .before in
     grown-low inUse (b .args .state) (b .pre .0 .0) (b .pre .0 .3)
-
-same-length-2 : tie.Need-same-length-2
-same-length-2 c = search needs
-
-same-length-3 : tie.Need-same-length-3
-same-length-3 c = search needs
 
 returns-2 : tie.Need-returns-2
 returns-2 c =
@@ -87,15 +69,15 @@ pub grow-image-spec : {M : Type 1} → statement M
 grow-image-spec =
     tie.close
     (tie.spec
-    cast-cap
+    (λ c. search needs)
     fill-row-requires
     has-room-requires
-    cast-t17
-    same-length
+    (λ c. search needs)
+    (λ c. search needs)
     returns
     rebuild-requires
-    cast-t21
+    (λ c. search needs)
     grown-requires
-    same-length-2
-    same-length-3
+    (λ c. search needs)
+    (λ c. search needs)
     returns-2)

@@ -6,15 +6,6 @@ use Rattle.walks.proofs.Pouring.{place-sought}
 use Rattle.walks.proofs.put.place_on.Statement.{statement}
 use Rattle.walks.proofs.put.place_on.Tie as tie
 
-returns : tie.Need-returns
-returns c = search needs
-
-home-requires : tie.Need-home-requires
-home-requires c κs = search needs
-
-place-ahead-requires : tie.Need-place-ahead-requires
-place-ahead-requires c κs = search needs
-
 returns-2 : tie.Need-returns-2
 returns-2 c =
     let a = c .before .before .before .args in
@@ -22,4 +13,4 @@ returns-2 c =
     (c .before .home .ensures) (c .place-ahead .ensures)
 
 pub place-on-spec : {M : Type 1} → statement M
-place-on-spec = tie.close (tie.spec returns home-requires place-ahead-requires returns-2)
+place-on-spec = tie.close (tie.spec (λ c. search needs) (λ c κs. search needs) (λ c κs. search needs) returns-2)

@@ -13,18 +13,6 @@ use Rattle.walks.proofs.PutPlan.{put-found, put-sick, put-past, put-at,
 use Rattle.walks.proofs.put.plan_put.Statement.{statement}
 use Rattle.walks.proofs.put.plan_put.Tie as tie
 
-meet-from-requires : tie.Need-meet-from-requires
-meet-from-requires c κs = search needs
-
-enum-known-old : tie.Need-enum-known-old
-enum-known-old c = search needs
-
-again-requires : tie.Need-again-requires
-again-requires c κs = search needs
-
-enum-known-page : tie.Need-enum-known-page
-enum-known-page c = search needs
-
 -- where a broken page lies
 sick : (c : tie.After-known-told2)
     → metIn (c .before .before .before .before .before .args .cap) (mets.Broken (c .before .page .given .0 .0) (c .before .page .given .0 .1 .0))
@@ -34,12 +22,6 @@ cast-t18 : tie.Need-cast-t18
 cast-t18 c =
     let w = sick c in
     omega (arith, w .0, c .before .before .before .before .before .pre .0)
-
-enum-known-read : tie.Need-enum-known-read
-enum-known-read c = search needs
-
-enum-known-page-2 : tie.Need-enum-known-page-2
-enum-known-page-2 c = search needs
 
 -- where an ending page lies
 ends : (c : tie.After-known-told4)
@@ -113,13 +95,13 @@ pub plan-put-spec : {M : Type 1} → statement M
 plan-put-spec =
     tie.close
     (tie.spec
-    meet-from-requires
-    enum-known-old
-    again-requires
-    enum-known-page
+    (λ c κs. search needs)
+    (λ c. search needs)
+    (λ c κs. search needs)
+    (λ c. search needs)
     cast-t18
-    enum-known-read
-    enum-known-page-2
+    (λ c. search needs)
+    (λ c. search needs)
     returns
     reach-requires
     returns-2

@@ -34,9 +34,6 @@ loop-holds c =
           (c .before .pre .0 .0),
     )
 
-parse-at-requires : tie.Need-parse-at-requires Inv-loop μ-loop
-parse-at-requires c κs = search needs
-
 place-on-requires : tie.Need-place-on-requires Inv-loop μ-loop
 place-on-requires c κs =
     let l = c .before .before .before .loop in
@@ -72,12 +69,6 @@ store-at-requires c κs =
     let f = next-fits (turn (c .before .before .before)) (p .result) (p .ensures) in
     (omega arith, omega arith, f .0, f .1)
 
-add-a : tie.Need-add-a Inv-loop μ-loop
-add-a c = search needs
-
-loop-less : tie.Need-loop-less Inv-loop μ-loop
-loop-less c = search needs
-
 loop-again : tie.Need-loop-again Inv-loop μ-loop
 loop-again c =
     let w = c .before .before .before .before .before .before in
@@ -111,12 +102,12 @@ pour-spec =
     Inv-loop
     μ-loop
     loop-holds
-    parse-at-requires
+    (λ c κs. search needs)
     place-on-requires
     push-requires
     store-at-requires
-    add-a
-    loop-less
+    (λ c. search needs)
+    (λ c. search needs)
     loop-again
     same-length
     returns)

@@ -26,20 +26,8 @@ seen : (c : tie.After-judge-at Inv-loop μ-loop)
     (c .before .before .before .before .args .cap) (c .before .before .loop .a) (c .judge-at .result)
 seen c = record { lies = c .before .loop-test .taken; is = c .judge-at .ensures }
 
-add-a : tie.Need-add-a Inv-loop μ-loop
-add-a c = search needs
-
 loop-holds : tie.Need-loop-holds Inv-loop μ-loop
 loop-holds c = (omega arith, omega arith, omega arith, rw add-one)
-
-judge-at-requires : tie.Need-judge-at-requires Inv-loop μ-loop
-judge-at-requires c κs = search needs
-
-add-read : tie.Need-add-read Inv-loop μ-loop
-add-read c = search needs
-
-cast-t13 : tie.Need-cast-t13 Inv-loop μ-loop
-cast-t13 c = search needs
 
 returns : tie.Need-returns Inv-loop μ-loop
 returns c =
@@ -56,12 +44,6 @@ returns-2 c =
       reach-here (seen j) (s .args .first) (s .args .at) (w .loop .read) (not-false _ (c .before .before .before .if1 .left)) (c .if2 .taken) ∙ w .loop .inv .3,
       (omega arith, omega arith, omega arith),
     )
-
-add-a-2 : tie.Need-add-a-2 Inv-loop μ-loop
-add-a-2 c = search needs
-
-loop-less : tie.Need-loop-less Inv-loop μ-loop
-loop-less c = search needs
 
 loop-again : tie.Need-loop-again Inv-loop μ-loop
 loop-again c =
@@ -90,14 +72,14 @@ reach-spec =
     (tie.spec
     Inv-loop
     μ-loop
-    add-a
+    (λ c. search needs)
     loop-holds
-    judge-at-requires
-    add-read
-    cast-t13
+    (λ c κs. search needs)
+    (λ c. search needs)
+    (λ c. search needs)
     returns
     returns-2
-    add-a-2
-    loop-less
+    (λ c. search needs)
+    (λ c. search needs)
     loop-again
     returns-3)

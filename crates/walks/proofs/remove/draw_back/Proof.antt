@@ -26,15 +26,6 @@ abbrev μ-loop : tie.MeasureT-loop
 loop-holds : tie.Need-loop-holds Inv-loop μ-loop
 loop-holds c = (omega arith, omega arith, refl, (λ b l. refl), refl)
 
-parse-at-requires : tie.Need-parse-at-requires Inv-loop μ-loop
-parse-at-requires c κs = search needs
-
-add-parse-at : tie.Need-add-parse-at Inv-loop μ-loop
-add-parse-at c = search needs
-
-parse-at-requires-2 : tie.Need-parse-at-requires-2 Inv-loop μ-loop
-parse-at-requires-2 c κs = search needs
-
 close-up-requires : tie.Need-close-up-requires Inv-loop μ-loop
 close-up-requires c κs = read-kept _ _ (c .before .before .parse-at .ensures)
 
@@ -54,12 +45,6 @@ store-at-requires c κs =
     let less = c .before .before .before .before .before .before .before .loop-test .taken in
     (omega (arith, less, g .pre), omega (arith, less, w .2, g .pre), full .0, full .1)
 
-add-a : tie.Need-add-a Inv-loop μ-loop
-add-a c = search needs
-
-loop-less : tie.Need-loop-less Inv-loop μ-loop
-loop-less c = search needs
-
 loop-again : tie.Need-loop-again Inv-loop μ-loop
 loop-again c =
     let g = c .before .before .before .before .before .before .before .before .before .before .before .before .before in
@@ -77,9 +62,6 @@ loop-again c =
           (c .before .before .before .before .take-back .ensures) (omega arith)
           ∙ w .inv .4,
     )
-
-parse-at-requires-3 : tie.Need-parse-at-requires-3 Inv-loop μ-loop
-parse-at-requires-3 c κs = search needs
 
 close-up-requires-2 : tie.Need-close-up-requires-2 Inv-loop μ-loop
 close-up-requires-2 c κs = read-kept _ _ (c .parse-at3 .ensures)
@@ -111,16 +93,16 @@ draw-back-spec =
     Inv-loop
     μ-loop
     loop-holds
-    parse-at-requires
-    add-parse-at
-    parse-at-requires-2
+    (λ c κs. search needs)
+    (λ c. search needs)
+    (λ c κs. search needs)
     close-up-requires
     take-back-requires
     store-at-requires
-    add-a
-    loop-less
+    (λ c. search needs)
+    (λ c. search needs)
     loop-again
-    parse-at-requires-3
+    (λ c κs. search needs)
     close-up-requires-2
     store-at-requires-2
     same-length

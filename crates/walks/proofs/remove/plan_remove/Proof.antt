@@ -6,12 +6,6 @@ use Rattle.walks.proofs.Removing.{found-in, sick-in, remove-met, remove
 use Rattle.walks.proofs.remove.plan_remove.Statement.{statement}
 use Rattle.walks.proofs.remove.plan_remove.Tie as tie
 
-meet-requires : tie.Need-meet-requires
-meet-requires c κs = search needs
-
-enum-known-page : tie.Need-enum-known-page
-enum-known-page c = search needs
-
 returns : tie.Need-returns
 returns c =
     let m = found-in _ _ _ _ _ _ _ (c .before .before .page .given .1) (c .before .before .before .before .meet .ensures .1) in (
@@ -26,19 +20,10 @@ reach-back-requires c κs =
     let m = found-in _ _ _ _ _ _ _ (c .before .before .page .given .1) (c .before .before .before .before .meet .ensures .1) in
     (g .pre .0, g .pre .1, g .pre .2, omega arith, omega arith, omega arith)
 
-enum-known-page-2 : tie.Need-enum-known-page-2
-enum-known-page-2 c = search needs
-
 cast-t16 : tie.Need-cast-t16
 cast-t16 c =
     let m = sick-in _ _ _ _ (c .before .page2 .given .1) (c .before .before .before .meet .ensures .1) in
     omega arith
-
-enum-known-read : tie.Need-enum-known-read
-enum-known-read c = search needs
-
-enum-known-read-2 : tie.Need-enum-known-read-2
-enum-known-read-2 c = search needs
 
 returns-2 : tie.Need-returns-2
 returns-2 c =
@@ -62,14 +47,14 @@ pub plan-remove-spec : {M : Type 1} → statement M
 plan-remove-spec =
     tie.close
     (tie.spec
-    meet-requires
-    enum-known-page
+    (λ c κs. search needs)
+    (λ c. search needs)
     returns
     reach-back-requires
-    enum-known-page-2
+    (λ c. search needs)
     cast-t16
-    enum-known-read
-    enum-known-read-2
+    (λ c. search needs)
+    (λ c. search needs)
     returns-2
     returns-3
     returns-4

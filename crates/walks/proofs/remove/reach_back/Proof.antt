@@ -20,24 +20,6 @@ abbrev μ-loop : tie.MeasureT-loop
 loop-holds : tie.Need-loop-holds Inv-loop μ-loop
 loop-holds c = (omega arith, omega arith, omega arith, refl)
 
-add-loop : tie.Need-add-loop Inv-loop μ-loop
-add-loop c = search needs
-
-add-judge-at : tie.Need-add-judge-at Inv-loop μ-loop
-add-judge-at c = search needs
-
-judge-at-requires : tie.Need-judge-at-requires Inv-loop μ-loop
-judge-at-requires c κs = search needs
-
-add-read : tie.Need-add-read Inv-loop μ-loop
-add-read c = search needs
-
-add-t15 : tie.Need-add-t15 Inv-loop μ-loop
-add-t15 c = search needs
-
-cast-t16 : tie.Need-cast-t16 Inv-loop μ-loop
-cast-t16 c = search needs
-
 returns : tie.Need-returns Inv-loop μ-loop
 returns c =
     let g = c .before .before .before .before .before .before in
@@ -46,9 +28,6 @@ returns c =
           (c .before .before .judge-at .result) (c .before .before .judge-at .ensures) (omega arith) (c .if1 .taken) ∙ w .inv .3,
       tt,
     )
-
-array-read-if2 : tie.Need-array-read-if2 Inv-loop μ-loop
-array-read-if2 c = search needs
 
 returns-2 : tie.Need-returns-2 Inv-loop μ-loop
 returns-2 c =
@@ -60,9 +39,6 @@ returns-2 c =
       (omega arith, omega arith, omega arith),
     )
 
-add-a : tie.Need-add-a Inv-loop μ-loop
-add-a c = search needs
-
 returns-3 : tie.Need-returns-3 Inv-loop μ-loop
 returns-3 c =
     let g = c .before .before .before .before .before .before .before .before .before .before .before .before in
@@ -73,9 +49,6 @@ returns-3 c =
           (c .before .before .if2 .left) (c .if3 .taken) ∙ w .inv .3,
       (omega arith, omega arith, omega arith),
     )
-
-loop-less : tie.Need-loop-less Inv-loop μ-loop
-loop-less c = search needs
 
 loop-again : tie.Need-loop-again Inv-loop μ-loop
 loop-again c =
@@ -105,17 +78,17 @@ reach-back-spec =
     Inv-loop
     μ-loop
     loop-holds
-    add-loop
-    add-judge-at
-    judge-at-requires
-    add-read
-    add-t15
-    cast-t16
+    (λ c. search needs)
+    (λ c. search needs)
+    (λ c κs. search needs)
+    (λ c. search needs)
+    (λ c. search needs)
+    (λ c. search needs)
     returns
-    array-read-if2
+    (λ c. search needs)
     returns-2
-    add-a
+    (λ c. search needs)
     returns-3
-    loop-less
+    (λ c. search needs)
     loop-again
     returns-4)

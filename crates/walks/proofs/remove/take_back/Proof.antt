@@ -6,21 +6,6 @@ use Rattle.walks.proofs.Draw.{place-le, pushed-back}
 use Rattle.walks.proofs.remove.take_back.Statement.{statement}
 use Rattle.walks.proofs.remove.take_back.Tie as tie
 
-array-read-key : tie.Need-array-read-key
-array-read-key c = search needs
-
-array-read-value : tie.Need-array-read-value
-array-read-value c = search needs
-
-array-read-run : tie.Need-array-read-run
-array-read-run c = search needs
-
-home-requires : tie.Need-home-requires
-home-requires c κs = search needs
-
-place-back-requires : tie.Need-place-back-requires
-place-back-requires c κs = search needs
-
 push-requires : tie.Need-push-requires
 push-requires c κs =
     let g = c .before .before .before .before .before in
@@ -36,10 +21,10 @@ pub take-back-spec : {M : Type 1} → statement M
 take-back-spec =
     tie.close
     (tie.spec
-    array-read-key
-    array-read-value
-    array-read-run
-    home-requires
-    place-back-requires
+    (λ c. search needs)
+    (λ c. search needs)
+    (λ c. search needs)
+    (λ c κs. search needs)
+    (λ c κs. search needs)
     push-requires
     returns)

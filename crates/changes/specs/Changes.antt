@@ -4,8 +4,7 @@ use Prim.Native.Nat.{ℕ, _*_}
 use mathlib.Core.Bool.{Bool, cond}
 use mathlib.Core.List.{List}
 use lib.Dec.{eqb}
-use Rattle.layouts.specs.declared.Layout.{Layout}
-use Rattle.layouts.specs.Layout.{slotsOn}
+use Rattle.layouts.specs.Layout.{Layout, slotsOn}
 use Rattle.pages.specs.Page.{Record}
 use Rattle.state.specs.declared.State.{State}
 use Rattle.state.specs.State.{homes, oneMore, oneLess}

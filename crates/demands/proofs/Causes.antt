@@ -11,8 +11,7 @@ use native.Mathlib.Omega.{arith}
 use lib.Dec.{eqb}
 use lib.ListN.{length}
 use Rattle.numbers.specs.Little.{Bytes}
-use Rattle.layouts.specs.Layout.{slotsOf}
-use Rattle.layouts.specs.declared.Layout.{Layout}
+use Rattle.layouts.specs.Layout.{Layout, slotsOf}
 use Rattle.placing.specs.Image.{cat, Room}
 use Rattle.placing.specs.Lay.{taken}
 use Rattle.placing.proofs.Images.{room-taken}

@@ -10,8 +10,7 @@ use native.Mathlib.Omega.{arith}
 use lib.Dec.{ltb, eqb}
 use lib.ListN.{length, replicate}
 use borrow.Author.Tests.{ne-eqb}
-use Rattle.layouts.specs.Layout.{slotsOn, slotsOf}
-use Rattle.layouts.specs.declared.Layout.{Layout}
+use Rattle.layouts.specs.Layout.{Layout, slotsOn, slotsOf}
 use Rattle.homes.specs.declared.Params.{Params}
 use Rattle.placing.specs.Image.{All, Room}
 use Rattle.pages.specs.Page.{Record, key, value}

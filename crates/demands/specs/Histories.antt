@@ -7,7 +7,7 @@ use mathlib.Core.Option.{Option, none, some, Option·map}
 use mathlib.Core.List.{List, [], _∷_}
 use lib.ListN.{length}
 use lib.Dec.{eqb}
-use Rattle.layouts.specs.declared.Layout.{Layout}
+use Rattle.layouts.specs.Layout.{Layout}
 use Rattle.homes.specs.declared.Params.{Params}
 use Rattle.homes.specs.Homes.{firstPages}
 use Rattle.pages.specs.Page.{Record, key, value}

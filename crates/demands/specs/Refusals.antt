@@ -9,8 +9,7 @@ use mathlib.Core.Option.{none}
 use mathlib.Core.List.{List, [], _∷_}
 use lib.ListN.{length}
 use Rattle.numbers.specs.Little.{Bytes}
-use Rattle.layouts.specs.declared.Layout.{Layout}
-use Rattle.layouts.specs.Layout.{slotsOf, slotsOn}
+use Rattle.layouts.specs.Layout.{Layout, slotsOf, slotsOn}
 use Rattle.homes.specs.declared.Params.{Params}
 use Rattle.placing.specs.Image.{Room}
 use Rattle.pages.specs.Page.{Record, key, value, readPage}

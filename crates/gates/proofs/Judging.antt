@@ -9,7 +9,7 @@ use native.Mathlib.Omega.{arith}
 use lib.Dec.{eqb}
 use lib.ListN.{length}
 use borrow.Author.Tests.{eqb-true, eq-eqb}
-use Rattle.layouts.specs.declared.Layout.{Layout}
+use Rattle.layouts.specs.Layout.{Layout}
 use Rattle.homes.specs.declared.Shape.{Shape}
 use Rattle.homes.specs.declared.new_homes.NewHomes.{NewHomes}
 use Rattle.homes.specs.Homes.{shapeOf, homeIn}

@@ -5,7 +5,7 @@ use mathlib.Core.Bool.{cond, _&&_}
 use mathlib.Core.List.{List}
 use lib.ListN.{length}
 use lib.Dec.{eqb}
-use Rattle.layouts.specs.declared.Layout.{Layout}
+use Rattle.layouts.specs.Layout.{Layout}
 use Rattle.state.specs.declared.State.{State}
 use Rattle.state.specs.State.{inRange, homes}
 use Rattle.state.specs.declared.Answer.{Answer}

@@ -1,5 +1,4 @@
 // What a call refuses before it does anything.
-use layouts::Layout;
 use state::Answer;
 use state::State;
 use survey::Count;
@@ -20,7 +19,7 @@ pub enum Gate {
 }
 
 // The refusals that need no page: a number out of range, an area of another length.
-pub fn enter(state: State, length: usize, layout: Layout) -> Gate
+pub fn enter(state: State, length: usize, layout: u8) -> Gate
     ensures { λ r. ⌜ r ≡ gateOf layout state length ⌝ }
     ensures within { λ r. ⌜ OpenFor layout state length r ⌝ }
 {
@@ -63,7 +62,7 @@ pub fn image_of(state: State, verdict: Verdict) -> Gate
 }
 
 // Whether the area is the image of the records that the state tells of.
-pub fn image_gate(state: State, area: &[u8], layout: Layout) -> Gate
+pub fn image_gate(state: State, area: &[u8], layout: u8) -> Gate
     requires { ⌜ (inRange layout state ≡ true) × (length (now area) ≡ 256 * state .cap) ⌝ }
     ensures { λ r. ⌜ r ≡ imageGate layout state (now (area .entry)) ⌝ }
 {
@@ -81,7 +80,7 @@ pub fn image_gate(state: State, area: &[u8], layout: Layout) -> Gate
 }
 
 // What a growth refuses before it looks at a page, with an area of m bytes and a row of n counts.
-pub fn grow_entry(state: State, m: usize, n: usize, layout: Layout) -> Gate
+pub fn grow_entry(state: State, m: usize, n: usize, layout: u8) -> Gate
     ensures { λ r. ⌜ r ≡ growEntry layout state m n ⌝ }
     ensures within { λ r. ⌜ EnteredToGrow layout state m n r ⌝ }
 {

@@ -1,34 +1,42 @@
 -- The layouts of a page (01, 'Bytes of a page'; 02, request 8), by cases, so that each says its own
 -- numbers. Ten slots with a run are read and written by the page layer alone: no file has them yet.
-use Prim.Native.Nat.{ℕ, _+_, _*_}
-use Rattle.layouts.specs.declared.Layout.{Layout}
-use Rattle.layouts.specs.declared.Layout.the-variants.{Twelve, Ten}
+use Prim.Native.Nat.{ℕ, zero, suc, _+_, _*_}
+
+-- a layout is a number: 0 has twelve slots, any other has ten
+abbrev pub Layout : Type 0
+Layout = ℕ
+
+abbrev pub twelve : Layout
+twelve = 0
+
+abbrev pub ten : Layout
+ten = 1
 
 -- the layout of the files that the register makes and takes
 abbrev pub inUse : Layout
-inUse = Twelve
+inUse = twelve
 
 -- 01: "kind 0x0011"; 02: "page kind 0x0021"
 abbrev pub kindOf : Layout → ℕ
-kindOf Twelve = 17
-kindOf Ten = 33
+kindOf zero = 17
+kindOf (suc f) = 33
 
 -- 01: "12 slots"; 02: "ten to a page"
 abbrev pub slotsOf : Layout → ℕ
-slotsOf Twelve = 12
-slotsOf Ten = 10
+slotsOf zero = 12
+slotsOf (suc f) = 10
 
 -- 01: "of 20 bytes"; 02: "Slots become 24 bytes"
 abbrev pub widthOf : Layout → ℕ
-widthOf Twelve = 20
-widthOf Ten = 24
+widthOf zero = 20
+widthOf (suc f) = 24
 
 -- where a slot starts: after the head of 16 bytes and the slots before it
 abbrev pub slotAt : Layout → ℕ → ℕ
-slotAt Twelve i = 16 + 20 * i
-slotAt Ten i = 16 + 24 * i
+slotAt zero i = 16 + 20 * i
+slotAt (suc f) i = 16 + 24 * i
 
 -- the slots of n pages
 abbrev pub slotsOn : Layout → ℕ → ℕ
-slotsOn Twelve n = 12 * n
-slotsOn Ten n = 10 * n
+slotsOn zero n = 12 * n
+slotsOn (suc f) n = 10 * n

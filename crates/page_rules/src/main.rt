@@ -3,7 +3,8 @@
 // not by the code under test.
 use homes::Params;
 use homes::Shape;
-use layouts::Layout;
+use layouts::TEN;
+use layouts::TWELVE;
 use libc::STDOUT_FILENO;
 ghost use mathlib.Core.Path.{_≡_};
 ghost use Prim.Native.Nat.{_+_, _≤_, _<_};
@@ -86,12 +87,13 @@ fn good_ten(part: &mut [u8])
     empty_of_ten(part);
 }
 
-fn good_page(part: &mut [u8], layout: Layout)
+fn good_page(part: &mut [u8], layout: u8)
     requires { ⌜ length (now part) ≡ 256 ⌝ }
 {
-    match layout {
-        Layout::Twelve => good_twelve(part),
-        Layout::Ten => good_ten(part),
+    if layout == TWELVE {
+        good_twelve(part);
+    } else {
+        good_ten(part);
     }
 }
 
@@ -107,7 +109,7 @@ fn change(part: &mut [u8], at: usize, eight: bool, x: u64)
 }
 
 // The good page of a layout with a number changed, judged.
-fn judge_changed(layout: Layout, name: &[u8], at: usize, eight: bool, x: u64)
+fn judge_changed(layout: u8, name: &[u8], at: usize, eight: bool, x: u64)
     requires { ⌜ at + 8 ≤ 256 ⌝ }
 {
     let mut bytes = [0; 256];
@@ -130,135 +132,69 @@ fn judge_changed(layout: Layout, name: &[u8], at: usize, eight: bool, x: u64)
 }
 
 fn head_cases() {
-    judge_changed(Layout::Twelve, b"nothing changed", 0, false, 256);
-    judge_changed(Layout::Twelve, b"head length 255", 0, false, 255);
-    judge_changed(Layout::Twelve, b"head kind 0x0012", 2, false, 18);
-    judge_changed(Layout::Twelve, b"address 6", 4, false, 6);
-    judge_changed(Layout::Twelve, b"address 5 + 65536", 6, false, 1);
-    judge_changed(Layout::Twelve, b"count 2, with three records", 8, false, 2);
-    judge_changed(Layout::Twelve, b"count 4, with three records", 8, false, 4);
-    judge_changed(Layout::Twelve, b"count 13", 8, false, 13);
-    judge_changed(
-        Layout::Twelve,
-        b"first of the six zero bytes 1",
-        10,
-        false,
-        1,
-    );
-    judge_changed(
-        Layout::Twelve,
-        b"last of the six zero bytes 1",
-        14,
-        false,
-        256,
-    );
+    judge_changed(TWELVE, b"nothing changed", 0, false, 256);
+    judge_changed(TWELVE, b"head length 255", 0, false, 255);
+    judge_changed(TWELVE, b"head kind 0x0012", 2, false, 18);
+    judge_changed(TWELVE, b"address 6", 4, false, 6);
+    judge_changed(TWELVE, b"address 5 + 65536", 6, false, 1);
+    judge_changed(TWELVE, b"count 2, with three records", 8, false, 2);
+    judge_changed(TWELVE, b"count 4, with three records", 8, false, 4);
+    judge_changed(TWELVE, b"count 13", 8, false, 13);
+    judge_changed(TWELVE, b"first of the six zero bytes 1", 10, false, 1);
+    judge_changed(TWELVE, b"last of the six zero bytes 1", 14, false, 256);
 }
 
 fn slot_cases() {
-    judge_changed(Layout::Twelve, b"slot 0 with length 21", 16, false, 21);
-    judge_changed(Layout::Twelve, b"slot 11 with length 19", 236, false, 19);
-    judge_changed(Layout::Twelve, b"slot 0 with kind 2", 18, false, 2);
-    judge_changed(
-        Layout::Twelve,
-        b"slot 1 empty before a record",
-        38,
-        false,
-        0,
-    );
-    judge_changed(
-        Layout::Twelve,
-        b"slot 3 a record that is not counted",
-        78,
-        false,
-        1,
-    );
-    judge_changed(Layout::Twelve, b"an empty slot with a key", 80, true, 21);
-    judge_changed(Layout::Twelve, b"an empty slot with a value", 248, true, 1);
-    judge_changed(Layout::Twelve, b"another value", 48, true, 51);
+    judge_changed(TWELVE, b"slot 0 with length 21", 16, false, 21);
+    judge_changed(TWELVE, b"slot 11 with length 19", 236, false, 19);
+    judge_changed(TWELVE, b"slot 0 with kind 2", 18, false, 2);
+    judge_changed(TWELVE, b"slot 1 empty before a record", 38, false, 0);
+    judge_changed(TWELVE, b"slot 3 a record that is not counted", 78, false, 1);
+    judge_changed(TWELVE, b"an empty slot with a key", 80, true, 21);
+    judge_changed(TWELVE, b"an empty slot with a value", 248, true, 1);
+    judge_changed(TWELVE, b"another value", 48, true, 51);
 }
 
 fn order_cases() {
-    judge_changed(Layout::Twelve, b"home 6 on page 5", 60, true, 14);
-    judge_changed(
-        Layout::Twelve,
-        b"a lower home after a higher one",
-        40,
-        true,
-        3,
-    );
-    judge_changed(
-        Layout::Twelve,
-        b"a lower key after a higher one",
-        40,
-        true,
-        21,
-    );
-    judge_changed(Layout::Twelve, b"a key twice", 40, true, 13);
-    judge_changed(Layout::Twelve, b"another key in order", 60, true, 21);
+    judge_changed(TWELVE, b"home 6 on page 5", 60, true, 14);
+    judge_changed(TWELVE, b"a lower home after a higher one", 40, true, 3);
+    judge_changed(TWELVE, b"a lower key after a higher one", 40, true, 21);
+    judge_changed(TWELVE, b"a key twice", 40, true, 13);
+    judge_changed(TWELVE, b"another key in order", 60, true, 21);
 }
 
 fn ten_head_cases() {
-    judge_changed(Layout::Ten, b"ten: nothing changed", 0, false, 256);
-    judge_changed(Layout::Ten, b"ten: head length 240", 0, false, 240);
-    judge_changed(Layout::Ten, b"ten: head kind 0x0011", 2, false, 17);
-    judge_changed(Layout::Ten, b"ten: address 4", 4, false, 4);
-    judge_changed(
-        Layout::Ten,
-        b"ten: count 2, with three records",
-        8,
-        false,
-        2,
-    );
-    judge_changed(Layout::Ten, b"ten: count 11", 8, false, 11);
-    judge_changed(
-        Layout::Ten,
-        b"ten: one of the six zero bytes 1",
-        12,
-        false,
-        1,
-    );
+    judge_changed(TEN, b"ten: nothing changed", 0, false, 256);
+    judge_changed(TEN, b"ten: head length 240", 0, false, 240);
+    judge_changed(TEN, b"ten: head kind 0x0011", 2, false, 17);
+    judge_changed(TEN, b"ten: address 4", 4, false, 4);
+    judge_changed(TEN, b"ten: count 2, with three records", 8, false, 2);
+    judge_changed(TEN, b"ten: count 11", 8, false, 11);
+    judge_changed(TEN, b"ten: one of the six zero bytes 1", 12, false, 1);
 }
 
 fn ten_slot_cases() {
-    judge_changed(Layout::Ten, b"ten: slot 0 with length 20", 16, false, 20);
-    judge_changed(Layout::Ten, b"ten: slot 9 with length 25", 232, false, 25);
-    judge_changed(Layout::Ten, b"ten: slot 2 with kind 2", 66, false, 2);
+    judge_changed(TEN, b"ten: slot 0 with length 20", 16, false, 20);
+    judge_changed(TEN, b"ten: slot 9 with length 25", 232, false, 25);
+    judge_changed(TEN, b"ten: slot 2 with kind 2", 66, false, 2);
     judge_changed(
-        Layout::Ten,
+        TEN,
         b"ten: slot 3 a record that is not counted",
         90,
         false,
         1,
     );
-    judge_changed(Layout::Ten, b"ten: an empty slot with a key", 92, true, 21);
-    judge_changed(
-        Layout::Ten,
-        b"ten: an empty slot with a value",
-        244,
-        true,
-        1,
-    );
-    judge_changed(
-        Layout::Ten,
-        b"ten: an empty slot with a run",
-        248,
-        true,
-        4294967296,
-    );
-    judge_changed(Layout::Ten, b"ten: another run", 36, false, 8);
+    judge_changed(TEN, b"ten: an empty slot with a key", 92, true, 21);
+    judge_changed(TEN, b"ten: an empty slot with a value", 244, true, 1);
+    judge_changed(TEN, b"ten: an empty slot with a run", 248, true, 4294967296);
+    judge_changed(TEN, b"ten: another run", 36, false, 8);
 }
 
 fn ten_order_cases() {
-    judge_changed(Layout::Ten, b"ten: home 6 on page 5", 68, true, 14);
-    judge_changed(
-        Layout::Ten,
-        b"ten: a lower home after a higher one",
-        44,
-        true,
-        3,
-    );
-    judge_changed(Layout::Ten, b"ten: a key twice", 44, true, 13);
-    judge_changed(Layout::Ten, b"ten: another key in order", 68, true, 21);
+    judge_changed(TEN, b"ten: home 6 on page 5", 68, true, 14);
+    judge_changed(TEN, b"ten: a lower home after a higher one", 44, true, 3);
+    judge_changed(TEN, b"ten: a key twice", 44, true, 13);
+    judge_changed(TEN, b"ten: another key in order", 68, true, 21);
 }
 
 fn main() {

@@ -10,7 +10,7 @@ use lib.ListN.{length, take, drop, getD, set, length-append, length-take, length
 use lib.Seq.{take-at, drop-at, take-append-le, drop-append-le, take-append-add, drop-append-add, length-take-le, drop-drop}
 use Rattle.numbers.specs.Little.{Bytes, written}
 use Rattle.numbers.proofs.Laws.{bytes-take, bytes-drop, written-length, written-after}
-use Rattle.layouts.specs.declared.Layout.{Layout}
+use Rattle.layouts.specs.Layout.{Layout}
 use Rattle.pages.specs.Page.{Record, pageBytes, readPage}
 use Rattle.pages.specs.Area.{partAt, pagesFrom, heldFrom, areaFrom, withPage}
 use Rattle.pages.proofs.Write.{page-length}

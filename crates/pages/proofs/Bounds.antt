@@ -6,10 +6,8 @@ use native.Mathlib.Omega.{arith}
 use lib.ListN.{length, drop}
 use Rattle.numbers.specs.Little.{Bytes}
 use Rattle.numbers.proofs.Laws.{bytes-take, bytes-drop, length-part, number-bound}
-use Rattle.layouts.specs.declared.Layout.{Layout}
-use Rattle.layouts.specs.declared.Layout.the-variants.{Twelve, Ten}
-use Rattle.layouts.specs.Layout.{slotsOf, slotAt, widthOf}
-use Rattle.layouts.proofs.Slots.{slot-fits, width-low}
+use Rattle.layouts.specs.Layout.{Layout, slotsOf, slotAt, widthOf}
+use Rattle.layouts.proofs.Lying.{slot-fits, width-low}
 use Rattle.placing.specs.Image.{All}
 use Rattle.placing.proofs.Lists.{all-map}
 use Rattle.pages.specs.Page.{Record, key, runAt, recordsFrom, countIn, recordsIn}
@@ -17,8 +15,8 @@ use Rattle.pages.specs.Small.{RunFits, Small}
 use Rattle.pages.specs.Area.{partAt}
 
 run-fits : (f : Layout) (l : List ℕ) (at : ℕ) → at + widthOf f ≤ length l → Bytes l → RunFits f (runAt f l (at + 20))
-run-fits Twelve l at h b = omega arith
-run-fits Ten l at h b = number-bound 4 l (at + 20) (omega arith) b
+run-fits zero l at h b = omega arith
+run-fits (suc f) l at h b = number-bound 4 l (at + 20) (omega arith) b
 
 module _ (f : Layout) where
   small-from : (l : List ℕ) → length l ≡ 256 → Bytes l → (n i : ℕ) → n + i ≤ slotsOf f → All (Small f) (recordsFrom f n i l)

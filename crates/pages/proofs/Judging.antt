@@ -10,7 +10,7 @@ use borrow.Author.Tests.{ne-eqb}
 use lib.Dec.{eqb, ltb, leb}
 use lib.ListN.{length, drop, getD, set, replicate, length-append, length-replicate, length-map, drop-of-length-le}
 use lib.Seq.{sets, drop-cons}
-use Rattle.layouts.specs.declared.Layout.{Layout}
+use Rattle.layouts.specs.Layout.{Layout}
 use Rattle.pages.specs.declared.Page.{Page}
 use Rattle.pages.specs.declared.Judged.{Judged}
 use Rattle.pages.specs.Page.{Record, key, vacant, rank, homesTo, rises, wellFormed, recordsIn, readPage, padded, inMemory, judged}

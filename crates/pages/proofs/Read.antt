@@ -14,10 +14,8 @@ use lib.Seq.{sets, sets-eq}
 use Rattle.numbers.specs.Little.{numberAt}
 use Rattle.numbers.specs.Fields.{Field, width, matches}
 use Rattle.numbers.proofs.Records.{matches-append}
-use Rattle.layouts.specs.declared.Layout.{Layout}
-use Rattle.layouts.specs.declared.Layout.the-variants.{Twelve, Ten}
-use Rattle.layouts.specs.Layout.{kindOf, slotsOf, widthOf, slotAt}
-use Rattle.layouts.proofs.Slots.{slots-few, slot-first, slot-next}
+use Rattle.layouts.specs.Layout.{Layout, kindOf, slotsOf, widthOf, slotAt}
+use Rattle.layouts.proofs.Lying.{slots-few, slot-first, slot-next}
 use Rattle.pages.specs.declared.Page.{Page}
 use Rattle.pages.specs.Page.{Record, key, value, run, runAt, vacant, head, slot, recordSlot, emptySlot, slots, recordIn, recordsFrom, countIn, recordsIn, wellFormed, padded, inMemory}
 use Rattle.pages.specs.steps.Slots.{recordsOf}
@@ -46,8 +44,8 @@ ready p rs e h = rw e (h, ap inMemory (sym (memory rs)))
 
 -- a slot has the width of its layout
 pub slot-width : (f : Layout) (kind : ℕ) (x : Record) → width (slot f kind x) ≡ widthOf f
-slot-width Twelve kind x = omega arith
-slot-width Ten kind x = omega arith
+slot-width zero kind x = omega arith
+slot-width (suc f) kind x = omega arith
 
 -- the tests of a record's slot are those of its fields; the record is any numbers
 pub full-tests : (f : Layout) (l : List ℕ) (at : ℕ)
@@ -58,15 +56,15 @@ full-tests f l at = go f
     same n = eq-eqb n n refl
 
     go : (g : Layout) → (eqb (numberAt 2 l at) (widthOf g) && eqb (numberAt 2 l (at + 2)) 1) ≡ matches l at (recordSlot g (recordIn g l at))
-    go Twelve = simp (add-assoc, same, and-true)
-    go Ten = simp (add-assoc, same, and-true)
+    go zero = simp (add-assoc, same, and-true)
+    go (suc f) = simp (add-assoc, same, and-true)
 
 -- the tests of an empty slot are those of its fields
 pub empty-tests : (f : Layout) (l : List ℕ) (at : ℕ)
     → (eqb (numberAt 2 l at) (widthOf f) && (eqb (numberAt 2 l (at + 2)) 0 && (eqb (numberAt 8 l (at + 4)) 0 && (eqb (numberAt 8 l (at + 12)) 0 && eqb (runAt f l (at + 20)) 0))))
     ≡ matches l at (emptySlot f)
-empty-tests Twelve l at = simp (add-assoc, and-true)
-empty-tests Ten l at = simp (add-assoc, and-true)
+empty-tests zero l at = simp (add-assoc, and-true)
+empty-tests (suc f) l at = simp (add-assoc, and-true)
 
 module _ (f : Layout) where
   -- n slots have n records

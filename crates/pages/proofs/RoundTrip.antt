@@ -13,28 +13,26 @@ use Rattle.numbers.specs.Fields.{Field, width, encode, matches}
 use Rattle.numbers.proofs.Records.{Fit, fit-append, length-encode, encode-append, and-left, and-right, match-first, match-rest, match-at, matches-append, matches-sound, matches-complete}
 use Rattle.placing.specs.Image.{All}
 use Rattle.placing.proofs.Seek.{clash}
-use Rattle.layouts.specs.declared.Layout.{Layout}
-use Rattle.layouts.specs.declared.Layout.the-variants.{Twelve, Ten}
-use Rattle.layouts.specs.Layout.{kindOf, slotsOf, widthOf, slotAt}
-use Rattle.layouts.proofs.Slots.{slots-few, slot-first, slot-next, width-small, kind-small}
+use Rattle.layouts.specs.Layout.{Layout, kindOf, slotsOf, widthOf, slotAt}
+use Rattle.layouts.proofs.Lying.{slots-few, slot-first, slot-next, width-small, kind-small}
 use Rattle.pages.proofs.Read.{slot-width, held-few}
 use Rattle.pages.proofs.Write.{fields-width}
 use Rattle.pages.specs.Page.{Record, key, value, run, runField, runAt, vacant, slot, recordSlot, slots, fields, pageBytes, recordIn, recordsFrom, countIn, recordsIn, wellFormed, homesTo, rises, readPage}
 use Rattle.pages.specs.Small.{RunFits, Small}
 
 fit-run : (f : Layout) (r : ℕ) → RunFits f r → Fit (runField f r)
-fit-run Twelve r k = tt
-fit-run Ten r k = (k, tt)
+fit-run zero r k = tt
+fit-run (suc f) r k = (k, tt)
 
 -- no run is one that every layout takes
 pub no-run : (f : Layout) → RunFits f 0
-no-run Twelve = refl
-no-run Ten = omega arith
+no-run zero = refl
+no-run (suc f) = omega arith
 
 -- what is read at the place of a run, where a slot matches
 run-said : (f : Layout) (r : ℕ) (l : List ℕ) (at : ℕ) → RunFits f r → matches l at (runField f r) ≡ true → runAt f l at ≡ r
-run-said Twelve r l at k m = sym k
-run-said Ten r l at k m = match-first 4 r [] l at m
+run-said zero r l at k m = sym k
+run-said (suc f) r l at k m = match-first 4 r [] l at m
 
 module _ (f : Layout) where
   -- a slot's fields fit, whatever is behind it

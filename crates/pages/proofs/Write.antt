@@ -12,9 +12,8 @@ use Rattle.numbers.specs.Little.{Bytes, written}
 use Rattle.numbers.specs.Fields.{Field, width, encode}
 use Rattle.numbers.proofs.Laws.{written-nil, written-all, written-written}
 use Rattle.numbers.proofs.Records.{length-encode, width-append, encode-append, bytes-encode}
-use Rattle.layouts.specs.declared.Layout.{Layout}
-use Rattle.layouts.specs.Layout.{slotsOf, slotAt}
-use Rattle.layouts.proofs.Slots.{slot-first, slot-next, slot-end, slot-fits}
+use Rattle.layouts.specs.Layout.{Layout, slotsOf, slotAt}
+use Rattle.layouts.proofs.Lying.{slot-first, slot-next, slot-end, slot-fits}
 use Rattle.pages.specs.Page.{Record, key, value, run, recordWith, vacant, head, slot, slots, fields, pageBytes}
 use Rattle.pages.proofs.Held.{Held}
 use Rattle.pages.proofs.Read.{slot-width}

@@ -4,7 +4,7 @@ use mathlib.Core.Option.{Option}
 use mathlib.Core.List.{List, [], _∷_, _++_}
 use lib.ListN.{take, drop}
 use Rattle.numbers.specs.Little.{written}
-use Rattle.layouts.specs.declared.Layout.{Layout}
+use Rattle.layouts.specs.Layout.{Layout}
 use Rattle.pages.specs.Page.{Record, pageBytes, recordsIn, readPage}
 
 -- "each page is the part of the area from 256 times its address"

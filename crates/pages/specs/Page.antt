@@ -8,9 +8,7 @@ use lib.ListN.{length, replicate}
 use lib.Dec.{leb, ltb}
 use Rattle.numbers.specs.Little.{numberAt}
 use Rattle.numbers.specs.Fields.{Field, encode, matches}
-use Rattle.layouts.specs.declared.Layout.{Layout}
-use Rattle.layouts.specs.declared.Layout.the-variants.{Twelve, Ten}
-use Rattle.layouts.specs.Layout.{kindOf, slotsOf, widthOf, slotAt}
+use Rattle.layouts.specs.Layout.{Layout, kindOf, slotsOf, widthOf, slotAt}
 use Rattle.placing.specs.Lay.{ranked}
 use Rattle.pages.specs.declared.Record as declared
 use Rattle.pages.specs.declared.Page.{Page}
@@ -47,13 +45,13 @@ rank h x = ranked (homeFor h x) (key x)
 
 -- the run as a slot has it: in one layout it has none
 abbrev pub runField : Layout → ℕ → List Field
-runField Twelve r = []
-runField Ten r = (4, r) ∷ []
+runField zero r = []
+runField (suc f) r = (4, r) ∷ []
 
 -- what stands at the place of the run
 abbrev pub runAt : Layout → List ℕ → ℕ → ℕ
-runAt Twelve l at = 0
-runAt Ten l at = numberAt 4 l at
+runAt zero l at = 0
+runAt (suc f) l at = numberAt 4 l at
 
 module _ (f : Layout) where
   -- "Head, 16 bytes: length 256 (2), kind 0x0011 (2), page address (4), records used (2), six zero

@@ -4,7 +4,6 @@ pub mod slot;
 pub mod slots;
 
 use homes::Shape;
-use layouts::Layout;
 ghost use mathlib.Core.Path.{_≡_};
 ghost use mathlib.Core.Bool.{cond, _&&_};
 ghost use mathlib.Core.Option.{none, some};
@@ -80,17 +79,17 @@ pub fn before(home: u64, key: u64, home2: u64, key2: u64) -> bool
 }
 
 // How many records a page says that it holds, of its slots at most.
-fn count_in(part: &[u8], layout: Layout) -> usize
+fn count_in(part: &[u8], layout: u8) -> usize
     requires { ⌜ length (now part) ≡ 256 ⌝ }
     ensures { λ r. ⌜ r ≡ countIn layout (now (part .entry)) ⌝ }
 {
-    let slots = layout.slots();
+    let slots = layouts::slots(layout);
     let count = numbers::get_u16(part, 8) as usize;
     if count < slots { count } else { slots }
 }
 
 // What any 256 bytes hold at the places of a page's records. Nothing is judged.
-pub fn parse(part: &[u8], layout: Layout) -> Page
+pub fn parse(part: &[u8], layout: u8) -> Page
     requires { ⌜ length (now part) ≡ 256 ⌝ }
     ensures { λ r. ⌜ r ≡ inMemory (recordsIn layout (now (part .entry))) ⌝ }
 {
@@ -100,7 +99,7 @@ pub fn parse(part: &[u8], layout: Layout) -> Page
     let mut runs = [0; 12];
     let mut i = 0;
     while i < count {
-        let x = slot::get(part, layout.slot_at(i), layout);
+        let x = slot::get(part, layouts::slot_at(layout, i), layout);
         keys[i] = x.key;
         values[i] = x.value;
         runs[i] = x.run;
@@ -114,12 +113,12 @@ pub fn parse(part: &[u8], layout: Layout) -> Page
     }
 }
 
-fn head_exact(part: &[u8], address: u32, layout: Layout, count: usize) -> bool
+fn head_exact(part: &[u8], address: u32, layout: u8, count: usize) -> bool
     requires { ⌜ length (now part) ≡ 256 ⌝ }
     ensures { λ r. ⌜ r ≡ matches (now (part .entry)) 0 (head layout address count) ⌝ }
 {
     let length = numbers::get_u16(part, 0) == 256;
-    let kind = numbers::get_u16(part, 2) == layout.kind();
+    let kind = numbers::get_u16(part, 2) == layouts::kind(layout);
     let place = numbers::get_u32(part, 4) == address;
     let used = numbers::get_u16(part, 8) as usize == count;
     let zero = numbers::get_u16(part, 10) == 0;
@@ -127,14 +126,14 @@ fn head_exact(part: &[u8], address: u32, layout: Layout, count: usize) -> bool
     length & (kind & (place & (used & (zero & zeros))))
 }
 
-fn slots_formed(part: &[u8], layout: Layout, count: usize) -> bool
+fn slots_formed(part: &[u8], layout: u8, count: usize) -> bool
     requires { ⌜ length (now part) ≡ 256 ⌝ }
     ensures { λ r. ⌜ r ≡ matches (now (part .entry)) 16 (slots layout (slotsOf layout) (recordsFrom layout count 0 (now (part .entry)))) ⌝ }
 {
-    let slots = layout.slots();
+    let slots = layouts::slots(layout);
     let mut i = 0;
     while i < slots {
-        if !slot::formed(part, layout.slot_at(i), layout, i < count) {
+        if !slot::formed(part, layouts::slot_at(layout, i), layout, i < count) {
             return false;
         }
         i += 1;
@@ -142,7 +141,7 @@ fn slots_formed(part: &[u8], layout: Layout, count: usize) -> bool
     true
 }
 
-fn well_formed(part: &[u8], address: u32, layout: Layout) -> bool
+fn well_formed(part: &[u8], address: u32, layout: u8) -> bool
     requires { ⌜ length (now part) ≡ 256 ⌝ }
     ensures { λ r. ⌜ r ≡ wellFormed layout address (now (part .entry)) ⌝ }
 {
@@ -198,7 +197,7 @@ fn judge_records(page: Page, address: u64, shape: Shape) -> Judged
 }
 
 // A page's part of the area, judged by the page rules.
-pub fn judge(part: &[u8], address: u32, layout: Layout, shape: Shape) -> Judged
+pub fn judge(part: &[u8], address: u32, layout: u8, shape: Shape) -> Judged
     requires { ⌜ (length (now part) ≡ 256) × Ready shape ⌝ }
     ensures { λ r. ⌜ r ≡ judged (homeIn shape) (readPage layout (homeIn shape) address (now (part .entry))) ⌝ }
 {
@@ -209,12 +208,12 @@ pub fn judge(part: &[u8], address: u32, layout: Layout, shape: Shape) -> Judged
     judge_records(page, address as u64, shape)
 }
 
-fn put_head(part: &mut [u8], address: u32, layout: Layout, count: usize)
+fn put_head(part: &mut [u8], address: u32, layout: u8, count: usize)
     requires { ⌜ (length (now part) ≡ 256) × (count ≤ 12) ⌝ }
     ensures { λ _. ⌜ now (part .exit) ≡ written (now (part .entry)) 0 (encode (head layout address count)) ⌝ }
 {
     numbers::put_u16(part, 0, 256);
-    numbers::put_u16(part, 2, layout.kind());
+    numbers::put_u16(part, 2, layouts::kind(layout));
     numbers::put_u32(part, 4, address);
     numbers::put_u16(part, 8, count as u16);
     numbers::put_u16(part, 10, 0);
@@ -222,7 +221,7 @@ fn put_head(part: &mut [u8], address: u32, layout: Layout, count: usize)
 }
 
 // A page to its part of the area. A layout without runs keeps none.
-pub fn store(part: &mut [u8], address: u32, layout: Layout, page: Page)
+pub fn store(part: &mut [u8], address: u32, layout: u8, page: Page)
     requires { ⌜ (length (now part) ≡ 256) × (page .count ≤ 12) × (page ≡ inMemory (recordsOf page)) ⌝ }
     ensures { λ _. ⌜ now (part .exit) ≡ pageBytes layout address (recordsOf page) ⌝ }
 {
@@ -230,7 +229,7 @@ pub fn store(part: &mut [u8], address: u32, layout: Layout, page: Page)
     let keys = page.keys;
     let values = page.values;
     let runs = page.runs;
-    let slots = layout.slots();
+    let slots = layouts::slots(layout);
     put_head(part, address, layout, count);
     let mut i = 0;
     while i < slots {
@@ -240,13 +239,13 @@ pub fn store(part: &mut [u8], address: u32, layout: Layout, page: Page)
             value: values[i],
             run: runs[i],
         };
-        slot::put(part, layout.slot_at(i), layout, kind, x);
+        slot::put(part, layouts::slot_at(layout, i), layout, kind, x);
         i += 1;
     }
 }
 
 // The page at an address, judged.
-pub fn judge_at(area: &[u8], a: usize, layout: Layout, shape: Shape) -> Judged
+pub fn judge_at(area: &[u8], a: usize, layout: u8, shape: Shape) -> Judged
     requires { ⌜ (a < 4096) × (256 * (a + 1) ≤ length (now area)) × Ready shape ⌝ }
     ensures { λ r. ⌜ r ≡ judged (homeIn shape) (readPage layout (homeIn shape) a (partAt (now (area .entry)) a)) ⌝ }
 {
@@ -255,7 +254,7 @@ pub fn judge_at(area: &[u8], a: usize, layout: Layout, shape: Shape) -> Judged
 }
 
 // What any bytes hold at the places of the records of the page at an address.
-pub fn parse_at(area: &[u8], a: usize, layout: Layout) -> Page
+pub fn parse_at(area: &[u8], a: usize, layout: u8) -> Page
     requires { ⌜ (a < 4096) × (256 * (a + 1) ≤ length (now area)) ⌝ }
     ensures { λ r. ⌜ r ≡ inMemory (recordsIn layout (partAt (now (area .entry)) a)) ⌝ }
 {
@@ -264,7 +263,7 @@ pub fn parse_at(area: &[u8], a: usize, layout: Layout) -> Page
 }
 
 // A page to its place in the area: the part that is its own is lent on.
-pub fn store_at(area: &mut [u8], a: usize, layout: Layout, page: Page)
+pub fn store_at(area: &mut [u8], a: usize, layout: u8, page: Page)
     requires { ⌜ (a < 4096) × (256 * (a + 1) ≤ length (now area)) × (page .count ≤ 12) × (page ≡ inMemory (recordsOf page)) ⌝ }
     ensures { λ _. ⌜ now (area .exit) ≡ withPage layout (now (area .entry)) a (recordsOf page) ⌝ }
 {

@@ -9,8 +9,7 @@ use native.Mathlib.Omega.{arith}
 use lib.Dec.{eqb, ltb}
 use lib.ListN.{length, take, getD}
 use borrow.Author.Tests.{eqb-true, eqb-false}
-use Rattle.layouts.specs.declared.Layout.{Layout}
-use Rattle.layouts.specs.Layout.{slotsOf, slotsOn}
+use Rattle.layouts.specs.Layout.{Layout, slotsOf, slotsOn}
 use Rattle.placing.specs.Image.{All}
 use Rattle.placing.specs.Lay.{rankIn, ins}
 use Rattle.pages.specs.Page.{Record, key, readPage}

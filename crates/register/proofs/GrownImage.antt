@@ -9,8 +9,7 @@ use lib.ListN.{length}
 use borrow.Author.Tests.{eq-eqb, ne-eqb}
 use Rattle.numbers.specs.Little.{Bytes}
 use Rattle.numbers.proofs.Laws.{bytes-append}
-use Rattle.layouts.specs.Layout.{slotsOf}
-use Rattle.layouts.specs.declared.Layout.{Layout}
+use Rattle.layouts.specs.Layout.{Layout, slotsOf}
 use Rattle.placing.specs.Image.{cat, Image, Room}
 use Rattle.placing.specs.Lay.{rankIn, sort, taken}
 use Rattle.placing.specs.Rows.{counts, strayed}

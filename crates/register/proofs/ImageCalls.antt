@@ -7,10 +7,9 @@ use native.Mathlib.Decide.{ℕ-discrete}
 use native.Mathlib.Omega.{arith}
 use lib.ListN.{length, length-append}
 use borrow.Author.Tests.{ne-eqb}
-use Rattle.layouts.specs.Layout.{slotsOn, slotsOf}
-use Rattle.layouts.specs.declared.Layout.{Layout}
+use Rattle.layouts.specs.Layout.{Layout, slotsOn, slotsOf}
 use Rattle.pages.specs.Small.{Small}
-use Rattle.layouts.proofs.Slots.{slots-times}
+use Rattle.layouts.proofs.Lying.{slots-times}
 use Rattle.placing.specs.Image.{cat, page, RecordSet, homeOf, Room}
 use Rattle.placing.specs.Lay.{taken}
 use Rattle.placing.specs.Rows.{strayed}

@@ -2,8 +2,7 @@
 use mathlib.Core.Path.{_≡_, sym, ap, _∙_}
 use mathlib.Core.List.{List, List·Permᴰ}
 use Prim.Native.Nat.{ℕ}
-use Rattle.layouts.specs.Layout.{slotsOf}
-use Rattle.layouts.specs.declared.Layout.{Layout}
+use Rattle.layouts.specs.Layout.{Layout, slotsOf}
 use Rattle.placing.specs.Image.{RecordSet}
 use Rattle.placing.proofs.Images.{one-image}
 use Rattle.pages.specs.Page.{Record, key}

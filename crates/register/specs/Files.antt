@@ -3,8 +3,7 @@
 use Prim.Native.Nat.{ℕ}
 use mathlib.Core.Bool.{Bool}
 use mathlib.Core.List.{List, [], _∷_}
-use Rattle.layouts.specs.declared.Layout.{Layout}
-use Rattle.layouts.specs.Layout.{inUse}
+use Rattle.layouts.specs.Layout.{Layout, inUse}
 use Rattle.homes.specs.declared.Params.{Params}
 use Rattle.pages.specs.Page.{Record}
 use Rattle.state.specs.declared.State.{State}

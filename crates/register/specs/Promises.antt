@@ -7,8 +7,7 @@ use mathlib.Core.Logic.{_↔_}
 use mathlib.Core.List.{List, [], List·Permᴰ}
 use lib.ListN.{length}
 use Rattle.numbers.specs.Little.{Bytes}
-use Rattle.layouts.specs.declared.Layout.{Layout}
-use Rattle.layouts.specs.Layout.{slotsOf}
+use Rattle.layouts.specs.Layout.{Layout, slotsOf}
 use Rattle.placing.specs.Image.{cat, RecordSet, Room}
 use Rattle.placing.specs.Rows.{leftOver}
 use Rattle.pages.specs.Page.{Record, key}

@@ -7,7 +7,7 @@ use mathlib.Core.Option.{none, some}
 use mathlib.Core.List.{List, [], _∷_, _++_}
 use lib.ListN.{length}
 use Rattle.numbers.specs.Little.{Bytes, written}
-use Rattle.layouts.specs.declared.Layout.{Layout}
+use Rattle.layouts.specs.Layout.{Layout}
 use Rattle.placing.specs.Image.{All}
 use Rattle.register.specs.Files.{Call, File, left, after}
 use Rattle.demands.specs.Histories.{Fits, Kept, kept}

@@ -8,8 +8,7 @@ use native.Mathlib.Omega.{arith}
 use lib.Dec.{ltb}
 use borrow.Author.Tests.{ltb-true, lt-ltb}
 use Rattle.numbers.proofs.Records.{and-left, and-right}
-use Rattle.layouts.specs.declared.Layout.{Layout}
-use Rattle.layouts.specs.Layout.{slotsOn}
+use Rattle.layouts.specs.Layout.{Layout, slotsOn, twelve, ten}
 use Rattle.state.specs.declared.State.{State}
 use Rattle.state.specs.State.{inRange, isDue}
 use Rattle.state.specs.Promises.{Ranged, StatePromises}

@@ -8,8 +8,7 @@ use native.Mathlib.Nat.{mul-le-mul}
 use native.Mathlib.Omega.{arith}
 use lib.ListN.{getD}
 use borrow.Author.Tests.{leb-true, le-leb}
-use Rattle.layouts.specs.declared.Layout.{Layout}
-use Rattle.layouts.specs.Layout.{slotsOn}
+use Rattle.layouts.specs.Layout.{Layout, slotsOn}
 use Rattle.homes.specs.Homes.{InRange}
 use Rattle.state.specs.declared.State.{State}
 use Rattle.state.specs.State.{all, ranges, inRange, oneMore, oneLess, grown}

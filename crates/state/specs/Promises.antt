@@ -4,9 +4,7 @@ use Prim.Native.Nat.{ℕ, _*_, _≤_, _<_}
 use mathlib.Core.Path.{_≡_}
 use mathlib.Core.Bool.{true}
 use mathlib.Core.Logic.{_↔_}
-use Rattle.layouts.specs.declared.Layout.{Layout}
-use Rattle.layouts.specs.declared.Layout.the-variants.{Twelve, Ten}
-use Rattle.layouts.specs.Layout.{slotsOn}
+use Rattle.layouts.specs.Layout.{Layout, slotsOn, twelve, ten}
 use Rattle.state.specs.declared.State.{State}
 use Rattle.state.specs.State.{inRange, isDue}
 
@@ -34,5 +32,5 @@ pub record StatePromises : Type 0 where
   -- "due answers no"
   pub due : (f : Layout) (x : State) → (isDue f x ≡ true) ↔ (Ranged f x × (4 * slotsOn f (x .p) < 5 * x .r))
   -- so with twelve slots "exactly when 5r > 48P"; 02, request 8: with ten "when 5r > 40P"
-  pub twelve : (p : ℕ) → 4 * slotsOn Twelve p ≡ 48 * p
-  pub ten : (p : ℕ) → 4 * slotsOn Ten p ≡ 40 * p
+  pub twelve : (p : ℕ) → 4 * slotsOn twelve p ≡ 48 * p
+  pub ten : (p : ℕ) → 4 * slotsOn ten p ≡ 40 * p

@@ -4,8 +4,7 @@ use Prim.Native.Nat.{ℕ, _+_, _-_, _*_}
 use mathlib.Core.Bool.{Bool, true, _&&_}
 use mathlib.Core.List.{List, [], _∷_}
 use lib.Dec.{leb, ltb}
-use Rattle.layouts.specs.declared.Layout.{Layout}
-use Rattle.layouts.specs.Layout.{slotsOn}
+use Rattle.layouts.specs.Layout.{Layout, slotsOn}
 use Rattle.homes.specs.declared.Params.{Params}
 use Rattle.homes.specs.Homes.{firstPages, home}
 use Rattle.state.specs.declared.State.{State}

@@ -2,7 +2,6 @@
 // answers of the calls.
 use homes::Params;
 use homes::Shape;
-use layouts::Layout;
 ghost use mathlib.Core.Path.{_≡_};
 ghost use Prim.Native.Nat.{_≤_, _<_};
 ghost use Rattle.homes.specs.Homes.{InRange, Ready, firstPages, shapeOf};
@@ -63,7 +62,7 @@ impl State {
     }
 
     // Whether its numbers are in their ranges. The tests are joined without a branch.
-    pub fn in_range(self, layout: Layout) -> bool
+    pub fn in_range(self, layout: u8) -> bool
         ensures { λ r. ⌜ r ≡ inRange layout self ⌝ }
     {
         let n0 = self.params.n0;
@@ -72,7 +71,7 @@ impl State {
         let edition = self.params.edition;
         let p = self.p;
         let cap = self.cap;
-        let most = layout.slots_on(cap as u32);
+        let most = layouts::slots_on(layout, cap as u32);
         (1 <= n0)
             & (n0 <= 4)
             & (1 <= n)
@@ -89,10 +88,10 @@ impl State {
     }
 
     // Whether growth is due.
-    pub fn due(self, layout: Layout) -> bool
+    pub fn due(self, layout: u8) -> bool
         ensures { λ r. ⌜ r ≡ isDue layout self ⌝ }
     {
-        let slots = layout.slots_on(self.p as u32);
+        let slots = layouts::slots_on(layout, self.p as u32);
         self.in_range(layout) & (4 * (slots as u64) < 5 * (self.r as u64))
     }
 

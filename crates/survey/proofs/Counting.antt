@@ -13,7 +13,7 @@ use lib.ListN.{length, getD, set, take, drop, replicate, length-take, length-set
 use lib.Seq.{getD-set-same, getD-set-other, take-append-seam, take-suc, drop-cons, drop-length, ext-getD}
 use borrow.Author.Tests.{ltb-true, ltb-false, eqb-true, eqb-false}
 use borrow.Author.Fill.{fill-more}
-use Rattle.layouts.specs.declared.Layout.{Layout}
+use Rattle.layouts.specs.Layout.{Layout}
 use Rattle.homes.specs.declared.new_homes.NewHomes.{NewHomes}
 use Rattle.homes.specs.steps.NewHomes.{newHome, keepsAt}
 use Rattle.placing.specs.Image.{cat}

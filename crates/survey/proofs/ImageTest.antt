@@ -11,9 +11,8 @@ use lib.ListN.{length}
 use borrow.Author.Tests.{leb-true, le-leb}
 use Rattle.numbers.specs.Little.{Bytes}
 use Rattle.numbers.proofs.Records.{and-left, and-right}
-use Rattle.layouts.specs.Layout.{slotsOf}
-use Rattle.layouts.specs.declared.Layout.{Layout}
-use Rattle.layouts.proofs.Slots.{slots-few}
+use Rattle.layouts.specs.Layout.{Layout, slotsOf}
+use Rattle.layouts.proofs.Lying.{slots-few}
 use Rattle.placing.specs.Image.{All, cat, Distinct, RecordSet, homeOf, Image}
 use Rattle.placing.specs.Lay.{rankOf, rankIn}
 use Rattle.placing.proofs.Lists.{all-map, all-append, all-right}

@@ -7,8 +7,7 @@ use mathlib.Core.Option.{some}
 use mathlib.Core.List.{List, [], map}
 use lib.ListN.{length}
 use Rattle.numbers.specs.Little.{Bytes}
-use Rattle.layouts.specs.declared.Layout.{Layout}
-use Rattle.layouts.specs.Layout.{slotsOf}
+use Rattle.layouts.specs.Layout.{Layout, slotsOf}
 use Rattle.placing.specs.Image.{cat, Image}
 use Rattle.pages.specs.Page.{Record, key}
 use Rattle.pages.specs.Area.{pagesFrom}

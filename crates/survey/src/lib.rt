@@ -2,7 +2,6 @@
 // home.
 use homes::Shape;
 use homes::new_homes::NewHomes;
-use layouts::Layout;
 use pages::Judged;
 ghost use mathlib.Core.Path.{_≡_};
 ghost use mathlib.Core.List.{[]};
@@ -59,7 +58,7 @@ fn unseen() -> Seen
 }
 
 // What has been seen after page a.
-fn look(seen: Seen, judged: Judged, a: usize, layout: Layout) -> Seen
+fn look(seen: Seen, judged: Judged, a: usize, layout: u8) -> Seen
     requires { ⌜ (judged .page .count ≤ 12) × (seen .records ≤ 49152) ⌝ }
     ensures { λ r. ⌜ r ≡ looked layout seen a (judged .page .count) (judged .homes) (judged .page .keys) ⌝ }
 {
@@ -84,7 +83,7 @@ fn look(seen: Seen, judged: Judged, a: usize, layout: Layout) -> Seen
     let image = seen.image & (at_home & rising);
     Seen {
         image,
-        full: count == layout.slots(),
+        full: count == layouts::slots(layout),
         any: true,
         home: homes[last],
         key: keys[last],
@@ -138,7 +137,7 @@ fn tally(judged: Judged, count: Count, row: &mut [u32])
 pub fn survey(
     area: &[u8],
     cap: usize,
-    layout: Layout,
+    layout: u8,
     shape: Shape,
     count: Count,
     row: &mut [u32],
@@ -167,11 +166,11 @@ pub fn survey(
 
 // Whether records of these homes find room on pages of a layout, each at its home or higher: what does
 // not fit on a page goes on to the next.
-pub fn has_room(row: &[u32], layout: Layout) -> bool
+pub fn has_room(row: &[u32], layout: u8) -> bool
     requires { ⌜ length (now row) ≤ 4096 ⌝ }
     ensures { λ r. ⌜ r ≡ eqb (leftOver (slotsOf layout) (now (row .entry)) 0) 0 ⌝ }
 {
-    let slots = layout.slots() as u64;
+    let slots = layouts::slots(layout) as u64;
     let mut over: u64 = 0;
     let mut i = 0;
     while i < row.len() {

@@ -8,9 +8,8 @@ use Prim.Native.Nat.{ℕ, suc, _+_, _^_, _≤_, _<_}
 use native.Mathlib.Omega.{arith}
 use lib.ListN.{length, take, drop, length-append, take-append-drop}
 use lib.Seq.{append-snoc, length-take-le, getD-at, getD-append-add}
-use Rattle.layouts.proofs.Slots.{slots-few}
-use Rattle.layouts.specs.Layout.{slotsOf}
-use Rattle.layouts.specs.declared.Layout.{Layout}
+use Rattle.layouts.proofs.Lying.{slots-few}
+use Rattle.layouts.specs.Layout.{Layout, slotsOf}
 use Rattle.placing.specs.Image.{All, cat, page}
 use Rattle.placing.specs.Lay.{rankIn}
 use Rattle.placing.specs.Walks.{seek, endsOn, find, findIn, carry as carried, put, putIn}

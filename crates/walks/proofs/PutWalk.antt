@@ -8,9 +8,8 @@ use native.Mathlib.Omega.{arith}
 use lib.Dec.{ltb}
 use lib.ListN.{length, take, drop, getD, length-append, take-append-drop}
 use lib.Seq.{append-snoc, length-take-le}
-use Rattle.layouts.proofs.Slots.{slots-few}
-use Rattle.layouts.specs.Layout.{slotsOf}
-use Rattle.layouts.specs.declared.Layout.{Layout}
+use Rattle.layouts.proofs.Lying.{slots-few}
+use Rattle.layouts.specs.Layout.{Layout, slotsOf}
 use Rattle.placing.specs.Image.{All, cat}
 use Rattle.placing.specs.Lay.{rankIn, ins}
 use Rattle.placing.specs.Rows.{strayed}

@@ -8,8 +8,7 @@ use native.Mathlib.Omega.{arith}
 use lib.Dec.{leb, ltb}
 use lib.ListN.{length, take, drop, length-append, take-append-drop}
 use lib.Seq.{append-snoc, length-take-le}
-use Rattle.layouts.specs.Layout.{slotsOf}
-use Rattle.layouts.specs.declared.Layout.{Layout}
+use Rattle.layouts.specs.Layout.{Layout, slotsOf}
 use Rattle.placing.specs.Image.{All, cat, homeOf, Distinct}
 use Rattle.placing.specs.Lay.{rankOf, rankIn, ins}
 use Rattle.placing.specs.Rows.{strays, strayed}

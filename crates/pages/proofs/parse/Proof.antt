@@ -5,7 +5,7 @@ use mathlib.Core.Path.{_≡_}
 use Prim.Native.Nat.{_-_, _≤_}
 use native.Mathlib.Omega.{arith}
 use borrow.Author.Needs.{needs}
-use Rattle.layouts.proofs.Slots.{slots-few, slot-fits, width-low}
+use Rattle.layouts.proofs.Lying.{slots-few, slot-fits, width-low}
 use Rattle.pages.specs.Page.{countIn}
 use Rattle.pages.proofs.Read.{ToStore, parse-starts, parse-turn, parse-ends}
 use Rattle.pages.proofs.parse.Statement.{statement}

@@ -8,7 +8,7 @@ use borrow.Author.Tests.{not-true, not-false}
 use borrow.Author.Needs.{needs}
 use Rattle.numbers.specs.Fields.{matches}
 use Rattle.layouts.specs.Layout.{slotsOf}
-use Rattle.layouts.proofs.Slots.{slot-fits, width-low}
+use Rattle.layouts.proofs.Lying.{slot-fits, width-low}
 use Rattle.pages.specs.Page.{slots, recordsFrom}
 use Rattle.pages.proofs.Read.{slotsLeft, slots-start, slots-stop, slots-turn, slots-end}
 use Rattle.pages.proofs.slots_formed.Statement.{statement}

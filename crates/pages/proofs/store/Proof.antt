@@ -10,7 +10,7 @@ use borrow.Author.Needs.{needs}
 use Rattle.numbers.specs.Little.{written}
 use Rattle.numbers.specs.Fields.{encode}
 use Rattle.layouts.specs.Layout.{slotsOf, slotAt}
-use Rattle.layouts.proofs.Slots.{slots-few, slot-fits, width-low}
+use Rattle.layouts.proofs.Lying.{slots-few, slot-fits, width-low}
 use Rattle.pages.specs.Page.{Record, slots, pageBytes}
 use Rattle.pages.specs.steps.Slots.{recordsOf}
 use Rattle.pages.proofs.Held.{Held, held}

@@ -6,8 +6,7 @@ use mathlib.Core.Bool.{Bool, true, false, not, _&&_}
 use mathlib.Core.List.{List, [], _∷_}
 use lib.ListN.{length}
 use lib.Dec.{leb}
-use Rattle.layouts.specs.declared.Layout.{Layout}
-use Rattle.layouts.specs.Layout.{slotsOf}
+use Rattle.layouts.specs.Layout.{Layout, slotsOf}
 use Rattle.homes.specs.declared.new_homes.NewHomes.{NewHomes}
 use Rattle.homes.specs.steps.NewHomes.{newHome, keepsAt}
 use Rattle.placing.specs.Image.{All}

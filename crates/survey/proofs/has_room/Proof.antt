@@ -13,10 +13,10 @@ use Rattle.survey.proofs.has_room.Statement.{statement}
 use Rattle.survey.proofs.has_room.Tie as tie
 
 abbrev Inv-loop : tie.InvT-loop
-Inv-loop row slots over₀ i₀ over i = (i ≤ length row) × (over ≤ 4294967296 * i) × (leftOver slots (drop i row) over ≡ leftOver slots row 0)
+Inv-loop row layout slots over₀ i₀ over i = (i ≤ length row) × (over ≤ 4294967296 * i) × (leftOver slots (drop i row) over ≡ leftOver slots row 0)
 
 abbrev μ-loop : tie.MeasureT-loop
-μ-loop row slots over₀ i₀ over i = length row - i
+μ-loop row layout slots over₀ i₀ over i = length row - i
 
 -- a page takes as many as it has slots, or all where there are fewer
 next : (c : tie.Joined1 Inv-loop μ-loop)

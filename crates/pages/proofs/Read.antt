@@ -2,14 +2,14 @@
 -- records.
 use mathlib.Core.Path.{_≡_, refl, sym, ap, _∙_}
 use mathlib.Core.Bool.{Bool, true, false, cond, _&&_, and-true}
-use mathlib.Core.List.{List, [], _++_, map}
+use mathlib.Core.List.{List, [], _∷_, _++_, map}
 use Prim.Native.Nat.{ℕ, zero, suc, _+_, _*_, _-_, _≤_, _<_}
 use native.Mathlib.Nat.{add-assoc, sub-zero}
 use native.Mathlib.Numerals.{add-one}
 use native.Mathlib.Omega.{arith}
 use borrow.Author.Tests.{eq-eqb, ltb-true, ltb-false}
 use lib.Dec.{eqb, ltb}
-use lib.ListN.{length, drop, set, replicate, length-map}
+use lib.ListN.{length, drop, set, replicate, length-map, length-replicate, replicate-append-replicate}
 use lib.Seq.{sets, sets-eq}
 use Rattle.numbers.specs.Little.{numberAt}
 use Rattle.numbers.specs.Fields.{Field, width, matches}
@@ -85,39 +85,39 @@ module _ (f : Layout) where
 
   module _ (l : List ℕ) (count : ℕ) (c : count ≡ countIn f l) where
     -- what is left to store of a row, from slot i on
-    abbrev RowLeft : (Record → ℕ) → List ℕ → ℕ → Type 0
+    abbrev pub RowLeft : (Record → ℕ) → List ℕ → ℕ → Type 0
     RowLeft g row i = sets row i (map g (recordsFrom f (count - i) i l)) ≡ padded (map g (recordsIn f l))
 
-    row-left : (g : Record → ℕ) → RowLeft g (replicate 12 0) 0
+    pub row-left : (g : Record → ℕ) → RowLeft g (replicate 12 0) 0
     unfolding recordsIn
     row-left g = rw (c, sub-zero) (row-starts (map g (recordsIn f l)) (rw length-map (held-twelve l)))
 
-    row-turn : (g : Record → ℕ) (row : List ℕ) (i : ℕ) (x : Record) → i < count → x ≡ recordIn f l (slotAt f i) → RowLeft g row i → RowLeft g (set row i (g x)) (i + 1)
+    pub row-turn : (g : Record → ℕ) (row : List ℕ) (i x : ℕ) → i < count → x ≡ g (recordIn f l (slotAt f i)) → RowLeft g row i → RowLeft g (set row i x) (i + 1)
     row-turn g row i x h q left =
         let e : count - i ≡ suc (count - (i + 1)) = omega arith in
         rw (q, add-one) (rw (e, add-one) at left)
 
-    row-done : (g : Record → ℕ) (row : List ℕ) (i : ℕ) → count ≤ i → RowLeft g row i → row ≡ padded (map g (recordsIn f l))
+    pub row-done : (g : Record → ℕ) (row : List ℕ) (i : ℕ) → count ≤ i → RowLeft g row i → row ≡ padded (map g (recordsIn f l))
     row-done g row i h left =
         let e : count - i ≡ 0 = omega arith in
         rw e at left
 
     -- so for the rows of a page: before the first turn all is left
-    abbrev pub ToStore : (ks vs us : List ℕ) → ℕ → Type 0
-    ToStore ks vs us i = RowLeft key ks i × RowLeft value vs i × RowLeft run us i
+    abbrev pub ToStore : (ks vs : List ℕ) → ℕ → Type 0
+    ToStore ks vs i = RowLeft key ks i × RowLeft value vs i
 
-    pub parse-starts : ToStore (replicate 12 0) (replicate 12 0) (replicate 12 0) 0
-    parse-starts = (row-left key, row-left value, row-left run)
+    pub parse-starts : ToStore (replicate 12 0) (replicate 12 0) 0
+    parse-starts = (row-left key, row-left value)
 
-    module _ (ks vs us : List ℕ) (i : ℕ) (left : ToStore ks vs us i) where
+    module _ (ks vs : List ℕ) (i : ℕ) (left : ToStore ks vs i) where
       -- a turn stores the numbers of one slot
-      pub parse-turn : (x : Record) → i < count → x ≡ recordIn f l (slotAt f i) → ToStore (set ks i (key x)) (set vs i (value x)) (set us i (run x)) (i + 1)
-      parse-turn x h q = (row-turn key ks i x h q (left .0), row-turn value vs i x h q (left .1), row-turn run us i x h q (left .2))
+      pub parse-turn : (x : Record) → i < count → x ≡ recordIn f l (slotAt f i) → ToStore (set ks i (key x)) (set vs i (value x)) (i + 1)
+      parse-turn x h q = (row-turn key ks i (key x) h (ap key q) (left .0), row-turn value vs i (value x) h (ap value q) (left .1))
 
       -- after the last turn the rows are those of the page in memory
-      pub parse-ends : count ≤ i → _≡_ {A = Page} (record { count = count; keys = ks; values = vs; runs = us }) (inMemory (recordsIn f l))
+      pub parse-ends : (us : List ℕ) → us ≡ padded (map run (recordsIn f l)) → count ≤ i → _≡_ {A = Page} (record { count = count; keys = ks; values = vs; runs = us }) (inMemory (recordsIn f l))
       unfolding inMemory
-      parse-ends h = rw (row-done key ks i h (left .0), row-done value vs i h (left .1), row-done run us i h (left .2), length-held, ← c)
+      parse-ends us u h = rw (row-done key ks i h (left .0), row-done value vs i h (left .1), u, length-held, ← c)
 
   -- the tests of a head are those of its fields
   pub head-tests : (l : List ℕ) (address used : ℕ)
@@ -190,3 +190,15 @@ module _ (f : Layout) where
     -- with an exact head the slots are left
     pub slots-decide : (out : Bool) → exact ≡ true → out ≡ matches l 16 (slots f (slotsOf f) (recordsFrom f count 0 l)) → out ≡ wellFormed f address l
     slots-decide out t o = o ∙ sym (formed-parts address l ∙ rw (← e, ← m, t))
+
+-- records of twelve slots have no run
+no-run : (n i : ℕ) (l : List ℕ) → map run (recordsFrom 0 n i l) ≡ replicate n 0
+no-run zero i l = refl
+no-run (suc n) i l = ap (λ (s : List ℕ). 0 ∷ s) (no-run n (suc i) l)
+
+pub no-runs : (l : List ℕ) → _≡_ {A = List ℕ} (replicate 12 0) (padded (map run (recordsIn 0 l)))
+unfolding recordsIn
+no-runs l =
+    let n = countIn 0 l in
+    let e : n + (12 - n) ≡ 12 = omega arith in
+    rw (no-run n 0 l, length-replicate, replicate-append-replicate, e)

@@ -4,10 +4,11 @@ pub mod slot;
 pub mod slots;
 
 use homes::Shape;
+use layouts::TWELVE;
 ghost use mathlib.Core.Path.{_≡_};
 ghost use mathlib.Core.Bool.{cond, _&&_};
 ghost use mathlib.Core.Option.{none, some};
-ghost use mathlib.Core.List.{[]};
+ghost use mathlib.Core.List.{[], map};
 ghost use Prim.Native.Nat.{ℕ, _+_, _*_, _≤_, _<_};
 ghost use lib.ListN.{length, getD};
 ghost use lib.Dec.{ltb};
@@ -15,7 +16,7 @@ ghost use Rattle.numbers.specs.Fields.{encode, matches};
 ghost use Rattle.numbers.specs.Little.{written};
 ghost use Rattle.layouts.specs.Layout.{slotsOf};
 ghost use Rattle.homes.specs.Homes.{Ready, homeIn};
-ghost use Rattle.pages.specs.Page.{head, slots, pageBytes, countIn, recordsIn, recordsFrom, wellFormed, homesTo, rises, readPage, inMemory, judged};
+ghost use Rattle.pages.specs.Page.{head, slots, pageBytes, countIn, recordsIn, recordsFrom, wellFormed, homesTo, rises, readPage, run, padded, inMemory, judged};
 ghost use Rattle.placing.specs.Lay.{ranked};
 ghost use Rattle.pages.specs.steps.Slots.{recordsOf};
 ghost use Rattle.pages.specs.Area.{partAt, withPage};
@@ -88,21 +89,37 @@ fn count_in(part: &[u8], layout: u8) -> usize
     if count < slots { count } else { slots }
 }
 
+// The runs of a page's records. Where slots have none nothing is read, and they are zeros.
+fn runs_in(part: &[u8], layout: u8, count: usize) -> [u64; 12]
+    requires { ⌜ (length (now part) ≡ 256) × (count ≡ countIn layout (now part)) ⌝ }
+    ensures { λ r. ⌜ r ≡ padded (map run (recordsIn layout (now (part .entry)))) ⌝ }
+{
+    let mut runs = [0; 12];
+    if layout == TWELVE {
+        return runs;
+    }
+    let mut i = 0;
+    while i < count {
+        runs[i] = slot::get_run(part, layouts::slot_at(layout, i), layout);
+        i += 1;
+    }
+    runs
+}
+
 // What any 256 bytes hold at the places of a page's records. Nothing is judged.
 pub fn parse(part: &[u8], layout: u8) -> Page
     requires { ⌜ length (now part) ≡ 256 ⌝ }
     ensures { λ r. ⌜ r ≡ inMemory (recordsIn layout (now (part .entry))) ⌝ }
 {
     let count = count_in(part, layout);
+    let runs = runs_in(part, layout, count);
     let mut keys = [0; 12];
     let mut values = [0; 12];
-    let mut runs = [0; 12];
     let mut i = 0;
     while i < count {
         let x = slot::get(part, layouts::slot_at(layout, i), layout);
         keys[i] = x.key;
         values[i] = x.value;
-        runs[i] = x.run;
         i += 1;
     }
     Page {

@@ -12,7 +12,7 @@ ghost use Rattle.layouts.specs.Layout.{widthOf};
 ghost use Rattle.pages.specs.Page.{runAt, runField, slot, recordSlot, emptySlot, recordIn};
 
 // The run of the slot at an offset, or 0 where slots have none.
-fn get_run(part: &[u8], at: usize, layout: u8) -> u64
+pub fn get_run(part: &[u8], at: usize, layout: u8) -> u64
     requires { ⌜ at + widthOf layout ≤ length (now part) ⌝ }
     ensures { λ r. ⌜ r ≡ runAt layout (now (part .entry)) (at + 20) ⌝ }
 {

@@ -1,5 +1,5 @@
 -- What find, put and remove do on a file that is the image of its records.
-use mathlib.Core.Path.{_≡_, refl, sym, _∙_}
+use mathlib.Core.Path.{_≡_, refl, sym, ap, _∙_}
 use mathlib.Core.Option.{none, some}
 use mathlib.Core.List.{List, [], _∷_, Permᴰ·symm}
 use Prim.Native.Nat.{ℕ, suc, _*_, _^_, _≤_, _<_}
@@ -63,7 +63,7 @@ module _ {form : Layout} {s : State} {rs : List Record} {ps : List (List Record)
   -- past its gate a find answers what its walk meets
   pub find-leaves : (k : ℕ) (a : Answer) → findAnswer (walk form h area (s .cap) k) ≡ a → left (fileIn form s area) (find k) ≡ leaves form (done s a) area []
   unfolding left
-  find-leaves k a e = rw (← on-gate w, e)
+  find-leaves k a e = rw (← on-gate w) (ap (λ (x : Answer). leaves form (done s x) area []) e)
 
   -- a walk that stopped is a refusal
   put-stopped : (x : Record) (why : Answer) → putWalk form h area (s .cap) x ≡ stopped why → Refused form s ps (put x) why []

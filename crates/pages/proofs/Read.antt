@@ -4,12 +4,12 @@ use mathlib.Core.Path.{_≡_, refl, sym, ap, _∙_}
 use mathlib.Core.Bool.{Bool, true, false, cond, _&&_, and-true}
 use mathlib.Core.List.{List, [], _∷_, _++_, map}
 use Prim.Native.Nat.{ℕ, zero, suc, _+_, _*_, _-_, _≤_, _<_}
-use native.Mathlib.Nat.{add-assoc, sub-zero}
+use native.Mathlib.Nat.{add-assoc, add-zero, zero-add, sub-zero}
 use native.Mathlib.Numerals.{add-one}
 use native.Mathlib.Omega.{arith}
 use borrow.Author.Tests.{eq-eqb, ltb-true, ltb-false}
 use lib.Dec.{eqb, ltb}
-use lib.ListN.{length, drop, set, replicate, length-map, length-replicate, replicate-append-replicate}
+use lib.ListN.{length, drop, getD, set, replicate, length-map, length-replicate, replicate-append-replicate}
 use lib.Seq.{sets, sets-eq}
 use Rattle.numbers.specs.Little.{numberAt}
 use Rattle.numbers.specs.Fields.{Field, width, matches}
@@ -71,6 +71,18 @@ module _ (f : Layout) where
   pub length-records : (n i : ℕ) (l : List ℕ) → length (recordsFrom f n i l) ≡ n
   length-records zero i l = refl
   length-records (suc n) i l = ap suc (length-records n (suc i) l)
+
+  -- the record of a slot is what stands in it
+  pub record-at : (n i : ℕ) (l : List ℕ) (j : ℕ) → j < n → getD (recordsFrom f n i l) j vacant ≡ recordIn f l (slotAt f (i + j))
+  record-at zero i l j h = absurd (omega arith)
+  record-at (suc n) i l zero h = rw add-zero
+  record-at (suc n) i l (suc j) h =
+      let e : suc i + j ≡ i + suc j = omega arith in
+      rw (← e) (record-at n (suc i) l j (omega arith))
+
+  pub held-at : (l : List ℕ) (j : ℕ) → j < countIn f l → getD (recordsIn f l) j vacant ≡ recordIn f l (slotAt f j)
+  unfolding recordsIn
+  held-at l j h = record-at (countIn f l) 0 l j h ∙ rw zero-add
 
   -- a page's bytes hold as many records as they say, at most as many as there are slots
   pub length-held : (l : List ℕ) → length (recordsIn f l) ≡ countIn f l

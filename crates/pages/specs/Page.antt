@@ -135,7 +135,7 @@ padded xs = xs ++ replicate (12 - length xs) 0
 unfoldable pub inMemory : List Record → Page
 inMemory rs = record { count = length rs; keys = padded (map key rs); values = padded (map value rs); runs = padded (map run rs) }
 
--- a page as it was judged: of a good one its records with their homes, of a broken one nothing
+-- a page as it was judged: of a good one its keys and their homes, of a broken one nothing
 unfoldable pub judged : (ℕ → ℕ) → Option (List Record) → Judged
-judged h none = record { good = false; page = inMemory []; homes = padded [] }
-judged h (some rs) = record { good = true; page = inMemory rs; homes = padded (map (λ x. h (key x)) rs) }
+judged h none = record { good = false; count = 0; keys = padded []; homes = padded [] }
+judged h (some rs) = record { good = true; count = length rs; keys = padded (map key rs); homes = padded (map (homeFor h) rs) }

@@ -16,7 +16,7 @@ ghost use Rattle.numbers.specs.Fields.{encode, matches};
 ghost use Rattle.numbers.specs.Little.{written};
 ghost use Rattle.layouts.specs.Layout.{slotsOf};
 ghost use Rattle.homes.specs.Homes.{Ready, homeIn};
-ghost use Rattle.pages.specs.Page.{head, slots, pageBytes, countIn, recordsIn, recordsFrom, wellFormed, homesTo, rises, readPage, run, padded, inMemory, judged};
+ghost use Rattle.pages.specs.Page.{key, value, run, vacant, head, slots, pageBytes, countIn, recordsIn, recordsFrom, wellFormed, homesTo, rises, readPage, padded, inMemory, judged};
 ghost use Rattle.placing.specs.Lay.{ranked};
 ghost use Rattle.pages.specs.steps.Slots.{recordsOf};
 ghost use Rattle.pages.specs.Area.{partAt, withPage};
@@ -36,10 +36,11 @@ pub struct Page {
     pub runs: [u64; 12],
 }
 
-// A page as it was judged: if it is good, its records and their homes.
+// A page as it was judged: if it is good, the keys of its records and their homes.
 pub struct Judged {
     pub good: bool,
-    pub page: Page,
+    pub count: usize,
+    pub keys: [u64; 12],
     pub homes: [u64; 12],
 }
 
@@ -64,10 +65,10 @@ pub fn blank() -> Page
 fn broken() -> Judged
     ensures { λ r. ⌜ r ≡ judged (λ k. k) none ⌝ }
 {
-    let page = blank();
     Judged {
         good: false,
-        page,
+        count: 0,
+        keys: [0; 12],
         homes: [0; 12],
     }
 }
@@ -87,6 +88,21 @@ fn count_in(part: &[u8], layout: u8) -> usize
     let slots = layouts::slots(layout);
     let count = numbers::get_u16(part, 8) as usize;
     if count < slots { count } else { slots }
+}
+
+// The keys of a page's records.
+fn keys_in(part: &[u8], layout: u8, count: usize) -> [u64; 12]
+    requires { ⌜ (length (now part) ≡ 256) × (count ≡ countIn layout (now part)) ⌝ }
+    ensures { λ r. ⌜ r ≡ padded (map key (recordsIn layout (now (part .entry)))) ⌝ }
+{
+    let mut keys = [0; 12];
+    let mut i = 0;
+    while i < count {
+        let x = slot::get(part, layouts::slot_at(layout, i), layout);
+        keys[i] = x.key;
+        i += 1;
+    }
+    keys
 }
 
 // The runs of a page's records. Where slots have none nothing is read, and they are zeros.
@@ -169,26 +185,25 @@ fn well_formed(part: &[u8], address: u32, layout: u8) -> bool
     slots_formed(part, layout, count)
 }
 
-// The homes of a page's records, worked out together. A page without records has none.
-fn homes_of(page: Page, shape: Shape) -> [u64; 12]
-    requires { ⌜ (page .count ≤ 12) × (length (page .keys) ≡ 12) × Ready shape ⌝ }
-    ensures { λ r. ⌜ ((i : ℕ) → i < page .count → getD r i 0 ≡ homeIn shape (getD (page .keys) i 0)) ⌝ }
+// The homes of a page's keys, worked out together. A page without records has none.
+fn homes_of(count: usize, keys: [u64; 12], shape: Shape) -> [u64; 12]
+    requires { ⌜ (count ≤ 12) × Ready shape ⌝ }
+    ensures { λ r. ⌜ ((i : ℕ) → i < count → getD r i 0 ≡ homeIn shape (getD keys i 0)) ⌝ }
 {
-    let keys = page.keys;
-    if page.count == 0 {
+    if count == 0 {
         return [0; 12];
     }
     homes::lanes::homes(shape, keys)
 }
 
 // The rules about homes and order. A home is worked out once, and kept.
-fn judge_records(page: Page, address: u64, shape: Shape) -> Judged
-    requires { ⌜ (page .count ≤ 12) × (page ≡ inMemory (recordsOf page)) × Ready shape ⌝ }
-    ensures { λ r. ⌜ r ≡ judged (homeIn shape) (cond (homesTo (homeIn shape) address (recordsOf page) && rises (homeIn shape) (recordsOf page)) (some (recordsOf page)) none) ⌝ }
+fn judge_records(part: &[u8], address: u64, layout: u8, shape: Shape) -> Judged
+    requires { ⌜ (length (now part) ≡ 256) × Ready shape ⌝ }
+    ensures { λ r. let rs = recordsIn layout (now (part .entry)) in ⌜ r ≡ judged (homeIn shape) (cond (homesTo (homeIn shape) address rs && rises (homeIn shape) rs) (some rs) none) ⌝ }
 {
-    let count = page.count;
-    let keys = page.keys;
-    let found = homes_of(page, shape);
+    let count = count_in(part, layout);
+    let keys = keys_in(part, layout, count);
+    let found = homes_of(count, keys, shape);
     let mut homes = [0; 12];
     let mut last_home = 0;
     let mut last_key = 0;
@@ -208,7 +223,8 @@ fn judge_records(page: Page, address: u64, shape: Shape) -> Judged
     }
     Judged {
         good: true,
-        page,
+        count,
+        keys,
         homes,
     }
 }
@@ -221,8 +237,7 @@ pub fn judge(part: &[u8], address: u32, layout: u8, shape: Shape) -> Judged
     if !well_formed(part, address, layout) {
         return broken();
     }
-    let page = parse(part, layout);
-    judge_records(page, address as u64, shape)
+    judge_records(part, address as u64, layout, shape)
 }
 
 fn put_head(part: &mut [u8], address: u32, layout: u8, count: usize)
@@ -268,6 +283,16 @@ pub fn judge_at(area: &[u8], a: usize, layout: u8, shape: Shape) -> Judged
 {
     let at = 256 * a;
     judge(&area[at..at + 256], a as u32, layout, shape)
+}
+
+// The value of a record on the page at an address.
+pub fn value_at(area: &[u8], a: usize, layout: u8, slot: usize) -> u64
+    requires { ⌜ (a < 4096) × (256 * (a + 1) ≤ length (now area)) × (slot < countIn layout (partAt (now area) a)) ⌝ }
+    ensures { λ r. ⌜ r ≡ value (getD (recordsIn layout (partAt (now (area .entry)) a)) slot vacant) ⌝ }
+{
+    let at = 256 * a;
+    let x = slot::get(&area[at..at + 256], layouts::slot_at(layout, slot), layout);
+    x.value
 }
 
 // What any bytes hold at the places of the records of the page at an address.

@@ -21,10 +21,8 @@ use Rattle.placing.specs.Lay.{one}
 use Rattle.placing.specs.Rows.{atHome, counts, leftOver}
 use Rattle.placing.proofs.Rows.{counts-length, counts-at}
 use Rattle.placing.proofs.Lists.{count-le}
-use Rattle.pages.specs.declared.Page.{Page}
 use Rattle.pages.specs.declared.Judged.{Judged}
-use Rattle.pages.specs.Page.{Record, key, vacant, homeFor, recordsIn, inMemory, judged}
-use Rattle.pages.specs.steps.Slots.{recordsOf}
+use Rattle.pages.specs.Page.{Record, key, vacant, homeFor, recordsIn, judged}
 use Rattle.pages.specs.Area.{partAt, heldFrom}
 use Rattle.pages.proofs.Rows.{row-at}
 use Rattle.pages.proofs.Read.{held-twelve}
@@ -111,23 +109,12 @@ module _ {new : NewHomes} {n : ℕ} {keys row₀ row : List ℕ} {seen : ℕ} {k
         done = rw (add-one i, take-suc keys i 0 m, map-append (newHome new) (take i keys) (k ∷ []), tally-append hs (newHome new k ∷ []) row₀, ← t .done, e);
       }
 
--- a page has as many keys as it says
-pub page-holds : (p : Page) (rs : List Record) → p ≡ inMemory rs → p .count ≤ length (p .keys)
-unfolding inMemory
-page-holds p rs e = rw (e, length-append, length-map) (omega arith)
-
--- and they are those of its records
-page-keys : (p : Page) (rs : List Record) → p ≡ inMemory rs → take (p .count) (p .keys) ≡ map key rs
-unfolding inMemory
-page-keys p rs e = rw (e, ← length-map rs key) (take-append-seam (map key rs) _)
-
--- all keys of a page counted are its records counted
-pub tally-ends : (count : Count) (new : NewHomes) → count ≡ Homes new → (p : Page) {row₀ row : List ℕ} {seen : ℕ} {keeps : Bool} {i : ℕ}
-    → Tallied new (p .count) (p .keys) row₀ row seen keeps i → p .count ≤ i → p ≡ inMemory (recordsOf p) → row ≡ tallied (homesOf count (recordsOf p)) row₀
-tally-ends count new is p {i = i} t l e =
-    let n : i ≡ p .count = omega (arith, t .low) in
-    let rs : List Record = recordsOf p in
-    t .done ∙ rw (n, page-keys p rs e, map-map (newHome new) key rs, is)
+-- all keys of a page counted
+pub tally-ends : (count : Count) (new : NewHomes) → count ≡ Homes new → {n : ℕ} {keys row₀ row : List ℕ} {seen : ℕ} {keeps : Bool} {i : ℕ}
+    → Tallied new n keys row₀ row seen keeps i → n ≤ i → row ≡ tallied (homesOf count (take n keys)) row₀
+tally-ends count new is {n = n} {i = i} t l =
+    let e : i ≡ n = omega (arith, t .low) in
+    t .done ∙ rw (e, is)
 
 module _ {R : Type 0} (home : R → ℕ) where
   -- to count records by their homes is to count their homes
@@ -150,20 +137,20 @@ module _ {R : Type 0} (home : R → ℕ) where
           ∙ (rw (getD-replicate {A = ℕ} n k 0 0 l, zero-add, at-homes s k))
           ∙ sym (rw z at (counts-at home s n 0 k l))
 
--- of two lists of records the homes of the one are counted, and then those of the other
-homes-append : (count : Count) (rs ss : List Record) → homesOf count (rs ++ ss) ≡ homesOf count rs ++ homesOf count ss
-homes-append Nothing rs ss = refl
-homes-append (Homes new) rs ss = map-append (homeFor (newHome new)) rs ss
+-- of two lists of keys the homes of the one are counted, and then those of the other
+homes-append : (count : Count) (ks ls : List ℕ) → homesOf count (ks ++ ls) ≡ homesOf count ks ++ homesOf count ls
+homes-append Nothing ks ls = refl
+homes-append (Homes new) ks ls = map-append (newHome new) ks ls
 
-homes-few : (count : Count) (rs : List Record) → length (homesOf count rs) ≤ length rs
-homes-few Nothing rs = omega arith
-homes-few (Homes new) rs = omega (arith, length-map rs (homeFor (newHome new)))
+homes-few : (count : Count) (ks : List ℕ) → length (homesOf count ks) ≤ length ks
+homes-few Nothing ks = omega arith
+homes-few (Homes new) ks = omega (arith, length-map ks (newHome new))
 
 -- the pages below a are counted, and those from a on are left to tally
 pub record ToCount (f : Layout) (count : Count) (area : List ℕ) (cap n : ℕ) (row : List ℕ) (a : ℕ) : Type 0 where
   pub long : length row ≡ n
   pub small : (k : ℕ) → getD row k 0 ≤ 12 * a
-  pub rest : tallied (homesOf count (cat (heldFrom f area (cap - a) a) [])) row ≡ tallied (homesOf count (cat (heldFrom f area cap 0) [])) (replicate n 0)
+  pub rest : tallied (homesOf count (map key (cat (heldFrom f area (cap - a) a) []))) row ≡ tallied (homesOf count (map key (cat (heldFrom f area cap 0) []))) (replicate n 0)
 
 -- a row of zeros is where they start
 pub count-starts : (f : Layout) (count : Count) (area : List ℕ) (cap m : ℕ) (row : List ℕ) → row ≡ replicate m 0 → ToCount f count area cap (length row) row 0
@@ -173,17 +160,18 @@ count-starts f count area cap m row e =
     record { long = refl; small = λ k. rw e (omega (arith, zeros m k)); rest = rw (z, l, e) }
 
 module _ {f : Layout} {count : Count} {area : List ℕ} {cap n : ℕ} {row : List ℕ} {a : ℕ} (c : ToCount f count area cap n row a) where
-  -- the records of page a counted
-  pub count-goes-on : {row′ : List ℕ} (rs : List Record) → rs ≡ recordsIn f (partAt area a) → a < cap → row′ ≡ tallied (homesOf count rs) row
+  -- the keys of page a counted
+  pub count-goes-on : {row′ : List ℕ} (ks : List ℕ) → ks ≡ map key (recordsIn f (partAt area a)) → a < cap → row′ ≡ tallied (homesOf count ks) row
       → ToCount f count area cap n row′ (a + 1)
-  count-goes-on {row′} rs is l e =
-      let js : List ℕ = homesOf count rs in
+  count-goes-on {row′} ks is l e =
+      let rs : List Record = recordsIn f (partAt area a) in
+      let js : List ℕ = homesOf count ks in
       let m : cap - a ≡ suc (cap - suc a) = omega arith in
       let more : List Record = cat (heldFrom f area (cap - suc a) (suc a)) [] in
       record {
         long = ap length e ∙ tally-length js row ∙ c .long;
-        small = λ k. rw e (omega (arith, tally-le js row k, c .small k, homes-few count rs, ap length is, held-twelve f (partAt area a)));
-        rest = rw (e, add-one a) (sym (tally-append js (homesOf count more) row)) ∙ rw (m, ← is, homes-append count rs more) at (c .rest);
+        small = λ k. rw e (omega (arith, tally-le js row k, c .small k, homes-few count ks, ap length is, length-map rs key, held-twelve f (partAt area a)));
+        rest = rw (e, add-one a) (sym (tally-append js (homesOf count (map key more)) row)) ∙ rw (m, map-append key rs more, ← is, homes-append count ks (map key more)) at (c .rest);
       }
 
   -- all counted
@@ -193,23 +181,33 @@ module _ {f : Layout} {count : Count} {area : List ℕ} {cap n : ℕ} {row : Lis
       rs : List Record
       rs = cat (heldFrom f area cap 0) []
 
-      go : (k : Count) → tallied (homesOf k []) row ≡ tallied (homesOf k rs) (replicate m 0) → Counts (Whole image records) k rs m row
+      go : (k : Count) → tallied (homesOf k []) row ≡ tallied (homesOf k (map key rs)) (replicate m 0) → Counts (Whole image records) k rs m row
       go Nothing e = tt
-      go (Homes new) e = e ∙ tally-counts (homeFor (newHome new)) rs m
+      go (Homes new) e = e ∙ rw (map-map (newHome new) key rs) (tally-counts (homeFor (newHome new)) rs m)
 
 -- a page that was judged, with its records
 module _ (h : ℕ → ℕ) (j : Judged) (rs : List Record) (e : j ≡ judged h (some rs)) where
-  pub judged-page : j .page ≡ inMemory rs
+  -- it has as many keys as it says
+  pub judged-count : j .count ≡ length rs
   unfolding judged
-  judged-page = rw e
+  judged-count = rw e
+
+  -- in a row of twelve
+  pub judged-long : length rs ≤ 12 → length (j .keys) ≡ 12
+  unfolding judged
+  judged-long l = rw (e, length-append, length-map, length-replicate) (omega arith)
+
+  -- and they are those of its records
+  pub judged-keys : take (j .count) (j .keys) ≡ map key rs
+  unfolding judged
+  judged-keys = rw (e, ← length-map rs key) (take-append-seam (map key rs) _)
 
   -- each stands there with its home
   stands-home : (k a : ℕ) → Stands j k a → h k ≡ a
-  unfolding judged inMemory
+  unfolding judged
   stands-home k a s =
-      let n : j .page .count ≡ length rs = rw e in
-      let b : s .slot < length rs = omega (arith, n, s .low) in
-      let f : getD (j .page .keys) (s .slot) 0 ≡ key (getD rs (s .slot) vacant) = rw e (row-at key rs _ (s .slot) vacant b) in
+      let b : s .slot < length rs = omega (arith, judged-count, s .low) in
+      let f : getD (j .keys) (s .slot) 0 ≡ key (getD rs (s .slot) vacant) = rw e (row-at key rs _ (s .slot) vacant b) in
       let g : getD (j .homes) (s .slot) 0 ≡ h (key (getD rs (s .slot) vacant)) = rw e (row-at (homeFor h) rs _ (s .slot) vacant b) in
       ap h (sym (s .key) ∙ f) ∙ sym g ∙ s .home
 

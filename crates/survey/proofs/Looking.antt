@@ -15,7 +15,7 @@ use Rattle.layouts.specs.Layout.{Layout, slotsOf}
 use Rattle.placing.specs.Image.{cat}
 use Rattle.placing.specs.Lay.{rankIn, ranked}
 use Rattle.pages.specs.declared.Judged.{Judged}
-use Rattle.pages.specs.Page.{Record, key, recordsIn, readPage, padded, inMemory, judged}
+use Rattle.pages.specs.Page.{Record, key, recordsIn, readPage, padded, judged}
 use Rattle.pages.specs.Area.{partAt, pagesFrom, heldFrom}
 use Rattle.pages.proofs.RoundTrip.{Good, read-good}
 use Rattle.survey.specs.declared.Seen.{Seen}
@@ -145,15 +145,15 @@ module _ (f : Layout) (h : ℕ → ℕ) (area : List ℕ) (cap : ℕ) where
         go (some rs) q k = absurd (let z : _≡_ {A = ℕ} 0 1 = cc in omega arith)
 
     -- a good one leaves those after it
-    pub survey-goes-on : j .good ≡ true → (t : Seen) → t ≡ looked f s a (j .page .count) (j .homes) (j .page .keys) → ToSurvey t (a + 1)
-    unfolding judged inMemory
+    pub survey-goes-on : j .good ≡ true → (t : Seen) → t ≡ looked f s a (j .count) (j .homes) (j .keys) → ToSurvey t (a + 1)
+    unfolding judged
     survey-goes-on b t n = go (pageAt a) refl e
       where
         go : (o : Option (List Record)) → pageAt a ≡ o → j ≡ judged h o → ToSurvey t (a + 1)
         go none q k = absurd (let z : _≡_ {A = ℕ} 0 1 = cc in omega arith)
         go (some rs) q k =
             let g : Good f h a (partAt area a) rs = read-good f h a (partAt area a) rs q in
-            let m : t ≡ after f h s a rs = n ∙ ap (λ (i : Judged). looked f s a (i .page .count) (i .homes) (i .page .keys)) k in
+            let m : t ≡ after f h s a rs = n ∙ ap (λ (i : Judged). looked f s a (i .count) (i .homes) (i .keys)) k in
             let rest : List (List Record) = heldFrom f area (cap - suc a) (suc a) in
             let w : lowestBroken (suc a) (pagesFrom f h area (cap - suc a) (suc a)) ≡ lowestBroken 0 (pagesFrom f h area cap 0) = rw (more, q) at (left .0) in
             let i : decides f h s a (rs ∷ rest) ≡ isImage f h (heldFrom f area cap 0) = rw (more, ← g .records) at (left .1) in

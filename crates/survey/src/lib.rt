@@ -6,14 +6,12 @@ use pages::Judged;
 ghost use mathlib.Core.Path.{_≡_};
 ghost use mathlib.Core.List.{[]};
 ghost use Prim.Native.Nat.{ℕ, _*_, _≤_};
-ghost use lib.ListN.{length, getD, replicate};
+ghost use lib.ListN.{length, take, getD, replicate};
 ghost use lib.Dec.{eqb};
 ghost use Rattle.homes.specs.Homes.{Ready, homeIn};
 ghost use Rattle.layouts.specs.Layout.{slotsOf};
 ghost use Rattle.placing.specs.Image.{cat};
 ghost use Rattle.placing.specs.Rows.{leftOver};
-ghost use Rattle.pages.specs.Page.{inMemory};
-ghost use Rattle.pages.specs.steps.Slots.{recordsOf};
 ghost use Rattle.pages.specs.Area.{heldFrom};
 ghost use Rattle.survey.specs.Survey.{surveyed};
 ghost use Rattle.survey.specs.steps.Looks.{unseen, looked, tallied};
@@ -59,13 +57,12 @@ fn unseen() -> Seen
 
 // What has been seen after page a.
 fn look(seen: Seen, judged: Judged, a: usize, layout: u8) -> Seen
-    requires { ⌜ (judged .page .count ≤ 12) × (seen .records ≤ 49152) ⌝ }
-    ensures { λ r. ⌜ r ≡ looked layout seen a (judged .page .count) (judged .homes) (judged .page .keys) ⌝ }
+    requires { ⌜ (judged .count ≤ 12) × (seen .records ≤ 49152) ⌝ }
+    ensures { λ r. ⌜ r ≡ looked layout seen a (judged .count) (judged .homes) (judged .keys) ⌝ }
 {
     let homes = judged.homes;
-    let page = judged.page;
-    let keys = page.keys;
-    let count = page.count;
+    let keys = judged.keys;
+    let count = judged.count;
     let records = seen.records + count as u32;
     if count == 0 {
         return Seen {
@@ -101,21 +98,20 @@ fn clear(row: &mut [u32])
     }
 }
 
-// The records of a judged page, counted by their new homes, if that is wanted. Where a page keeps
+// The keys of a judged page, counted by their new homes, if that is wanted. Where a page keeps
 // its keys their homes are known, and that is asked once for a run of them; others are worked out.
 fn tally(judged: Judged, count: Count, row: &mut [u32])
-    requires { ⌜ (judged .page .count ≤ 12) × (judged .page ≡ inMemory (recordsOf (judged .page))) × ((k : ℕ) → getD (now row) k 0 ≤ 49152) ⌝ }
+    requires { ⌜ (judged .count ≤ 12) × (length (judged .keys) ≡ 12) × ((k : ℕ) → getD (now row) k 0 ≤ 49152) ⌝ }
     requires { ⌜ Countable count (Stands judged) (length (now row)) ⌝ }
-    ensures { λ _. ⌜ now (row .exit) ≡ tallied (homesOf count (recordsOf (judged .page))) (now (row .entry)) ⌝ }
+    ensures { λ _. ⌜ now (row .exit) ≡ tallied (homesOf count (take (judged .count) (judged .keys))) (now (row .entry)) ⌝ }
 {
     let Count::Homes { new } = count else {
         return;
     };
     let shape = new.shape;
     let homes = judged.homes;
-    let page = judged.page;
-    let held = page.count;
-    let keys = page.keys;
+    let held = judged.count;
+    let keys = judged.keys;
     let mut seen = shape.p;
     let mut keeps = false;
     let mut i = 0;

@@ -72,11 +72,11 @@ pub fn meet_from(area: &[u8], cap: usize, shape: Shape, home: u64, key: u64) -> 
         if !judged.good {
             break 'pages Met::Broken { page: a, read };
         }
-        let page = judged.page;
-        let count = page.count;
+        let count = judged.count;
+        let keys = judged.keys;
         let homes = judged.homes;
         for slot in 0..SLOTS {
-            if (slot == count) | pages::before(home, key, homes[slot], page.keys[slot]) {
+            if (slot == count) | pages::before(home, key, homes[slot], keys[slot]) {
                 break 'pages Met::Ends {
                     page: a,
                     at: slot,
@@ -84,8 +84,8 @@ pub fn meet_from(area: &[u8], cap: usize, shape: Shape, home: u64, key: u64) -> 
                     read,
                 };
             }
-            if page.keys[slot] == key {
-                let value = page.values[slot];
+            if keys[slot] == key {
+                let value = pages::value_at(area, a, IN_USE, slot);
                 break 'pages Met::Found {
                     page: a,
                     slot,

@@ -41,8 +41,7 @@ fn reach(area: &[u8], cap: usize, shape: Shape, first: usize, at: usize, seen: u
                 },
             };
         }
-        let page = judged.page;
-        if page.count < SLOTS {
+        if judged.count < SLOTS {
             return Plan::Go {
                 first,
                 at,

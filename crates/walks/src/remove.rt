@@ -39,9 +39,8 @@ fn reach_back(area: &[u8], cap: usize, shape: Shape, first: usize, at: usize, se
                 },
             };
         }
-        let page = judged.page;
         let homes = judged.homes;
-        if (page.count == 0) | (a < homes[0] as usize) {
+        if (judged.count == 0) | (a < homes[0] as usize) {
             return Plan::Go {
                 first,
                 at,
@@ -50,7 +49,7 @@ fn reach_back(area: &[u8], cap: usize, shape: Shape, first: usize, at: usize, se
             };
         }
         a += 1;
-        if page.count < SLOTS {
+        if judged.count < SLOTS {
             return Plan::Go {
                 first,
                 at,

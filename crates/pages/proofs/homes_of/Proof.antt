@@ -19,8 +19,8 @@ returns c i l = absurd (omega arith)
 
 returns-2 : tie.Need-returns-2
 returns-2 c i l =
-    let b = c .before .before .before .before in
-    at-place (homeIn (b .args .shape)) (b .args .page .keys) _ (c .homes .ensures) i (omega (arith, b .pre .0, b .pre .1))
+    let b = c .before .before in
+    at-place (homeIn (b .args .shape)) (b .args .keys) _ (c .homes .ensures) i (omega (arith, b .pre .0))
 
 pub homes-of-spec : {M : Type 1} → statement M
 homes-of-spec = tie.close (tie.spec returns (λ c κs. search needs) returns-2)

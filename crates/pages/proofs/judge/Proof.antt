@@ -4,7 +4,6 @@ use mathlib.Core.Path.{sym, _∙_}
 use borrow.Author.Tests.{not-true, not-false}
 use borrow.Author.Needs.{needs}
 use Rattle.homes.specs.Homes.{homeIn}
-use Rattle.pages.proofs.Read.{held-twelve, ready}
 use Rattle.pages.proofs.Judging.{judged-unformed, judged-formed}
 use Rattle.pages.proofs.judge.Statement.{statement}
 use Rattle.pages.proofs.judge.Tie as tie
@@ -14,17 +13,11 @@ returns c =
     let a = c .before .before .before .before .args in
     judged-unformed (a .layout) (homeIn (a .shape)) (a .address) (now (a .part)) _ (sym (c .before .before .well-formed .ensures) ∙ not-true _ (c .before .if1 .taken)) (c .broken .ensures)
 
-judge-records-requires : tie.Need-judge-records-requires
-judge-records-requires c κs =
-    let s = c .before .before .before .before in
-    let is = ready (c .parse .result) _ (c .parse .ensures) (held-twelve (s .args .layout) (now (s .args .part))) in
-    (is .0, is .1, s .pre .1)
-
 returns-2 : tie.Need-returns-2
 returns-2 c =
-    let a = c .before .before .before .before .before .args in
-    judged-formed (a .layout) (homeIn (a .shape)) (a .address) (now (a .part)) _ (c .before .parse .result)
-    (sym (c .before .before .before .well-formed .ensures) ∙ not-false _ (c .before .before .if1 .left)) (c .before .parse .ensures) (c .judge-records .ensures)
+    let a = c .before .before .before .before .args in
+    judged-formed (a .layout) (homeIn (a .shape)) (a .address) (now (a .part)) _
+    (sym (c .before .before .well-formed .ensures) ∙ not-false _ (c .before .if1 .left)) (c .judge-records .ensures)
 
 pub judge-spec : {M : Type 1} → statement M
 judge-spec =
@@ -34,5 +27,4 @@ judge-spec =
     (λ c κs. search needs)
     returns
     (λ c κs. search needs)
-    judge-records-requires
     returns-2)

@@ -4,7 +4,7 @@
 -- The measure is how many pages are left.
 use mathlib.Core.Path.{_≡_, ap, _∙_}
 use mathlib.Core.Option.{some}
-use Prim.Native.Nat.{_-_}
+use Prim.Native.Nat.{_-_, _≤_}
 use native.Mathlib.Omega.{arith}
 use denote.Ref.{now}
 use lib.ListN.{length, length-replicate}
@@ -13,10 +13,9 @@ use borrow.Author.Needs.{needs}
 use Rattle.homes.specs.Homes.{homeIn}
 use Rattle.pages.specs.Page.{recordsIn, judged}
 use Rattle.pages.specs.Area.{partAt}
-use Rattle.pages.proofs.Read.{held-twelve, ready}
-use Rattle.pages.proofs.Memory.{page-records}
+use Rattle.pages.proofs.Read.{held-twelve}
 use Rattle.survey.proofs.Looking.{ToSurvey, survey-starts, judged-held, survey-breaks, survey-goes-on, survey-ends}
-use Rattle.survey.proofs.Counting.{ToCount, count-starts, count-goes-on, count-ends, judged-page, page-countable}
+use Rattle.survey.proofs.Counting.{ToCount, count-starts, count-goes-on, count-ends, judged-count, judged-long, judged-keys, page-countable}
 use Rattle.survey.proofs.survey.Statement.{statement}
 use Rattle.survey.proofs.survey.Tie as tie
 
@@ -54,18 +53,20 @@ held c =
     let a = c .before .before .before .before .before .before .before .before .before .before .before .before .args in
     judged-held (a .layout) (homeIn (a .shape)) (now (a .area)) (a .cap) (c .before .before .before .before .loop .a) _ (c .before .before .judge-at .ensures) (not-false _ (c .if1 .left))
 
+few : (c : tie.Else1 Inv-loop μ-loop) → c .before .before .judge-at .result .count ≤ 12
+few c = omega (arith, judged-count _ _ _ (held c), held-twelve (c .before .before .before .before .before .before .before .before .before .before .before .before .args .layout) _)
+
 look-requires : tie.Need-look-requires Inv-loop μ-loop
 look-requires c κs =
     let l = c .before .before .before .before .loop in
-    (ready _ _ (judged-page _ _ _ (held c)) (held-twelve _ _) .0, omega (arith, l .inv .0 .3))
+    (few c, omega (arith, l .inv .0 .3))
 
 tally-requires : tie.Need-tally-requires Inv-loop μ-loop
 tally-requires c κs =
     let e = c .before .before in
     let l = c .before .before .before .before .before .before in
-    let b = c .before .before .before .before .before .before .before .before .before .before .before .before .before .before in
-    let p = ready _ _ (judged-page _ _ _ (held e)) (held-twelve _ _) in (
-      (p .0, p .1, λ k. omega (arith, l .loop .inv .1 .small k, c .before .before .before .before .before .loop-test .taken, b .pre .0)),
+    let b = c .before .before .before .before .before .before .before .before .before .before .before .before .before .before in (
+      (few e, judged-long _ _ _ (held e) (held-twelve _ _), λ k. omega (arith, l .loop .inv .1 .small k, c .before .before .before .before .before .loop-test .taken, b .pre .0)),
       page-countable _ _ _ (held e) (b .args .count) _ _ (long l) (b .pre .3),
     )
 
@@ -79,7 +80,7 @@ loop-again c =
     let l = c .before .before .before .before .before .before .before .before .before .loop in
     let a = c .before .before .before .before .before .before .before .before .before .before .before .before .before .before .before .before .before .args in (
       survey-goes-on (a .layout) (homeIn (a .shape)) (now (a .area)) (a .cap) (l .seen) (l .a) t (l .inv .0) _ (e .before .before .judge-at .ensures) (not-false _ (e .if1 .left)) _ (c .before .before .before .before .look .ensures),
-      count-goes-on (l .inv .1) _ (page-records _ _ (judged-page _ _ _ (held e))) t (c .before .before .tally .ensures),
+      count-goes-on (l .inv .1) _ (judged-keys _ _ _ (held e)) t (c .before .before .tally .ensures),
     )
 
 same-length-2 : tie.Need-same-length-2 Inv-loop μ-loop

@@ -13,7 +13,7 @@ use Rattle.homes.specs.steps.NewHomes.{newHome, keepsAt}
 use Rattle.homes.proofs.Homes.{home-below}
 use Rattle.survey.specs.declared.Count.the-variants.{Homes}
 use Rattle.survey.specs.steps.Counts.{Countable, Stands}
-use Rattle.survey.proofs.Counting.{new-home, Tallied, tally-starts, part-length, part-le, tally-goes-on, page-holds, tally-ends}
+use Rattle.survey.proofs.Counting.{new-home, Tallied, tally-starts, part-length, part-le, tally-goes-on, tally-ends}
 use Rattle.survey.proofs.tally.Statement.{statement}
 use Rattle.survey.proofs.tally.Tie as tie
 
@@ -52,7 +52,7 @@ asked c =
 
 -- so it is the home of its key
 at-home : (c : tie.Joined2 Inv-loop μ-loop)
-    → c .if2 .to ≡ newHome (top (c .before .before .before) .count .given .0 .0) (getD (top (c .before .before .before) .before .before .before .args .judged .page .keys) (c .before .before .before .loop .i) 0)
+    → c .if2 .to ≡ newHome (top (c .before .before .before) .count .given .0 .0) (getD (top (c .before .before .before) .before .before .before .args .judged .keys) (c .before .before .before .loop .i) 0)
 at-home c =
     let l = c .before .before .before in
     let a = asked (c .before) in
@@ -64,7 +64,7 @@ inside : (c : tie.Joined2 Inv-loop μ-loop) → c .if2 .to < length (c .before .
 inside c =
     let l = c .before .before .before in
     let w = known (top l) in
-    omega (arith, part-length (l .loop .inv), at-home c, w .1, home-below _ _ (getD (top l .before .before .before .args .judged .page .keys) (l .loop .i) 0) (w .0 .ready))
+    omega (arith, part-length (l .loop .inv), at-home c, w .1, home-below _ _ (getD (top l .before .before .before .args .judged .keys) (l .loop .i) 0) (w .0 .ready))
 
 mul-row : tie.Need-mul-row Inv-loop μ-loop
 mul-row c =
@@ -85,8 +85,7 @@ loop-again c =
     let l = c .before .before .before .before .before in
     let b = top l .before .before .before in
     let t = c .before .before .before .before .loop-test .taken in
-    let m = page-holds (b .args .judged .page) _ (b .pre .0 .1) in
-    tally-goes-on (l .loop .inv) t (omega arith) (asked (c .before .before .before) .1) (at-home (c .before .before))
+    tally-goes-on (l .loop .inv) t (omega (arith, b .pre .0 .0, b .pre .0 .1)) (asked (c .before .before .before) .1) (at-home (c .before .before))
 
 same-length : tie.Need-same-length Inv-loop μ-loop
 same-length c = part-length (c .before .loop .inv)
@@ -95,7 +94,7 @@ returns-2 : tie.Need-returns-2 Inv-loop μ-loop
 returns-2 c =
     let k = top (c .before) in
     let b = k .before .before .before in
-    tally-ends (b .args .count) _ (k .count .given .1) (b .args .judged .page) (c .before .loop .inv) (c .loop-test .left) (b .pre .0 .1)
+    tally-ends (b .args .count) _ (k .count .given .1) (c .before .loop .inv) (c .loop-test .left)
 
 pub tally-spec : {M : Type 1} → statement M
 tally-spec =

@@ -14,10 +14,10 @@ use Rattle.survey.specs.declared.Verdict.{Verdict}
 use Rattle.survey.specs.declared.Verdict.the-variants.{Whole}
 use Rattle.survey.specs.declared.Verdict.the-variants as verdicts
 
--- the homes that are counted of these records
-abbrev pub homesOf : Count → List Record → List ℕ
-homesOf Nothing rs = []
-homesOf (Homes new) rs = map (homeFor (newHome new)) rs
+-- the homes that are counted of these keys
+abbrev pub homesOf : Count → List ℕ → List ℕ
+homesOf Nothing ks = []
+homesOf (Homes new) ks = map (newHome new) ks
 
 -- what a survey leaves in a row of n counts, where no page is broken and homes are counted: "the
 -- number of records of each home"
@@ -35,6 +35,6 @@ Countable (Homes new) had n = Usable new × (new .shape .p ≤ n) × (n ≤ 4096
 -- key k stands on a judged page, with home a
 pub record Stands (j : Judged) (k a : ℕ) : Type 0 where
   pub slot : ℕ
-  pub low : slot < j .page .count
-  pub key : getD (j .page .keys) slot 0 ≡ k
+  pub low : slot < j .count
+  pub key : getD (j .keys) slot 0 ≡ k
   pub home : getD (j .homes) slot 0 ≡ a

@@ -1,5 +1,5 @@
 -- The laws of little-endian numbers and of writes at an offset, once over the width.
-use mathlib.Core.Path.{_≡_, refl, ap, _∙_}
+use mathlib.Core.Path.{_≡_, refl, sym, ap, _∙_}
 use mathlib.Core.List.{List, [], _∷_, _++_, append-assoc, append-nil}
 use Prim.Native.Nat.{ℕ, zero, suc, _+_, _*_, _-_, _/_, _%_, _^_, _≤_, _<_}
 use native.Mathlib.Nat.{add-assoc, add-zero, zero-add, pow-suc}
@@ -167,6 +167,18 @@ written-written l at v w h =
     rw
     (written-front l at v h, ← drop-drop (length w) (at + length v), written-after l at v h, drop-drop, length-append, add-assoc)
     (simp append-assoc)
+
+-- and so are two where the first begins where the second ends
+pub written-before : (l : List ℕ) (at : ℕ) (v w : List ℕ) → at + length v ≤ length l
+    → written (written l (at + length v) w) at v ≡ written l at (v ++ w)
+unfolding written
+written-before l at v w h =
+    let n : ℕ = at + length v in
+    let rest : List ℕ = w ++ drop (n + length w) l in
+    let k : length (take n l) ≡ n = length-take-le n l h in
+    let low : take at (take n l ++ rest) ≡ take at l =
+    take-append-le at (take n l) rest (omega arith) ∙ sym (take-append-le at (take n l) (drop n l) (omega arith)) ∙ rw take-append-drop in
+    rw (low, drop-at (take n l) rest n k, length-append, ← add-assoc) (simp append-assoc)
 
 -- a byte stored is a write of one byte
 pub written-one : (l : List ℕ) (at b : ℕ) → at < length l → set l at b ≡ written l at (b ∷ [])

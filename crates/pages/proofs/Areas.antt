@@ -20,6 +20,13 @@ pub part-length : (area : List ℕ) (a : ℕ) → 256 * (a + 1) ≤ length area 
 unfolding partAt
 part-length area a h = simp (length-take, length-drop) (omega arith)
 
+-- what is lent of an area from a page's first byte to its last is the page's part
+pub lent-part : (area : List ℕ) (a : ℕ) → take (256 * a + 256 - 256 * a) (drop (256 * a) area) ≡ partAt area a
+unfolding partAt
+lent-part area a =
+    let n : 256 * a + 256 - 256 * a ≡ 256 = omega arith in
+    rw n
+
 -- a part that lies in the first of two lists
 part-left : (s t : List ℕ) (b : ℕ) → 256 * (b + 1) ≤ length s → partAt (s ++ t) b ≡ partAt s b
 unfolding partAt

@@ -10,7 +10,7 @@ use Rattle.layouts.specs.Layout.{Layout, slotsOf, slotAt, widthOf}
 use Rattle.layouts.proofs.Lying.{slot-fits, width-low}
 use Rattle.placing.specs.Image.{All}
 use Rattle.placing.proofs.Lists.{all-map}
-use Rattle.pages.specs.Page.{Record, key, runAt, recordsFrom, countIn, recordsIn}
+use Rattle.pages.specs.Page.{key, runAt, recordsFrom, countIn, recordsIn}
 use Rattle.pages.specs.Small.{RunFits, Small}
 use Rattle.pages.specs.Area.{partAt}
 
@@ -27,11 +27,15 @@ module _ (f : Layout) where
         small-from l e b n (suc i) (omega arith),
       )
 
+  pub held-small : (l : List ℕ) → length l ≡ 256 → Bytes l → All (Small f) (recordsIn f l)
+  unfolding recordsIn
+  held-small l e b = small-from l e b (countIn f l) 0 (omega arith)
+
   -- those of a page in an area
   pub part-small : (area : List ℕ) (a : ℕ) → 256 * (a + 1) ≤ length area → Bytes area → All (Small f) (recordsIn f (partAt area a))
-  unfolding recordsIn partAt
+  unfolding partAt
   part-small area a h b =
-      small-from (partAt area a) (length-part 256 area (256 * a) (omega arith)) (bytes-take 256 (drop (256 * a) area) (bytes-drop (256 * a) area b)) (countIn f (partAt area a)) 0 (omega arith)
+      held-small (partAt area a) (length-part 256 area (256 * a) (omega arith)) (bytes-take 256 (drop (256 * a) area) (bytes-drop (256 * a) area b))
 
   pub keys-small : (area : List ℕ) (a : ℕ) → 256 * (a + 1) ≤ length area → Bytes area → All (λ x. key x < 2 ^ 64) (recordsIn f (partAt area a))
   keys-small area a h b = all-map (Small f) (λ x. key x < 2 ^ 64) (λ x k. k .0) (recordsIn f (partAt area a)) (part-small area a h b)

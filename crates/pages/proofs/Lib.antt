@@ -4,6 +4,8 @@ pub mod Held
 pub mod Read
 pub mod Write
 pub mod Seeking
+pub mod Shifting
+pub mod Moving
 pub mod Judging
 pub mod Bounds
 pub mod RoundTrip

@@ -73,6 +73,15 @@ module _ {R : Type 0} (rank : R → ℕ) where
   pub back-ahead : (r : ℕ) (d : R) (s : List R) → Sorted rank s → upToBack rank r d s (length s) ≡ ahead rank r s
   back-ahead r d s h = omega (arith, up-to r d s h (length s) (omega arith), ahead-le r s)
 
+  -- and it is one among the records
+  pub back-le : (r : ℕ) (d : R) (s : List R) (n : ℕ) → upToBack rank r d s n ≤ n
+  back-le r d s zero = omega arith
+  back-le r d s (suc n) = go (ltb (rank (getD s n d)) r) (back-le r d s n)
+    where
+      go : (u : Bool) → upToBack rank r d s n ≤ n → cond u (suc n) (upToBack rank r d s n) ≤ suc n
+      go true ih = omega arith
+      go false ih = omega arith
+
   last-high : (r : ℕ) (y : R) (s : List R) → All (λ w. r < rank w) (y ∷ s) → lastAfter rank r (y ∷ s) ≡ true
   last-high r y [] h = lt-ltb r (rank y) (h .0)
   last-high r y (w ∷ s) h = last-high r w s (h .1)

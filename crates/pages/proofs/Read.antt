@@ -3,19 +3,19 @@
 use mathlib.Core.Path.{_≡_, refl, sym, ap, _∙_}
 use mathlib.Core.Bool.{Bool, true, false, cond, _&&_, and-true}
 use mathlib.Core.List.{List, [], _∷_, _++_, map}
-use Prim.Native.Nat.{ℕ, zero, suc, _+_, _*_, _-_, _≤_, _<_}
+use Prim.Native.Nat.{ℕ, zero, suc, _+_, _-_, _≤_, _<_}
 use native.Mathlib.Nat.{add-assoc, add-zero, zero-add, sub-zero}
 use native.Mathlib.Numerals.{add-one}
 use native.Mathlib.Omega.{arith}
 use borrow.Author.Tests.{eq-eqb, ltb-true, ltb-false}
 use lib.Dec.{eqb, ltb}
-use lib.ListN.{length, drop, getD, set, replicate, length-map, length-replicate, replicate-append-replicate}
+use lib.ListN.{length, drop, getD, set, replicate, length-map, length-replicate, replicate-append-replicate, List·getD-eq-default}
 use lib.Seq.{sets, sets-eq}
 use Rattle.numbers.specs.Little.{numberAt}
 use Rattle.numbers.specs.Fields.{Field, width, matches}
 use Rattle.numbers.proofs.Records.{matches-append}
 use Rattle.layouts.specs.Layout.{Layout, kindOf, slotsOf, widthOf, slotAt}
-use Rattle.layouts.proofs.Lying.{slots-few, slot-first, slot-next}
+use Rattle.layouts.proofs.Lying.{slots-few, slot-first, slot-next, slot-fits, width-low}
 use Rattle.pages.specs.declared.Page.{Page}
 use Rattle.pages.specs.Page.{Record, key, value, run, runAt, vacant, head, slot, recordSlot, emptySlot, slots, recordIn, recordsFrom, countIn, recordsIn, wellFormed, padded, inMemory}
 use Rattle.pages.specs.steps.Slots.{recordsOf}
@@ -72,22 +72,30 @@ module _ (f : Layout) where
   length-records zero i l = refl
   length-records (suc n) i l = ap suc (length-records n (suc i) l)
 
-  -- the record of a slot is what stands in it
-  pub record-at : (n i : ℕ) (l : List ℕ) (j : ℕ) → j < n → getD (recordsFrom f n i l) j vacant ≡ recordIn f l (slotAt f (i + j))
-  record-at zero i l j h = absurd (omega arith)
-  record-at (suc n) i l zero h = rw add-zero
-  record-at (suc n) i l (suc j) h =
-      let e : suc i + j ≡ i + suc j = omega arith in
-      rw (← e) (record-at n (suc i) l j (omega arith))
-
-  pub held-at : (l : List ℕ) (j : ℕ) → j < countIn f l → getD (recordsIn f l) j vacant ≡ recordIn f l (slotAt f j)
-  unfolding recordsIn
-  held-at l j h = record-at (countIn f l) 0 l j h ∙ rw zero-add
-
   -- a page's bytes hold as many records as they say, at most as many as there are slots
   pub length-held : (l : List ℕ) → length (recordsIn f l) ≡ countIn f l
   unfolding recordsIn
   length-held l = length-records (countIn f l) 0 l
+
+  -- the record of a slot is what stands in it
+  record-at : (n i : ℕ) (l : List ℕ) (j : ℕ) (d : Record) → j < n → getD (recordsFrom f n i l) j d ≡ recordIn f l (slotAt f (i + j))
+  record-at zero i l j d h = absurd (omega arith)
+  record-at (suc n) i l zero d h = rw add-zero
+  record-at (suc n) i l (suc j) d h =
+      let e : suc i + j ≡ i + suc j = omega arith in
+      rw (← e) (record-at n (suc i) l j d (omega arith))
+
+  pub held-at : (l : List ℕ) (j : ℕ) (d : Record) → j < countIn f l → getD (recordsIn f l) j d ≡ recordIn f l (slotAt f j)
+  unfolding recordsIn
+  held-at l j d h = record-at (countIn f l) 0 l j d h ∙ rw zero-add
+
+  -- and lies on the page
+  pub slot-lies : (l : List ℕ) (j : ℕ) → length l ≡ 256 → j < countIn f l → (j ≤ 12) × (slotAt f j + 20 ≤ length l) × (slotAt f j + widthOf f ≤ length l)
+  slot-lies l j n h = (omega (arith, slots-few f .1), omega (arith, slot-fits f j (omega arith), width-low f), omega (arith, slot-fits f j (omega arith)))
+
+  -- past the records there is none
+  pub held-past : (l : List ℕ) (j : ℕ) (d : Record) → countIn f l ≤ j → getD (recordsIn f l) j d ≡ d
+  held-past l j d h = List·getD-eq-default (recordsIn f l) d {n = j} (omega (arith, length-held l))
 
   pub held-few : (l : List ℕ) → length (recordsIn f l) ≤ slotsOf f
   held-few l = omega (arith, length-held l)

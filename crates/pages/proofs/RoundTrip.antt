@@ -4,7 +4,7 @@ use mathlib.Core.Path.{_≡_, refl, sym, _∙_}
 use mathlib.Core.Bool.{Bool, true, false, cond, _&&_}
 use mathlib.Core.Option.{none, some}
 use mathlib.Core.List.{List, [], _∷_, _++_, append-nil}
-use Prim.Native.Nat.{ℕ, zero, suc, _+_, _*_, _^_, _≤_, _<_}
+use Prim.Native.Nat.{ℕ, zero, suc, _+_, _^_, _≤_, _<_}
 use native.Mathlib.Omega.{arith}
 use lib.ListN.{length}
 use lib.Seq.{take-all}
@@ -15,10 +15,13 @@ use Rattle.placing.specs.Image.{All}
 use Rattle.placing.proofs.Seek.{clash}
 use Rattle.layouts.specs.Layout.{Layout, kindOf, slotsOf, widthOf, slotAt}
 use Rattle.layouts.proofs.Lying.{slots-few, slot-first, slot-next, width-small, kind-small}
+use Rattle.pages.proofs.Rows.{closed-few, all-closed}
 use Rattle.pages.proofs.Read.{slot-width, held-few}
+use Rattle.pages.proofs.Bounds.{held-small}
 use Rattle.pages.proofs.Write.{fields-width}
 use Rattle.pages.specs.Page.{Record, key, value, run, runField, runAt, vacant, slot, recordSlot, slots, fields, pageBytes, recordIn, recordsFrom, countIn, recordsIn, wellFormed, homesTo, rises, readPage}
 use Rattle.pages.specs.Small.{RunFits, Small}
+use Rattle.pages.specs.Places.{closed}
 
 fit-run : (f : Layout) (r : ℕ) → RunFits f r → Fit (runField f r)
 fit-run zero r k = tt
@@ -94,7 +97,7 @@ module _ (f : Layout) where
         let s : matches l 16 all ≡ true = match-rest 4 0 all l 12 (match-rest 2 0 ((4, 0) ∷ all) l 10 m) in
         rw c (slots-say (slotsOf f) 0 rs l few small (rw slot-first s))
 
-    page-formed : a < 2 ^ 32 → wellFormed f a (pageBytes f a rs) ≡ true
+    pub page-formed : a < 2 ^ 32 → wellFormed f a (pageBytes f a rs) ≡ true
     unfolding wellFormed pageBytes
     page-formed fits =
         let fit : Fit (fields f a rs) = (omega arith, (omega (arith, kind-small f), (fits, fit-counted rs few small))) in
@@ -135,11 +138,25 @@ read-good f h a l rs e = go (wellFormed f a l && (homesTo h a (recordsIn f l) &&
           rising = rw q (and-right (homesTo h a (recordsIn f l)) (rises h (recordsIn f l)) r);
         }
 
--- the bytes of a good page are those that its records are written as
-pub read-bytes : (f : Layout) (h : ℕ → ℕ) (a : ℕ) (l : List ℕ) (rs : List Record) → readPage f h a l ≡ some rs → length l ≡ 256 → Bytes l → l ≡ pageBytes f a rs
+-- bytes that are well formed are those that the records that they hold are written as
+pub formed-bytes : (f : Layout) (a : ℕ) (l : List ℕ) → wellFormed f a l ≡ true → length l ≡ 256 → Bytes l → l ≡ pageBytes f a (recordsIn f l)
 unfolding pageBytes wellFormed
-read-bytes f h a l rs e n b =
-    let g : Good f h a l rs = read-good f h a l rs e in
-    let m : matches l 0 (fields f a rs) ≡ true = rw (g .records) (g .formed) in
+formed-bytes f a l m n b =
+    let rs : List Record = recordsIn f l in
     let w : width (fields f a rs) ≡ 256 = fields-width f a rs in
     sym (take-all (width (fields f a rs)) l (omega arith)) ∙ matches-sound (fields f a rs) l 0 b (omega arith) m
+
+-- so are those of a good page
+pub read-bytes : (f : Layout) (h : ℕ → ℕ) (a : ℕ) (l : List ℕ) (rs : List Record) → readPage f h a l ≡ some rs → length l ≡ 256 → Bytes l → l ≡ pageBytes f a rs
+read-bytes f h a l rs e n b =
+    let g : Good f h a l rs = read-good f h a l rs e in
+    rw (g .records) (formed-bytes f a l (g .formed) n b)
+
+-- a record taken out of a page that holds what its bytes say leaves such a page
+pub page-shut : (f : Layout) (a : ℕ) (l m : List ℕ) (at : ℕ) → a < 2 ^ 32 → length l ≡ 256 → Bytes l → m ≡ pageBytes f a (closed at (recordsIn f l))
+    → (recordsIn f m ≡ closed at (recordsIn f l)) × (wellFormed f a m ≡ true)
+page-shut f a l m at low n b e =
+    let rs : List Record = recordsIn f l in
+    let few : length (closed at rs) ≤ slotsOf f = omega (arith, closed-few at rs, held-few f l) in
+    let small : All (Small f) (closed at rs) = all-closed (Small f) at rs (held-small f l n b) in
+    (rw e (records-bytes f a (closed at rs) few small), rw e (page-formed f a (closed at rs) few small low))

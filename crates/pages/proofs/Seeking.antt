@@ -9,11 +9,10 @@ use native.Mathlib.Omega.{arith}
 use borrow.Author.Tests.{ltb-true, ltb-false, eqb-true, eqb-false, lt-ltb, le-ltb, le-leb, lt-leb}
 use lib.Dec.{eqb, ltb, leb}
 use lib.ListN.{length, drop, getD}
-use Rattle.pages.specs.declared.Page.{Page}
 use Rattle.pages.specs.Page.{Record, key, vacant, homeFor, rank, padded}
 use Rattle.placing.specs.Lay.{ranked}
 use Rattle.pages.specs.Places.{ahead}
-use Rattle.pages.specs.steps.Slots.{upToBack, paired, recordsOf}
+use Rattle.pages.specs.steps.Slots.{upToBack, paired}
 use Rattle.pages.proofs.Rows.{row-at}
 
 -- the order of (home, key) is that of the ranks
@@ -51,10 +50,6 @@ module _ (f : ℕ → ℕ) (n i r : ℕ) where
   passed-all h =
       let e : n - i ≡ 0 = omega arith in
       rw e
-
--- the rank at a place of a row of keys, whose homes are worked out
-abbrev pub keyRank : (ℕ → ℕ) → List ℕ → ℕ → ℕ
-keyRank h ks j = ranked (h (getD ks j 0)) (getD ks j 0)
 
 module _ {R : Type 0} (rk : R → ℕ) (f : ℕ → ℕ) (r : ℕ) (d : R) where
   -- the places passed are the records ahead in a list that has those ranks
@@ -97,48 +92,35 @@ pub homes-key : (h : ℕ → ℕ) (n : ℕ) (ks vs us hs : List ℕ) → hs ≡ 
 homes-key h n ks vs us hs e j l =
     rw (e, row-at (homeFor h) (paired n ks vs us) _ j vacant (omega (arith, paired-length n ks vs us)), paired-key n ks vs us j l)
 
-module _ (h : ℕ → ℕ) (r : ℕ) where
-  -- the test of a key whose home was worked out
-  pub key-test : (ks : List ℕ) (i home : ℕ) (t u : Bool) → home ≡ h (getD ks i 0) → t ≡ ltb (ranked home (getD ks i 0)) r → t ≡ u
-      → ltb (keyRank h ks i) r ≡ u
-  key-test ks i home t u e q v = rw (← e, ← q, v)
+-- the rank of the record at a place
+abbrev pub rankAt : (ℕ → ℕ) → List Record → ℕ → ℕ
+rankAt h rs j = rank h (getD rs j vacant)
 
-  -- the places passed by the keys of a page are its records ahead of r
-  pub records-ahead : (p : Page) → passed (keyRank h (p .keys)) (p .count) 0 r ≡ ahead (rank h) r (recordsOf p)
-  unfolding recordsOf
-  records-ahead p =
-      let e : length (recordsOf p) ≡ p .count = paired-length (p .count) (p .keys) (p .values) (p .runs) in
-      let all = passed-ahead (rank h) (keyRank h (p .keys)) r vacant 0 (recordsOf p)
-      (λ j l. rw (zero-add, paired-key (p .count) (p .keys) (p .values) (p .runs) j (omega arith))) in
-      rw e at all ∙ zero-add (ahead (rank h) r (recordsOf p))
+module _ (h : ℕ → ℕ) (r : ℕ) (rs : List Record) where
+  -- the test of a record whose home was worked out from its key
+  pub key-test : (i k home : ℕ) (t u : Bool) → k ≡ key (getD rs i vacant) → home ≡ h k → t ≡ ltb (ranked home k) r → t ≡ u → ltb (rankAt h rs i) r ≡ u
+  key-test i k home t u d e q v = rw (← d, ← e, ← q, v)
 
-  -- how many of the first i places are left from the back, by a row of keys
-  abbrev pub back : List ℕ → ℕ → ℕ
-  back ks i = upToBack (λ k. ranked (h k) k) r 0 ks i
+  -- the places passed by all records are those ahead of r
+  pub records-ahead : (n : ℕ) → n ≡ length rs → passed (rankAt h rs) n 0 r ≡ ahead (rank h) r rs
+  records-ahead n e = rw e (passed-ahead (rank h) (rankAt h rs) r vacant 0 rs (λ j l. rw zero-add)) ∙ zero-add (ahead (rank h) r rs)
 
-  -- where the last place stands before r, all are left
-  pub back-here : (ks : List ℕ) (i : ℕ) → 0 < i → ltb (keyRank h ks (i - 1)) r ≡ true → back ks i ≡ i
-  back-here ks zero l t = absurd (omega arith)
-  back-here ks (suc i) l t =
+  -- how many of the first i records are left from the back
+  abbrev pub back : ℕ → ℕ
+  back i = upToBack (rank h) r vacant rs i
+
+  -- where the last of them stands before r, all are left
+  pub back-here : (i : ℕ) → 0 < i → ltb (rankAt h rs (i - 1)) r ≡ true → back i ≡ i
+  back-here zero l t = absurd (omega arith)
+  back-here (suc i) l t =
       let e : suc i - 1 ≡ i = omega arith in
-      let g : ltb (keyRank h ks i) r ≡ true = rw e at t in
+      let g : ltb (rankAt h rs i) r ≡ true = rw e at t in
       rw g
 
   -- where it does not, it is passed over
-  pub back-turn : (ks : List ℕ) (i : ℕ) → 0 < i → ltb (keyRank h ks (i - 1)) r ≡ false → back ks (i - 1) ≡ back ks i
-  back-turn ks zero l t = absurd (omega arith)
-  back-turn ks (suc i) l t =
+  pub back-turn : (i : ℕ) → 0 < i → ltb (rankAt h rs (i - 1)) r ≡ false → back (i - 1) ≡ back i
+  back-turn zero l t = absurd (omega arith)
+  back-turn (suc i) l t =
       let e : suc i - 1 ≡ i = omega arith in
-      let g : ltb (keyRank h ks i) r ≡ false = rw e at t in
+      let g : ltb (rankAt h rs i) r ≡ false = rw e at t in
       rw (g, e)
-
-  -- records with the same keys leave as many
-  back-same : (ks : List ℕ) (s : List Record) (n : ℕ) → ((j : ℕ) → j < n → key (getD s j vacant) ≡ getD ks j 0)
-      → back ks n ≡ upToBack (rank h) r vacant s n
-  back-same ks s zero e = refl
-  back-same ks s (suc n) e = rw (e n (omega arith), back-same ks s n (λ j l. e j (omega arith)))
-
-  -- so do the records of a page
-  pub records-back : (p : Page) → back (p .keys) (p .count) ≡ upToBack (rank h) r vacant (recordsOf p) (p .count)
-  unfolding recordsOf
-  records-back p = back-same (p .keys) (recordsOf p) (p .count) (paired-key (p .count) (p .keys) (p .values) (p .runs))

@@ -1,5 +1,5 @@
 -- The bytes of a page as they are written, slot by slot.
-use mathlib.Core.Path.{_≡_, refl, sym, _∙_}
+use mathlib.Core.Path.{_≡_, refl, sym, ap, _∙_}
 use mathlib.Core.List.{List, [], _∷_, _++_, map}
 use Prim.Native.Nat.{ℕ, zero, suc, _+_, _*_, _-_, _≤_, _<_}
 use native.Mathlib.Nat.{add-zero, zero-add, sub-zero}
@@ -117,9 +117,11 @@ module _ (f : Layout) where
       let z : slotsOf f - i ≡ 0 = omega arith in
       rw z (written-nil l (slotAt f i))
 
--- a page written to its part of an area
-pub part-written : (area v : List ℕ) (a : ℕ) → length v ≡ 256 → putMid (256 * a) (256 * a + 256 - 256 * a) area v ≡ written area (256 * a) v
+-- a page's bytes in its part of an area
+pub part-written : (f : Layout) (area : List ℕ) (a : ℕ) (rs : List Record) (v : List ℕ) → v ≡ pageBytes f a rs
+    → putMid (256 * a) (256 * a + 256 - 256 * a) area v ≡ written area (256 * a) (pageBytes f a rs)
 unfolding written
-part-written area v a n =
+part-written f area a rs v e =
+    let n : length v ≡ 256 = ap length e ∙ page-length f a rs in
     let k : 256 * a + 256 - 256 * a ≡ length v = omega arith in
-    rw (k, drop-drop)
+    rw (k, drop-drop, e)

@@ -16,7 +16,7 @@ ghost use Rattle.numbers.specs.Fields.{encode, matches};
 ghost use Rattle.numbers.specs.Little.{written};
 ghost use Rattle.layouts.specs.Layout.{slotsOf};
 ghost use Rattle.homes.specs.Homes.{Ready, homeIn};
-ghost use Rattle.pages.specs.Page.{key, value, run, vacant, head, slots, pageBytes, countIn, recordsIn, recordsFrom, wellFormed, homesTo, rises, readPage, padded, inMemory, judged};
+ghost use Rattle.pages.specs.Page.{key, value, run, head, slots, pageBytes, countIn, recordsIn, recordsFrom, wellFormed, homesTo, rises, readPage, padded, inMemory, judged};
 ghost use Rattle.placing.specs.Lay.{ranked};
 ghost use Rattle.pages.specs.steps.Slots.{recordsOf};
 ghost use Rattle.pages.specs.Area.{partAt, withPage};
@@ -42,12 +42,6 @@ pub struct Judged {
     pub count: usize,
     pub keys: [u64; 12],
     pub homes: [u64; 12],
-}
-
-// A page that took a record, and the record that it no longer holds.
-pub struct Pushed {
-    pub page: Page,
-    pub over: Record,
 }
 
 // A page with no record.
@@ -283,16 +277,6 @@ pub fn judge_at(area: &[u8], a: usize, layout: u8, shape: Shape) -> Judged
 {
     let at = 256 * a;
     judge(&area[at..at + 256], a as u32, layout, shape)
-}
-
-// The value of a record on the page at an address.
-pub fn value_at(area: &[u8], a: usize, layout: u8, slot: usize) -> u64
-    requires { ⌜ (a < 4096) × (256 * (a + 1) ≤ length (now area)) × (slot < countIn layout (partAt (now area) a)) ⌝ }
-    ensures { λ r. ⌜ r ≡ value (getD (recordsIn layout (partAt (now (area .entry)) a)) slot vacant) ⌝ }
-{
-    let at = 256 * a;
-    let x = slot::get(&area[at..at + 256], layouts::slot_at(layout, slot), layout);
-    x.value
 }
 
 // What any bytes hold at the places of the records of the page at an address.

@@ -1,18 +1,14 @@
 -- `pages::parse_at` meets its contract: the part that is lent is the page's.
-use mathlib.Core.Path.{_≡_}
-use Prim.Native.Nat.{_+_, _*_, _-_}
-use native.Mathlib.Omega.{arith}
+use denote.Ref.{now}
 use borrow.Author.Needs.{needs}
-use Rattle.pages.specs.Area.{partAt}
+use Rattle.pages.proofs.Areas.{lent-part}
 use Rattle.pages.proofs.parse_at.Statement.{statement}
 use Rattle.pages.proofs.parse_at.Tie as tie
 
 returns : tie.Need-returns
-unfolding partAt
 returns c =
-    let a = c .before .before .before .args .a in
-    let n : 256 * a + 256 - 256 * a ≡ 256 = omega arith in
-    rw n at (c .parse .ensures)
+    let a = c .before .before .before .args in
+    rw (lent-part (now (a .area)) (a .a)) at (c .parse .ensures)
 
 pub parse-at-spec : {M : Type 1} → statement M
 parse-at-spec =

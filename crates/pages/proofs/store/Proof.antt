@@ -3,14 +3,14 @@
 use mathlib.Core.Path.{_≡_, sym, _∙_}
 use mathlib.Core.Logic.{⊎-elim}
 use mathlib.Core.List.{List}
-use Prim.Native.Nat.{_≤_, _<_, _-_}
+use Prim.Native.Nat.{_<_, _-_}
 use native.Mathlib.Omega.{arith}
 use lib.ListN.{length, drop}
 use borrow.Author.Needs.{needs}
 use Rattle.numbers.specs.Little.{written}
 use Rattle.numbers.specs.Fields.{encode}
 use Rattle.layouts.specs.Layout.{slotsOf, slotAt}
-use Rattle.layouts.proofs.Lying.{slots-few, slot-fits, width-low}
+use Rattle.layouts.proofs.Lying.{slot-fits, width-low}
 use Rattle.pages.specs.Page.{Record, slots, pageBytes}
 use Rattle.pages.specs.steps.Slots.{recordsOf}
 use Rattle.pages.proofs.Held.{Held, held}

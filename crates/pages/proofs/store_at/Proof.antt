@@ -2,17 +2,15 @@
 -- area.
 use denote.Ref.{now}
 use borrow.Author.Needs.{needs}
-use Rattle.pages.specs.Page.{pageBytes}
 use Rattle.pages.specs.steps.Slots.{recordsOf}
-use Rattle.pages.proofs.Write.{page-length, part-written}
+use Rattle.pages.proofs.Write.{part-written}
 use Rattle.pages.proofs.store_at.Statement.{statement}
 use Rattle.pages.proofs.store_at.Tie as tie
 
 returns : tie.Need-returns
 returns c =
     let a = c .before .before .before .before .before .args in
-    let rs = recordsOf (a .page) in
-    rw (c .before .before .store .ensures) (part-written (now (a .area)) (pageBytes (a .layout) (a .a) rs) (a .a) (page-length (a .layout) (a .a) rs))
+    part-written (a .layout) (now (a .area)) (a .a) (recordsOf (a .page)) _ (c .before .before .store .ensures)
 
 pub store-at-spec : {M : Type 1} → statement M
 store-at-spec =

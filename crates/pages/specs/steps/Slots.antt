@@ -2,12 +2,10 @@
 use Prim.Native.Nat.{ℕ, zero, suc}
 use mathlib.Core.Bool.{cond}
 use mathlib.Core.List.{List, [], _∷_, _++_}
-use lib.ListN.{take, drop, getD}
+use lib.ListN.{length, take, drop, getD}
 use lib.Dec.{ltb}
-use Rattle.layouts.specs.Layout.{inUse, slotsOf}
-use Rattle.pages.specs.Page.{Record, recordWith, inMemory}
+use Rattle.pages.specs.Page.{Record, recordWith, vacant, rank}
 use Rattle.pages.specs.declared.Page.{Page}
-use Rattle.pages.specs.declared.Pushed.{Pushed}
 
 module _ {R : Type 0} where
   -- x at a place, and what stood there and after it one place on
@@ -30,7 +28,6 @@ paired (suc n) ks vs us = recordWith (getD ks 0 0) (getD vs 0 0) (getD us 0 0) �
 unfoldable pub recordsOf : Page → List Record
 recordsOf p = paired (p .count) (p .keys) (p .values) (p .runs)
 
--- as many of the records as there are slots, with x among them, and the last where that makes one
--- more: else x
-abbrev pub pushed : ℕ → Record → List Record → Pushed
-pushed at x rs = record { page = inMemory (take (slotsOf inUse) (opened at x rs)); over = getD (opened at x rs) (slotsOf inUse) x }
+-- a record at its place, sought from the back, and b records at most
+abbrev pub backed : ℕ → (ℕ → ℕ) → Record → List Record → List Record
+backed b h y s = take b (opened (upToBack (rank h) (rank h y) vacant s (length s)) y s)

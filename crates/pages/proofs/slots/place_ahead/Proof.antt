@@ -1,5 +1,6 @@
 -- `pages::place_ahead` meets its contract. The loop's invariant: the places that are left decide.
 -- The measure is how many are left.
+use denote.Ref.{now}
 use mathlib.Core.Path.{_≡_, sym, _∙_}
 use Prim.Native.Nat.{_-_, _≤_}
 use native.Mathlib.Nat.{sub-zero}
@@ -8,45 +9,62 @@ use borrow.Author.Tests.{not-true, not-false}
 use borrow.Author.Needs.{needs}
 use Rattle.homes.specs.Homes.{homeIn}
 use Rattle.placing.specs.Lay.{ranked}
-use Rattle.pages.proofs.Seeking.{passed, passed-turn, passed-here, passed-all, keyRank, key-test, records-ahead}
+use Rattle.pages.specs.Page.{rank, recordsIn}
+use Rattle.pages.specs.Places.{ahead}
+use Rattle.pages.proofs.Read.{length-held}
+use Rattle.pages.proofs.Seeking.{passed, passed-turn, passed-here, passed-all, rankAt, key-test, records-ahead}
 use Rattle.pages.proofs.slots.place_ahead.Statement.{statement}
 use Rattle.pages.proofs.slots.place_ahead.Tie as tie
 
 abbrev Inv-loop : tie.InvT-loop
-Inv-loop shape home key count keys i₀ i =
-    (i ≤ count) × (passed (keyRank (homeIn shape) keys) (count - i) i (ranked home key) ≡ passed (keyRank (homeIn shape) keys) count 0 (ranked home key))
+Inv-loop part layout shape home key count i₀ i =
+    (i ≤ count) × (passed (rankAt (homeIn shape) (recordsIn layout part)) (count - i) i (ranked home key) ≡ passed (rankAt (homeIn shape) (recordsIn layout part)) count 0 (ranked home key))
 
 abbrev μ-loop : tie.MeasureT-loop
-μ-loop shape home key count keys i₀ i = count - i
+μ-loop part layout shape home key count i₀ i = count - i
 
 loop-holds : tie.Need-loop-holds Inv-loop μ-loop
 loop-holds c = (omega arith, rw sub-zero)
 
+-- the places passed are those of all records
+whole : (c : tie.After-count-in Inv-loop μ-loop)
+    → let a = c .before .before .args in
+    let h = homeIn (a .shape) in
+    let rs = recordsIn (a .layout) (now (a .part)) in
+    passed (rankAt h rs) (c .count-in .result) 0 (ranked (a .home) (a .key)) ≡ ahead (rank h) (ranked (a .home) (a .key)) rs
+whole c =
+    let a = c .before .before .args in
+    let rs = recordsIn (a .layout) (now (a .part)) in
+    records-ahead (homeIn (a .shape)) (ranked (a .home) (a .key)) rs _ (c .count-in .ensures ∙ sym (length-held (a .layout) (now (a .part))))
+
 returns : tie.Need-returns Inv-loop μ-loop
 returns c =
-    let a = c .before .before .before .before .before .before .args in
-    let l = c .before .before .before .before .loop in
+    let e = c .before .before .before .before .before .before in
+    let a = e .before .before .args in
+    let l = c .before .before .before .before .before .loop in
     let h = homeIn (a .shape) in
     let r = ranked (a .home) (a .key) in
-    let t = key-test h r (a .page .keys) (l .i) _ _ _ (c .before .before .home .ensures) (c .before .before2 .ensures) (not-true _ (c .if1 .taken)) in
-    sym (passed-here (keyRank h (a .page .keys)) (a .page .count) (l .i) r (omega arith) t) ∙ l .inv .1 ∙ records-ahead h r (a .page)
+    let rs = recordsIn (a .layout) (now (a .part)) in
+    let t = key-test h r rs (l .i) _ _ _ _ (c .before .before .before .key-in .ensures) (c .before .before .home .ensures) (c .before .before2 .ensures) (not-true _ (c .if1 .taken)) in
+    sym (passed-here (rankAt h rs) (e .count-in .result) (l .i) r (omega arith) t) ∙ l .inv .1 ∙ whole e
 
 loop-again : tie.Need-loop-again Inv-loop μ-loop
 loop-again c =
-    let a = c .before .before .before .before .before .before .args in
-    let l = c .before .before .before .before .loop in
+    let e = c .before .before .before .before .before .before in
+    let a = e .before .before .args in
+    let l = c .before .before .before .before .before .loop in
     let h = homeIn (a .shape) in
     let r = ranked (a .home) (a .key) in
-    let t = key-test h r (a .page .keys) (l .i) _ _ _ (c .before .before .home .ensures) (c .before .before2 .ensures) (not-false _ (c .if1 .left)) in
-    (omega arith, passed-turn (keyRank h (a .page .keys)) (a .page .count) (l .i) r (omega arith) t ∙ l .inv .1)
+    let rs = recordsIn (a .layout) (now (a .part)) in
+    let t = key-test h r rs (l .i) _ _ _ _ (c .before .before .before .key-in .ensures) (c .before .before .home .ensures) (c .before .before2 .ensures) (not-false _ (c .if1 .left)) in
+    (omega arith, passed-turn (rankAt h rs) (e .count-in .result) (l .i) r (omega arith) t ∙ l .inv .1)
 
 returns-2 : tie.Need-returns-2 Inv-loop μ-loop
 returns-2 c =
-    let a = c .before .before .before .args in
+    let e = c .before .before in
+    let a = e .before .before .args in
     let l = c .before .loop in
-    let h = homeIn (a .shape) in
-    let r = ranked (a .home) (a .key) in
-    sym (passed-all (keyRank h (a .page .keys)) (a .page .count) (l .i) r (omega arith)) ∙ l .inv .1 ∙ records-ahead h r (a .page)
+    sym (passed-all (rankAt (homeIn (a .shape)) (recordsIn (a .layout) (now (a .part)))) (e .count-in .result) (l .i) (ranked (a .home) (a .key)) (omega arith)) ∙ l .inv .1 ∙ whole e
 
 pub place-ahead-spec : {M : Type 1} → statement M
 place-ahead-spec =
@@ -54,9 +72,9 @@ place-ahead-spec =
     (tie.spec
     Inv-loop
     μ-loop
+    (λ c κs. search needs)
     loop-holds
-    (λ c. search needs)
-    (λ c. search needs)
+    (λ c κs. search needs)
     (λ c κs. search needs)
     (λ c κs. search needs)
     returns

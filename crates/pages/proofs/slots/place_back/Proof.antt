@@ -1,50 +1,65 @@
 -- `pages::place_back` meets its contract. The loop's invariant: the places that are left, from the
 -- back, decide. The measure is how many are left.
-use mathlib.Core.Path.{_≡_, refl, sym, _∙_}
+use denote.Ref.{now}
+use mathlib.Core.Path.{_≡_, refl, sym, ap, _∙_}
 use Prim.Native.Nat.{_-_, _≤_}
 use native.Mathlib.Omega.{arith}
+use lib.ListN.{length}
 use borrow.Author.Needs.{needs}
 use Rattle.homes.specs.Homes.{homeIn}
 use Rattle.placing.specs.Lay.{ranked}
-use Rattle.pages.proofs.Seeking.{key-test, back, back-here, back-turn, records-back}
+use Rattle.pages.specs.Page.{recordsIn}
+use Rattle.pages.proofs.Read.{length-held}
+use Rattle.pages.proofs.Seeking.{key-test, back, back-here, back-turn}
 use Rattle.pages.proofs.slots.place_back.Statement.{statement}
 use Rattle.pages.proofs.slots.place_back.Tie as tie
 
 abbrev Inv-loop : tie.InvT-loop
-Inv-loop shape home key keys i₀ i = (i ≤ i₀) × (back (homeIn shape) (ranked home key) keys i ≡ back (homeIn shape) (ranked home key) keys i₀)
+Inv-loop part layout shape home key i₀ i =
+    (i ≤ i₀) × (back (homeIn shape) (ranked home key) (recordsIn layout part) i ≡ back (homeIn shape) (ranked home key) (recordsIn layout part) i₀)
 
 abbrev μ-loop : tie.MeasureT-loop
-μ-loop shape home key keys i₀ i = i
+μ-loop part layout shape home key i₀ i = i
 
 loop-holds : tie.Need-loop-holds Inv-loop μ-loop
 loop-holds c = (omega arith, refl)
 
+-- the places left are those of all records
+whole : (c : tie.After-count-in Inv-loop μ-loop)
+    → let a = c .before .before .args in
+    let rest = back (homeIn (a .shape)) (ranked (a .home) (a .key)) (recordsIn (a .layout) (now (a .part))) in
+    rest (c .count-in .result) ≡ rest (length (recordsIn (a .layout) (now (a .part))))
+whole c =
+    let a = c .before .before .args in
+    ap (back (homeIn (a .shape)) (ranked (a .home) (a .key)) (recordsIn (a .layout) (now (a .part)))) (c .count-in .ensures ∙ sym (length-held (a .layout) (now (a .part))))
+
 returns : tie.Need-returns Inv-loop μ-loop
 returns c =
-    let a = c .before .before .before .before .before .before .args in
-    let l = c .before .before .before .before .loop in
+    let e = c .before .before .before .before .before .before in
+    let a = e .before .before .args in
+    let l = c .before .before .before .before .before .loop in
     let h = homeIn (a .shape) in
     let r = ranked (a .home) (a .key) in
-    let t = key-test h r (a .page .keys) (l .i - 1) _ _ _ (c .before .before .home .ensures) (c .before .before2 .ensures) (c .if1 .taken) in
-    sym (back-here h r (a .page .keys) (l .i) (omega arith) t) ∙ l .inv .1 ∙ records-back h r (a .page)
+    let rs = recordsIn (a .layout) (now (a .part)) in
+    let t = key-test h r rs (l .i - 1) _ _ _ _ (c .before .before .before .key-in .ensures) (c .before .before .home .ensures) (c .before .before2 .ensures) (c .if1 .taken) in
+    sym (back-here h r rs (l .i) (omega arith) t) ∙ l .inv .1 ∙ whole e
 
 loop-again : tie.Need-loop-again Inv-loop μ-loop
 loop-again c =
-    let a = c .before .before .before .before .before .before .args in
-    let l = c .before .before .before .before .loop in
+    let e = c .before .before .before .before .before .before in
+    let a = e .before .before .args in
+    let l = c .before .before .before .before .before .loop in
     let h = homeIn (a .shape) in
     let r = ranked (a .home) (a .key) in
-    let t = key-test h r (a .page .keys) (l .i - 1) _ _ _ (c .before .before .home .ensures) (c .before .before2 .ensures) (c .if1 .left) in
-    (omega arith, back-turn h r (a .page .keys) (l .i) (omega arith) t ∙ l .inv .1)
+    let rs = recordsIn (a .layout) (now (a .part)) in
+    let t = key-test h r rs (l .i - 1) _ _ _ _ (c .before .before .before .key-in .ensures) (c .before .before .home .ensures) (c .before .before2 .ensures) (c .if1 .left) in
+    (omega arith, back-turn h r rs (l .i) (omega arith) t ∙ l .inv .1)
 
 returns-2 : tie.Need-returns-2 Inv-loop μ-loop
 returns-2 c =
-    let a = c .before .before .before .args in
     let l = c .before .loop in
-    let h = homeIn (a .shape) in
-    let r = ranked (a .home) (a .key) in
     let z : l .i ≡ 0 = omega arith in
-    rw z at (l .inv .1) ∙ records-back h r (a .page)
+    rw z at (l .inv .1) ∙ whole (c .before .before)
 
 pub place-back-spec : {M : Type 1} → statement M
 place-back-spec =
@@ -52,10 +67,10 @@ place-back-spec =
     (tie.spec
     Inv-loop
     μ-loop
+    (λ c κs. search needs)
     loop-holds
     (λ c. search needs)
-    (λ c. search needs)
-    (λ c. search needs)
+    (λ c κs. search needs)
     (λ c κs. search needs)
     (λ c κs. search needs)
     returns

@@ -1,46 +1,37 @@
--- `pages::push` meets its contract: one law for each way out.
+-- `pages::push` meets its contract: the place behind the records that stand before it is the record's.
+use denote.Ref.{now}
+use mathlib.Core.Path.{_≡_, sym}
 use native.Mathlib.Omega.{arith}
 use borrow.Author.Needs.{needs}
-use Rattle.pages.specs.steps.Slots.{recordsOf}
-use Rattle.pages.proofs.Held.{held, push-last, push-more, push-full}
+use Rattle.homes.specs.Homes.{homeIn}
+use Rattle.placing.specs.Lay.{ranked, ins}
+use Rattle.pages.specs.Page.{rank, recordsIn}
+use Rattle.pages.specs.steps.Slots.{opened}
+use Rattle.pages.proofs.Read.{length-held}
+use Rattle.pages.proofs.Places.{ins-opened, ahead-le}
 use Rattle.pages.proofs.slots.push.Statement.{statement}
 use Rattle.pages.proofs.slots.push.Tie as tie
 
+insert-requires : tie.Need-insert-requires
+insert-requires c κs =
+    let s = c .before .before .before .before .before in
+    let f = s .args .layout in
+    let l = now (s .args .part) in
+    let low = ahead-le (rank (homeIn (s .args .shape))) (ranked (c .before .before .home .result) (s .args .x .key)) (recordsIn f l) in
+    (s .pre .0, omega (arith, c .before .place-ahead .ensures, low, length-held f l))
+
 returns : tie.Need-returns
 returns c =
-    let a = c .before .args in
-    let e = c .before .pre .2 in
-    push-last (a .page) (a .at) (a .new) (recordsOf (a .page)) e (omega (arith, held (a .page) e .0)) (omega arith)
-
-returns-2 : tie.Need-returns-2
-returns-2 c =
-    let s = c .before .before .before .before .before .before .before .before in
-    let a = s .args in
-    push-more (a .page .count) (a .at) (a .page .keys) (a .page .values) (a .page .runs) (recordsOf (a .page)) (held (a .page) (s .pre .2)) (s .pre .0)
-    (a .new) (s .pre .1) _ _ _ (c .before .before .before .open-row .ensures) (c .before .before .open-row2 .ensures) (c .before .open-row3 .ensures) (omega arith)
-
-returns-3 : tie.Need-returns-3
-returns-3 c =
-    let s = c .before .before .before .before .before .before .before .before in
-    let a = s .args in
-    push-full (a .page .count) (a .at) (a .page .keys) (a .page .values) (a .page .runs) (recordsOf (a .page)) (held (a .page) (s .pre .2)) (s .pre .0)
-    (a .new) (s .pre .1) _ _ _ (c .before .before .before .open-row .ensures) (c .before .before .open-row2 .ensures) (c .before .open-row3 .ensures) (omega arith) (omega arith)
+    let p = c .before .before .before .before in
+    let s = p .before .before .before .before in
+    let h = homeIn (s .args .shape) in
+    let x = s .args .x in
+    let rs = recordsIn (s .args .layout) (now (s .args .part)) in
+    let place = rw (p .before .home .ensures) at (p .place-ahead .ensures) in
+    let is : opened (p .place-ahead .result) x rs ≡ ins (rank h) x rs = rw place (sym (ins-opened (rank h) x rs)) in
+    let e = c .before .before .insert .ensures in
+    (rw is at (e .0), λ a w. rw is at (e .1 a w))
 
 pub push-spec : {M : Type 1} → statement M
 push-spec =
-    tie.close
-    (tie.spec
-    returns
-    (λ c κs. search needs)
-    (λ c κs. search needs)
-    (λ c κs. search needs)
-    (λ c. search needs)
-    returns-2
-    (λ c. search needs)
-    (λ c. search needs)
-    (λ c. search needs)
-    (λ c. search needs)
-    (λ c. search needs)
-    (λ c. search needs)
-    (λ c. search needs)
-    returns-3)
+    tie.close (tie.spec (λ c κs. search needs) (λ c κs. search needs) insert-requires (λ c. search needs) returns)

@@ -59,9 +59,11 @@ loop-again c =
     let l = c .before .before .before .loop in
     let m = c .before .before .before .before in
     let n = m .before .before in
-    let a = n .before .before .args in
-    (l .inv .0, λ h f. judging-goes-on h (a .address) (recordsIn (a .layout) (now (a .part))) _ _ (counted n) (m .before .keys-in .ensures) (l .homes) (ranked (l .last-home) (l .last-key)) (l .i) _ _ (omega arith)
-    (f (l .i) (omega arith)) (c .before .before2 .ensures) (l .inv .1 h f) (not-false _ (c .if1 .left)))
+    let a = n .before .before .args in (
+      l .inv .0,
+      λ h f. judging-goes-on h (a .address) (recordsIn (a .layout) (now (a .part))) _ _ (counted n) (m .before .keys-in .ensures) (l .homes) (ranked (l .last-home) (l .last-key)) (l .i) _ _ (omega arith)
+          (f (l .i) (omega arith)) (c .before .before2 .ensures) (l .inv .1 h f) (not-false _ (c .if1 .left)),
+    )
 
 returns-2 : tie.Need-returns-2 Inv-loop μ-loop
 returns-2 c =

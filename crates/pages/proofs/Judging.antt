@@ -1,7 +1,7 @@
 -- The rules about homes and order, record by record, and what is judged of a page.
-use mathlib.Core.Path.{_≡_, refl, sym, _∙_}
-use mathlib.Core.Bool.{Bool, true, false, cond, _&&_, _||_}
-use mathlib.Core.Option.{none, some}
+use mathlib.Core.Path.{_≡_, refl, sym, ap, _∙_}
+use mathlib.Core.Bool.{Bool, true, false, cond, _&&_, _||_, false≢true}
+use mathlib.Core.Option.{Option, none, some}
 use mathlib.Core.List.{List, [], _∷_, map}
 use Prim.Native.Nat.{ℕ, suc, _+_, _≤_, _<_}
 use native.Mathlib.Numerals.{add-one}
@@ -119,3 +119,36 @@ module _ (f : Layout) (h : ℕ → ℕ) (address : ℕ) (l : List ℕ) (out : Ju
       → out ≡ judged h (readPage f h address l)
   unfolding readPage
   judged-formed w o = rw w o
+
+-- a page that is judged broken is none
+pub judged-broken : (h : ℕ → ℕ) (o : Option (List Record)) (j : Judged) → j ≡ judged h o → j .good ≡ false → o ≡ none
+unfolding judged
+judged-broken h none j e b = refl
+judged-broken h (some rs) j e b = absurd (false≢true (sym b ∙ rw e))
+
+-- one that is judged good has the records that its bytes hold
+module _ (f : Layout) (h : ℕ → ℕ) (address : ℕ) (l : List ℕ) (j : Judged) (e : j ≡ judged h (readPage f h address l)) (g : j .good ≡ true) where
+  pub judged-good : readPage f h address l ≡ some (recordsIn f l)
+  unfolding readPage judged
+  judged-good = go (wellFormed f address l && (homesTo h address (recordsIn f l) && rises h (recordsIn f l))) e
+    where
+      go : (u : Bool) → j ≡ judged h (cond u (some (recordsIn f l)) none) → cond u (some (recordsIn f l)) none ≡ some (recordsIn f l)
+      go true k = refl
+      go false k = absurd (false≢true (rw k at g))
+
+  pub judged-held : j ≡ judged h (some (recordsIn f l))
+  judged-held = e ∙ ap (judged h) judged-good
+
+-- and tells how many they are, and the key and the home of each
+module _ (h : ℕ → ℕ) (j : Judged) (rs : List Record) (e : j ≡ judged h (some rs)) where
+  pub judged-count : j .count ≡ length rs
+  unfolding judged
+  judged-count = rw e
+
+  pub judged-key : (i : ℕ) → i < j .count → getD (j .keys) i 0 ≡ key (getD rs i vacant)
+  unfolding judged
+  judged-key i l = rw e (row-at key rs _ i vacant (omega (arith, judged-count)))
+
+  pub judged-home : (i : ℕ) → i < j .count → getD (j .homes) i 0 ≡ h (key (getD rs i vacant))
+  unfolding judged
+  judged-home i l = rw e (row-at (homeFor h) rs _ i vacant (omega (arith, judged-count)))

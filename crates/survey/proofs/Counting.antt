@@ -22,10 +22,10 @@ use Rattle.placing.specs.Rows.{atHome, counts, leftOver}
 use Rattle.placing.proofs.Rows.{counts-length, counts-at}
 use Rattle.placing.proofs.Lists.{count-le}
 use Rattle.pages.specs.declared.Judged.{Judged}
-use Rattle.pages.specs.Page.{Record, key, vacant, homeFor, recordsIn, judged}
+use Rattle.pages.specs.Page.{Record, key, homeFor, recordsIn, judged}
 use Rattle.pages.specs.Area.{partAt, heldFrom}
-use Rattle.pages.proofs.Rows.{row-at}
 use Rattle.pages.proofs.Read.{held-twelve}
+use Rattle.pages.proofs.Judging.{judged-key, judged-home}
 use Rattle.pages.proofs.Write.{zeros}
 use Rattle.survey.specs.declared.Count.{Count}
 use Rattle.survey.specs.declared.Count.the-variants.{Nothing, Homes}
@@ -187,29 +187,19 @@ module _ {f : Layout} {count : Count} {area : List ℕ} {cap n : ℕ} {row : Lis
 
 -- a page that was judged, with its records
 module _ (h : ℕ → ℕ) (j : Judged) (rs : List Record) (e : j ≡ judged h (some rs)) where
-  -- it has as many keys as it says
-  pub judged-count : j .count ≡ length rs
+  -- it has no more keys than places, and twelve places
+  pub judged-places : length rs ≤ 12 → (j .count ≤ 12) × (length (j .keys) ≡ 12)
   unfolding judged
-  judged-count = rw e
+  judged-places l = (rw e l, rw (e, length-append, length-map, length-replicate) (omega arith))
 
-  -- in a row of twelve
-  pub judged-long : length rs ≤ 12 → length (j .keys) ≡ 12
-  unfolding judged
-  judged-long l = rw (e, length-append, length-map, length-replicate) (omega arith)
-
-  -- and they are those of its records
+  -- its keys are those of its records
   pub judged-keys : take (j .count) (j .keys) ≡ map key rs
   unfolding judged
   judged-keys = rw (e, ← length-map rs key) (take-append-seam (map key rs) _)
 
   -- each stands there with its home
   stands-home : (k a : ℕ) → Stands j k a → h k ≡ a
-  unfolding judged
-  stands-home k a s =
-      let b : s .slot < length rs = omega (arith, judged-count, s .low) in
-      let f : getD (j .keys) (s .slot) 0 ≡ key (getD rs (s .slot) vacant) = rw e (row-at key rs _ (s .slot) vacant b) in
-      let g : getD (j .homes) (s .slot) 0 ≡ h (key (getD rs (s .slot) vacant)) = rw e (row-at (homeFor h) rs _ (s .slot) vacant b) in
-      ap h (sym (s .key) ∙ f) ∙ sym g ∙ s .home
+  stands-home k a s = ap h (sym (s .key) ∙ judged-key h j rs e (s .slot) (s .low)) ∙ sym (judged-home h j rs e (s .slot) (s .low)) ∙ s .home
 
   -- so they may be counted, if all records may
   pub page-countable : (count : Count) (m n : ℕ) → m ≡ n → Countable count (λ k a. h k ≡ a) n → Countable count (Stands j) m

@@ -17,7 +17,8 @@ use Rattle.placing.specs.Lay.{rankIn, ranked}
 use Rattle.pages.specs.declared.Judged.{Judged}
 use Rattle.pages.specs.Page.{Record, key, recordsIn, readPage, padded, judged}
 use Rattle.pages.specs.Area.{partAt, pagesFrom, heldFrom}
-use Rattle.pages.proofs.RoundTrip.{Good, read-good}
+use Rattle.pages.proofs.Read.{held-few, held-twelve}
+use Rattle.pages.proofs.Judging.{judged-broken, judged-good, judged-held}
 use Rattle.survey.specs.declared.Seen.{Seen}
 use Rattle.survey.specs.declared.Verdict.the-variants.{Whole}
 use Rattle.survey.specs.declared.Verdict.the-variants as verdicts
@@ -120,46 +121,31 @@ module _ (f : Layout) (h : ℕ → ℕ) (area : List ℕ) (cap : ℕ) where
       let e : cap - 0 ≡ cap = omega arith in
       rw (e, u) (refl, refl, omega arith, omega arith)
 
-  -- a page that was judged good has the records that stand at its place
-  pub judged-held : (a : ℕ) (j : Judged) → j ≡ judged h (pageAt a) → j .good ≡ true → j ≡ judged h (some (recordsIn f (partAt area a)))
-  unfolding judged
-  judged-held a j e b = go (pageAt a) refl e
-    where
-      go : (o : Option (List Record)) → pageAt a ≡ o → j ≡ judged h o → j ≡ judged h (some (recordsIn f (partAt area a)))
-      go none q k = absurd (let z : _≡_ {A = ℕ} 0 1 = cc in omega arith)
-      go (some rs) q k = k ∙ ap (λ (s : List Record). judged h (some s)) (read-good f h a (partAt area a) rs q .records)
-
   module _ (s : Seen) (a : ℕ) (l : a < cap) (left : ToSurvey s a) (j : Judged) (e : j ≡ judged h (pageAt a)) where
     more : cap - a ≡ suc (cap - suc a)
     more = omega arith
 
     -- a broken page is the lowest one
     pub survey-breaks : j .good ≡ false → verdicts.Broken a ≡ surveyed f h area cap
-    unfolding surveyed judged
-    survey-breaks b = go (pageAt a) refl e
-      where
-        go : (o : Option (List Record)) → pageAt a ≡ o → j ≡ judged h o → verdicts.Broken a ≡ surveyed f h area cap
-        go none q k =
-            let w : some a ≡ lowestBroken 0 (pagesFrom f h area cap 0) = rw (more, q) at (left .0) in
-            rw (← w)
-        go (some rs) q k = absurd (let z : _≡_ {A = ℕ} 0 1 = cc in omega arith)
+    unfolding surveyed
+    survey-breaks b =
+        let w : some a ≡ lowestBroken 0 (pagesFrom f h area cap 0) = rw (more, judged-broken h (pageAt a) j e b) at (left .0) in
+        rw (← w)
 
     -- a good one leaves those after it
     pub survey-goes-on : j .good ≡ true → (t : Seen) → t ≡ looked f s a (j .count) (j .homes) (j .keys) → ToSurvey t (a + 1)
     unfolding judged
-    survey-goes-on b t n = go (pageAt a) refl e
-      where
-        go : (o : Option (List Record)) → pageAt a ≡ o → j ≡ judged h o → ToSurvey t (a + 1)
-        go none q k = absurd (let z : _≡_ {A = ℕ} 0 1 = cc in omega arith)
-        go (some rs) q k =
-            let g : Good f h a (partAt area a) rs = read-good f h a (partAt area a) rs q in
-            let m : t ≡ after f h s a rs = n ∙ ap (λ (i : Judged). looked f s a (i .count) (i .homes) (i .keys)) k in
-            let rest : List (List Record) = heldFrom f area (cap - suc a) (suc a) in
-            let w : lowestBroken (suc a) (pagesFrom f h area (cap - suc a) (suc a)) ≡ lowestBroken 0 (pagesFrom f h area cap 0) = rw (more, q) at (left .0) in
-            let i : decides f h s a (rs ∷ rest) ≡ isImage f h (heldFrom f area cap 0) = rw (more, ← g .records) at (left .1) in
-            let c : s .records + length (rs ++ cat rest []) ≡ length (cat (heldFrom f area cap 0) []) = rw (more, ← g .records) at (left .2) in
-            let r : after f h s a rs .records ≡ s .records + length rs = look-records f h s a rs in
-            rw (add-one, m) (w, look-decides f h s a rs rest (g .few) ∙ i, omega (arith, length-append rs (cat rest [])), omega (arith, g .few, slots-few f .1))
+    survey-goes-on b t n =
+        let rs : List Record = recordsIn f (partAt area a) in
+        let rest : List (List Record) = heldFrom f area (cap - suc a) (suc a) in
+        let m : t ≡ after f h s a rs = n ∙ rw (judged-held f h a (partAt area a) j e b) in
+        let q : pageAt a ≡ some rs = judged-good f h a (partAt area a) j e b in
+        let w : lowestBroken (suc a) (pagesFrom f h area (cap - suc a) (suc a)) ≡ lowestBroken 0 (pagesFrom f h area cap 0) = rw (more, q) at (left .0) in
+        let i : decides f h s a (rs ∷ rest) ≡ isImage f h (heldFrom f area cap 0) = rw more at (left .1) in
+        let c : s .records + length (rs ++ cat rest []) ≡ length (cat (heldFrom f area cap 0) []) = rw more at (left .2) in
+        let r : after f h s a rs .records ≡ s .records + length rs = look-records f h s a rs in
+        rw (add-one, m)
+        (w, look-decides f h s a rs rest (held-few f (partAt area a)) ∙ i, omega (arith, length-append rs (cat rest [])), omega (arith, held-twelve f (partAt area a)))
 
   -- with no page left the pages are whole
   pub survey-ends : (s : Seen) (a : ℕ) → cap ≤ a → ToSurvey s a → Whole (s .image) (s .records) ≡ surveyed f h area cap

@@ -12,7 +12,7 @@ use lib.ListN.{length, getD}
 use borrow.Author.Tests.{ltb-true, ltb-false, not-true, not-false, lt-ltb, le-ltb, le-leb, lt-leb, ne-eqb}
 use Rattle.layouts.specs.Layout.{inUse}
 use Rattle.pages.specs.declared.Judged.{Judged}
-use Rattle.pages.specs.Page.{Record, key, inMemory, judged, readPage}
+use Rattle.pages.specs.Page.{Record, key, judged, readPage}
 use Rattle.pages.specs.Area.{partAt, pagesFrom}
 use Rattle.state.specs.declared.Answer.the-variants.{Broken}
 use Rattle.walks.specs.declared.Plan.{Plan}
@@ -21,15 +21,15 @@ use Rattle.walks.specs.steps.Plans.{slots, reachedBack}
 
 -- the test of a judged page: it holds no record, or the home of its first is above page a
 abbrev pub apart : ℕ → Judged → Bool
-apart a j = eqb (j .page .count) 0 || ltb a (getD (j .homes) 0 0)
+apart a j = eqb (j .count) 0 || ltb a (getD (j .homes) 0 0)
 
 -- how the plan goes on after page a, by the next page as it was judged
 next-page : (b : ℕ) (h : ℕ → ℕ) (f at a n : ℕ) (o : Option (List Record)) (ps : List (Option (List Record)))
     → reachedBack b h f at a n (o ∷ ps)
     ≡ cond (judged h o .good)
-    (cond (apart a (judged h o)) (Go f at a (suc n)) (cond (ltb (judged h o .page .count) b) (Go f at (suc a) (suc n)) (reachedBack b h f at (suc a) (suc n) ps)))
+    (cond (apart a (judged h o)) (Go f at a (suc n)) (cond (ltb (judged h o .count) b) (Go f at (suc a) (suc n)) (reachedBack b h f at (suc a) (suc n) ps)))
     (Stop (Broken (suc a) (suc n)))
-unfolding judged inMemory
+unfolding judged
 next-page b h f at a n none ps = refl
 next-page b h f at a n (some []) ps = refl
 next-page b h f at a n (some (y ∷ q)) ps = rw (ne-eqb (suc (length q)) 0 (λ e. omega arith)) (go (ltb a (h (key y))) refl)
@@ -51,7 +51,7 @@ module _ (h : ℕ → ℕ) (area : List ℕ) (cap f at : ℕ) where
 
   module _ (a n : ℕ) (j : Judged) (e : j ≡ judged h (readPage inUse h (a + 1) (partAt area (a + 1)))) (l : a + 1 < cap) where
     plan-next : planFrom a n
-        ≡ cond (j .good) (cond (apart a j) (Go f at a (n + 1)) (cond (ltb (j .page .count) slots) (Go f at (a + 1) (n + 1)) (planFrom (a + 1) (n + 1))))
+        ≡ cond (j .good) (cond (apart a j) (Go f at a (n + 1)) (cond (ltb (j .count) slots) (Go f at (a + 1) (n + 1)) (planFrom (a + 1) (n + 1))))
         (Stop (Broken (a + 1) (n + 1)))
     plan-next =
         let m : cap - suc a ≡ suc (cap - suc (suc a)) = omega arith in
@@ -65,8 +65,8 @@ module _ (h : ℕ → ℕ) (area : List ℕ) (cap f at : ℕ) where
       pub plan-apart : apart a j ≡ true → Go f at a (n + 1) ≡ planFrom a n
       plan-apart t = sym (plan-next ∙ rw (not-false (j .good) g, t))
 
-      pub plan-short : apart a j ≡ false → j .page .count < slots → Go f at (a + 1) (n + 1) ≡ planFrom a n
-      plan-short t c = sym (plan-next ∙ rw (not-false (j .good) g, t, lt-ltb (j .page .count) slots c))
+      pub plan-short : apart a j ≡ false → j .count < slots → Go f at (a + 1) (n + 1) ≡ planFrom a n
+      plan-short t c = sym (plan-next ∙ rw (not-false (j .good) g, t, lt-ltb (j .count) slots c))
 
-      pub plan-full : apart a j ≡ false → slots ≤ j .page .count → planFrom (a + 1) (n + 1) ≡ planFrom a n
-      plan-full t c = sym (plan-next ∙ rw (not-false (j .good) g, t, le-ltb (j .page .count) slots c))
+      pub plan-full : apart a j ≡ false → slots ≤ j .count → planFrom (a + 1) (n + 1) ≡ planFrom a n
+      plan-full t c = sym (plan-next ∙ rw (not-false (j .good) g, t, le-ltb (j .count) slots c))

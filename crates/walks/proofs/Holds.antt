@@ -38,7 +38,7 @@ module _ (k : ℕ) where
       go false (some w) e t = (suc (t .0), omega (arith, t .1), ap (λ (s : List Record). x ∷ s) (t .2), t .3)
 
   -- a key that no slot holds is not found
-  pub away : (p : List Record) → heldAt k 0 p ≡ none → seek key k p ≡ none
+  away : (p : List Record) → heldAt k 0 p ≡ none → seek key k p ≡ none
   away p e = rw e at (slot-tells 0 p)
 
   pub here : (p : List Record) {i v : ℕ} → heldAt k 0 p ≡ some (i, v) → (r : ℕ) × (seek key k p ≡ some (recordWith k v r))

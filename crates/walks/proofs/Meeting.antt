@@ -17,48 +17,27 @@ use Rattle.homes.proofs.Homes.{home-below}
 use Rattle.placing.specs.Lay.{rankOf, rankIn}
 use Rattle.placing.specs.Walks.{seek, lastAfter, endsOn}
 use Rattle.placing.proofs.Order.{Sorted}
-use Rattle.placing.proofs.Rank.{seek-key}
 use Rattle.pages.specs.declared.Judged.{Judged}
-use Rattle.pages.specs.Page.{Record, key, readPage, judged}
+use Rattle.pages.specs.Page.{Record, key, countIn, readPage, judged}
 use Rattle.pages.specs.Places.{ahead}
-use Rattle.pages.specs.steps.Slots.{recordsOf}
 use Rattle.pages.specs.Area.{partAt, pagesFrom}
-use Rattle.pages.proofs.Memory.{memory}
-use Rattle.pages.proofs.RoundTrip.{Good, read-good}
+use Rattle.pages.proofs.Read.{length-held, held-few}
+use Rattle.pages.proofs.Judging.{judged-broken, judged-good, judged-held, judged-count}
+use Rattle.pages.proofs.RoundTrip.{read-good}
 use Rattle.pages.proofs.Rules.{rises-sorted}
 use Rattle.pages.proofs.Places.{ahead-le, ahead-all}
-use Rattle.pages.proofs.Seeking.{homes-key}
 use Rattle.pages.proofs.Bounds.{keys-small}
 use Rattle.walks.specs.declared.Met.{Met}
 use Rattle.walks.specs.declared.Met.the-variants.{Found, Ends}
 use Rattle.walks.specs.declared.Met.the-variants as mets
 use Rattle.walks.specs.Walks.{heldAt, onHeld, meets, walk}
 use Rattle.walks.specs.steps.Plans.{slots, held}
-use Rattle.walks.proofs.Holds.{away}
-use Rattle.walks.proofs.Scanning.{differ, records-count, After, ToScan, left-away, left-place, Rows}
+use Rattle.walks.proofs.Holds.{away-rank}
+use Rattle.walks.proofs.Scanning.{After, after-last, ToScan, left-away, left-place, Rows}
 
 -- a home lies in the area
 pub home-fits : (shape : Shape) (k cap a : ℕ) → Ready shape → shape .p ≤ cap → a ≡ homeIn shape k → a < cap
 home-fits shape k cap a r l e = omega (arith, home-below (shape .params) (shape .p) k r)
-
--- a page that is judged good was read, and its records are those in memory
-judged-good : (h : ℕ → ℕ) (o : Option (List Record)) (j : Judged) → j ≡ judged h o → j .good ≡ true → o ≡ some (recordsOf (j .page))
-unfolding judged
-judged-good h none j e g = absurd (differ (sym g ∙ ap (λ (i : Judged). i .good) e))
-judged-good h (some rs) j e g = rw e (ap some (sym (memory rs)))
-
--- a page that is not was broken
-judged-broken : (h : ℕ → ℕ) (o : Option (List Record)) (j : Judged) → j ≡ judged h o → j .good ≡ false → o ≡ none
-unfolding judged
-judged-broken h none j e g = refl
-judged-broken h (some rs) j e g = absurd (differ (sym (ap (λ (i : Judged). i .good) e) ∙ g))
-
--- its row has the home of each of its keys
-judged-homes : (h : ℕ → ℕ) (j : Judged) → j ≡ judged h (some (recordsOf (j .page))) → (i : ℕ) → i < j .page .count
-    → getD (j .homes) i 0 ≡ h (getD (j .page .keys) i 0)
-unfolding judged recordsOf
-judged-homes h j e i l =
-    homes-key h (j .page .count) (j .page .keys) (j .page .values) (j .page .runs) (j .homes) (ap (λ (w : Judged). w .homes) e) i l
 
 -- page a of the area, as it was judged
 pub record Seen (h : ℕ → ℕ) (area : List ℕ) (cap a : ℕ) (j : Judged) : Type 0 where
@@ -75,22 +54,31 @@ module _ {h : ℕ → ℕ} {area : List ℕ} {cap a : ℕ} {j : Judged} (seen : 
   pub page-broken : j .good ≡ false → readPage inUse h a (partAt area a) ≡ none
   page-broken g = judged-broken h (readPage inUse h a (partAt area a)) j (seen .is) g
 
-  pub page-read : j .good ≡ true → readPage inUse h a (partAt area a) ≡ some (recordsOf (j .page))
-  page-read g = judged-good h (readPage inUse h a (partAt area a)) j (seen .is) g
+  module _ (g : j .good ≡ true) where
+    pub page-read : readPage inUse h a (partAt area a) ≡ some (held area a)
+    page-read = judged-good inUse h a (partAt area a) j (seen .is) g
 
-  page-known : j .good ≡ true → Good inUse h a (partAt area a) (recordsOf (j .page))
-  page-known g = read-good inUse h a (partAt area a) (recordsOf (j .page)) (page-read g)
+    page-is : j ≡ judged h (some (held area a))
+    page-is = judged-held inUse h a (partAt area a) j (seen .is) g
 
-  pub page-few : j .good ≡ true → j .page .count ≤ 12
-  page-few g = omega (arith, records-count (j .page), page-known g .few)
+    -- it counts its records, of which there are no more than slots
+    pub page-counts : j .count ≡ length (held area a)
+    page-counts = judged-count h j (held area a) page-is
 
-  -- its rows, where the area holds it
-  pub page-rows : j .good ≡ true → 256 * (a + 1) ≤ length area → ((i : ℕ) → getD area i 0 < 256) → Rows h (j .page) (j .homes)
-  page-rows g fits bytes = record {
-    homes = judged-homes h j (seen .is ∙ ap (judged h) (page-read g));
-    small = rw (page-known g .records) (keys-small inUse area a fits (λ i l. bytes i));
-    rising = rises-sorted h (recordsOf (j .page)) (page-known g .rising);
-  }
+    pub page-few : j .count ≤ 12
+    page-few = omega (arith, page-counts, held-few inUse (partAt area a))
+
+    -- each stands in a slot
+    pub page-slot : {i : ℕ} → i < j .count → i < countIn inUse (partAt area a)
+    page-slot l = omega (arith, page-counts, length-held inUse (partAt area a))
+
+    -- its rows, where the area holds it
+    pub page-rows : 256 * (a + 1) ≤ length area → ((i : ℕ) → getD area i 0 < 256) → Rows h (held area a) j
+    page-rows fits bytes = record {
+      is = page-is;
+      small = keys-small inUse area a fits (λ i l. bytes i);
+      rising = rises-sorted h (held area a) (read-good inUse h a (partAt area a) (held area a) page-read .rising);
+    }
 
 -- where it is not found, a page ends the walk exactly where the key's place is in it
 ends-test : (b : ℕ) (h : ℕ → ℕ) (k : ℕ) (rs : List Record) → length rs ≤ b → Sorted (rankIn key h) rs → seek (rankIn key h) (rankOf h k) rs ≡ none
@@ -126,35 +114,34 @@ module _ {h : ℕ → ℕ} {area : List ℕ} {cap a : ℕ} {j : Judged} (seen : 
 
   module _ (g : j .good ≡ true) where
     abbrev rs : List Record
-    rs = recordsOf (j .page)
+    rs = held area a
 
     -- the walk at a good page
     at-page : walkLeft h area cap k a n
-        ≡ onHeld (heldAt k 0 rs) (λ i v. Found a i (j .page .count) v (n + 1))
-        (cond (endsOn (rankIn key h) slots (rankOf h k) rs) (Ends a (ahead (rankIn key h) (rankOf h k) rs) (j .page .count) (n + 1)) (walkLeft h area cap k (a + 1) (n + 1)))
-    at-page = rw (pages-next seen, page-read seen g, records-count (j .page), add-one n, add-one a)
+        ≡ onHeld (heldAt k 0 rs) (λ i v. Found a i (j .count) v (n + 1))
+        (cond (endsOn (rankIn key h) slots (rankOf h k) rs) (Ends a (ahead (rankIn key h) (rankOf h k) rs) (j .count) (n + 1)) (walkLeft h area cap k (a + 1) (n + 1)))
+    at-page = rw (pages-next seen, page-read seen g, page-counts seen g, add-one n, add-one a)
 
     -- a slot that holds the key ends it
-    pub walk-found : (i v : ℕ) → heldAt k 0 rs ≡ some (i, v) → Found a i (j .page .count) v (n + 1) ≡ walkLeft h area cap k a n
+    pub walk-found : (i v : ℕ) → heldAt k 0 rs ≡ some (i, v) → Found a i (j .count) v (n + 1) ≡ walkLeft h area cap k a n
     walk-found i v e = sym (at-page ∙ rw e)
 
-    -- where all slots from one on stand after the sought, that is the key's place, and decides
-    module _ (rows : Rows h (j .page) (j .homes)) (small : k < 2 ^ 64) {at : ℕ} (w : ToScan h k (j .page) at) (f : After h k (drop at rs)) where
-      place-is : at ≡ ahead (rankIn key h) (rankOf h k) rs
-      place-is = left-place h k w f
-
-      ends : endsOn (rankIn key h) slots (rankOf h k) rs ≡ ltb at slots
-      ends =
-          let sought : seek (rankIn key h) (rankOf h k) rs ≡ none = seek-key key h k rs small (rows .small) ∙ away k rs (left-away h k w f) in
-          rw place-is (ends-test slots h k rs (page-known seen g .few) (rows .rising) sought)
+    -- the slots before one are passed
+    module _ (rows : Rows h rs j) (small : k < 2 ^ 64) {at : ℕ} (w : ToScan h k rs at) where
+      -- where all from there on stand after the sought, that is the key's place, and decides
+      at-place : After h k (drop at rs) → walkLeft h area cap k a n ≡ cond (ltb at slots) (Ends a at (j .count) (n + 1)) (walkLeft h area cap k (a + 1) (n + 1))
+      at-place f =
+          let p : at ≡ ahead (rankIn key h) (rankOf h k) rs = left-place h k w f in
+          let sought : seek (rankIn key h) (rankOf h k) rs ≡ none = away-rank k h rs small (rows .small) (left-away h k w f) in
+          at-page ∙ rw (left-away h k w f, ends-test slots h k rs (held-few inUse (partAt area a)) (rows .rising) sought, ← p)
 
       -- a page with the place ends the walk
-      pub walk-ends : at < slots → Ends a at (j .page .count) (n + 1) ≡ walkLeft h area cap k a n
-      walk-ends l = sym (at-page ∙ rw (left-away h k w f, ends, lt-ltb at slots l, ← place-is))
+      pub walk-ends : After h k (drop at rs) → at < slots → Ends a at (j .count) (n + 1) ≡ walkLeft h area cap k a n
+      walk-ends f l = sym (at-place f ∙ rw (lt-ltb at slots l))
 
-      -- else it goes on
+      -- past the last slot it goes on
       pub walk-on : slots ≤ at → walkLeft h area cap k (a + 1) (n + 1) ≡ walkLeft h area cap k a n
-      walk-on l = sym (at-page ∙ rw (left-away h k w f, ends, le-ltb at slots l))
+      walk-on l = sym (at-place (after-last h k rs at (omega (arith, held-few inUse (partAt area a)))) ∙ rw (le-ltb at slots l))
 
 -- a page that is good, and counted
 pub record Counted (h : ℕ → ℕ) (area : List ℕ) (a c : ℕ) : Type 0 where

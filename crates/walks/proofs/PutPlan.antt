@@ -27,8 +27,7 @@ use Rattle.walks.specs.declared.Plan.{Plan}
 use Rattle.walks.specs.declared.Plan.the-variants.{Go, Stop}
 use Rattle.walks.specs.Walks.{Pages, went, stopped, andPage, walk, carry, putMet, putWalk}
 use Rattle.walks.specs.steps.Plans.{slots, held, poured, reached, planned, placedIn}
-use Rattle.walks.proofs.Scanning.{records-count}
-use Rattle.walks.proofs.Meeting.{Seen, pages-next, page-broken, page-read, Known, walk-known}
+use Rattle.walks.proofs.Meeting.{Seen, pages-next, page-broken, page-read, page-counts, Known, walk-known}
 
 -- what is left of the way to the first page with room, from page a on, where n pages were read
 abbrev pub reachLeft : (ℕ → ℕ) → List ℕ → (cap f at a n : ℕ) → Plan
@@ -46,16 +45,16 @@ module _ {h : ℕ → ℕ} {area : List ℕ} {cap a : ℕ} {j : Judged} (seen : 
   reach-sick g = rw (pages-next seen, page-broken seen g, add-one)
 
   module _ (g : j .good ≡ true) where
-    at-page : reachLeft h area cap f at a n ≡ cond (ltb (j .page .count) slots) (Go f at a (n + 1)) (reachLeft h area cap f at (a + 1) (n + 1))
-    at-page = rw (pages-next seen, page-read seen g, records-count (j .page), add-one n, add-one a)
+    at-page : reachLeft h area cap f at a n ≡ cond (ltb (j .count) slots) (Go f at a (n + 1)) (reachLeft h area cap f at (a + 1) (n + 1))
+    at-page = rw (pages-next seen, page-read seen g, ← page-counts seen g, add-one n, add-one a)
 
     -- a page with room is the last
-    pub reach-here : j .page .count < slots → Go f at a (n + 1) ≡ reachLeft h area cap f at a n
-    reach-here l = sym (at-page ∙ rw (lt-ltb (j .page .count) slots l))
+    pub reach-here : j .count < slots → Go f at a (n + 1) ≡ reachLeft h area cap f at a n
+    reach-here l = sym (at-page ∙ rw (lt-ltb (j .count) slots l))
 
     -- after a full one it goes on
-    pub reach-on : slots ≤ j .page .count → reachLeft h area cap f at (a + 1) (n + 1) ≡ reachLeft h area cap f at a n
-    reach-on l = sym (at-page ∙ rw (le-ltb (j .page .count) slots l))
+    pub reach-on : slots ≤ j .count → reachLeft h area cap f at (a + 1) (n + 1) ≡ reachLeft h area cap f at a n
+    reach-on l = sym (at-page ∙ rw (le-ltb (j .count) slots l))
 
 module _ (f at : ℕ) where
   -- a plan from page f on whose last page is page a or a later one

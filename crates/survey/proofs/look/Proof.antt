@@ -6,12 +6,12 @@ use Rattle.survey.proofs.look.Tie as tie
 
 returns : tie.Need-returns
 returns c =
-    let a = c .before .before .before .before .before .args in
+    let a = c .before .before .before .before .args in
     look-none (a .layout) (a .seen) (a .a) (a .judged .count) (a .judged .homes) (a .judged .keys) (c .if1 .taken)
 
 returns-2 : tie.Need-returns-2
 returns-2 c =
-    let a = c .before .before .before .before .before .before .before .before .before .before .args in
+    let a = c .before .before .before .before .before .before .before .before .before .args in
     rw (c .slots .ensures .0)
     (look-some (a .layout) (a .seen) (a .a) (a .judged .count) (a .judged .homes) (a .judged .keys) _ (c .before .before .before .before .before .if1 .left) (c .before .before .before2 .ensures))
 

@@ -1,10 +1,10 @@
--- `survey::survey` meets its contract. The loop's invariant is `Left`, what was seen and the pages
--- that are left decide, with `Counted`: the pages below a are counted, and those from a on are left
+-- `survey::survey` meets its contract. The loop's invariant is `ToSurvey`, what was seen and the pages
+-- that are left decide, with `ToCount`: the pages below a are counted, and those from a on are left
 -- to tally.
 -- The measure is how many pages are left.
 use mathlib.Core.Path.{_≡_, ap, _∙_}
 use mathlib.Core.Option.{some}
-use Prim.Native.Nat.{_-_, _≤_}
+use Prim.Native.Nat.{_-_}
 use native.Mathlib.Omega.{arith}
 use denote.Ref.{now}
 use lib.ListN.{length, length-replicate}
@@ -14,8 +14,9 @@ use Rattle.homes.specs.Homes.{homeIn}
 use Rattle.pages.specs.Page.{recordsIn, judged}
 use Rattle.pages.specs.Area.{partAt}
 use Rattle.pages.proofs.Read.{held-twelve}
-use Rattle.survey.proofs.Looking.{ToSurvey, survey-starts, judged-held, survey-breaks, survey-goes-on, survey-ends}
-use Rattle.survey.proofs.Counting.{ToCount, count-starts, count-goes-on, count-ends, judged-count, judged-long, judged-keys, page-countable}
+use Rattle.pages.proofs.Judging.{judged-held}
+use Rattle.survey.proofs.Looking.{ToSurvey, survey-starts, survey-breaks, survey-goes-on, survey-ends}
+use Rattle.survey.proofs.Counting.{ToCount, count-starts, count-goes-on, count-ends, judged-places, judged-keys, page-countable}
 use Rattle.survey.proofs.survey.Statement.{statement}
 use Rattle.survey.proofs.survey.Tie as tie
 
@@ -49,24 +50,20 @@ returns c =
 -- a good page has the records that stand at its place
 held : (c : tie.Else1 Inv-loop μ-loop)
     → c .before .before .judge-at .result ≡ judged (homeIn (c .before .before .before .before .before .before .before .before .before .before .before .before .args .shape)) (some (recordsIn (c .before .before .before .before .before .before .before .before .before .before .before .before .args .layout) (partAt (now (c .before .before .before .before .before .before .before .before .before .before .before .before .args .area)) (c .before .before .before .before .loop .a))))
-held c =
-    let a = c .before .before .before .before .before .before .before .before .before .before .before .before .args in
-    judged-held (a .layout) (homeIn (a .shape)) (now (a .area)) (a .cap) (c .before .before .before .before .loop .a) _ (c .before .before .judge-at .ensures) (not-false _ (c .if1 .left))
-
-few : (c : tie.Else1 Inv-loop μ-loop) → c .before .before .judge-at .result .count ≤ 12
-few c = omega (arith, judged-count _ _ _ (held c), held-twelve (c .before .before .before .before .before .before .before .before .before .before .before .before .args .layout) _)
+held c = judged-held _ _ _ _ _ (c .before .before .judge-at .ensures) (not-false _ (c .if1 .left))
 
 look-requires : tie.Need-look-requires Inv-loop μ-loop
 look-requires c κs =
     let l = c .before .before .before .before .loop in
-    (few c, omega (arith, l .inv .0 .3))
+    (judged-places _ _ _ (held c) (held-twelve _ _) .0, omega (arith, l .inv .0 .3))
 
 tally-requires : tie.Need-tally-requires Inv-loop μ-loop
 tally-requires c κs =
     let e = c .before .before in
     let l = c .before .before .before .before .before .before in
-    let b = c .before .before .before .before .before .before .before .before .before .before .before .before .before .before in (
-      (few e, judged-long _ _ _ (held e) (held-twelve _ _), λ k. omega (arith, l .loop .inv .1 .small k, c .before .before .before .before .before .loop-test .taken, b .pre .0)),
+    let b = c .before .before .before .before .before .before .before .before .before .before .before .before .before .before in
+    let p = judged-places _ _ _ (held e) (held-twelve _ _) in (
+      (p .0, p .1, λ k. omega (arith, l .loop .inv .1 .small k, c .before .before .before .before .before .loop-test .taken, b .pre .0)),
       page-countable _ _ _ (held e) (b .args .count) _ _ (long l) (b .pre .3),
     )
 

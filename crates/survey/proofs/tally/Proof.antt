@@ -25,7 +25,7 @@ abbrev μ-loop : tie.MeasureT-loop
 
 -- the variant from which a turn comes
 abbrev top : tie.At-loop Inv-loop μ-loop → tie.After-count Inv-loop μ-loop
-top l = l .before .before .before .before .before .before
+top l = l .before .before .before .before .before
 
 -- what is known where homes are counted
 known : (c : tie.After-count Inv-loop μ-loop) → Countable (Homes (c .count .given .0 .0)) (Stands (c .before .before .before .args .judged)) (length (now (c .before .before .before .args .row)))

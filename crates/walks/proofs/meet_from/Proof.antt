@@ -10,17 +10,17 @@ use denote.Ref.{now}
 use Rattle.layouts.specs.Layout.{inUse}
 use Rattle.homes.specs.Homes.{homeIn}
 use Rattle.walks.specs.Walks.{walk}
-use Rattle.walks.specs.steps.Plans.{slots}
-use Rattle.walks.proofs.Scanning.{ToScan, Rows, Tested, left-all, after-last, slot-after, slot-used, slot-hit, slot-on}
-use Rattle.walks.proofs.Meeting.{home-fits, Seen, page-few, page-rows, walkLeft, walk-starts, walk-past, walk-sick, walk-found, walk-ends, walk-on}
+use Rattle.walks.specs.steps.Plans.{slots, held}
+use Rattle.walks.proofs.Scanning.{ToScan, Rows, Tested, left-all, slot-upto, slot-after, slot-used, slot-hit, slot-on}
+use Rattle.walks.proofs.Meeting.{home-fits, Seen, page-few, page-slot, page-rows, walkLeft, walk-starts, walk-past, walk-sick, walk-found, walk-ends, walk-on}
 use Rattle.walks.proofs.meet_from.Statement.{statement}
 use Rattle.walks.proofs.meet_from.Tie as tie
 
 abbrev Inv-loop : tie.InvT-loop
-Inv-loop area cap shape home key a read page count homes slot₀ slot = ToScan (homeIn shape) key page slot
+Inv-loop area cap shape home key a read count keys homes slot₀ slot = ToScan (homeIn shape) key (held area a) slot
 
 abbrev μ-loop : tie.MeasureT-loop
-μ-loop area cap shape home key a read page count homes slot₀ slot = slots - slot
+μ-loop area cap shape home key a read count keys homes slot₀ slot = slots - slot
 
 abbrev Inv-pages : tie.InvT-pages
 Inv-pages area cap shape home key a₀ read₀ a read =
@@ -48,54 +48,46 @@ good c = not-false _ (c .if2 .left)
 
 -- and its rows are known
 rows : (c : tie.Else2 Inv-loop μ-loop Inv-pages μ-pages)
-    → Rows (homeIn (c .before .before .before .before .before .before .args .shape)) (c .before .before .judge-at .result .page)
-    (c .before .before .judge-at .result .homes)
+    → let w = c .before .before .before .before in
+    Rows (homeIn (w .before .before .args .shape)) (held (now (w .before .before .args .area)) (w .pages .a)) (c .before .before .judge-at .result)
 rows c =
     let j = c .before .before in
     let w = j .before .before in
     let s = w .before .before in
     page-rows (seen j) (good c) (omega (arith, s .pre, w .pages .inv, j .before .if1)) (λ i. omega (arith, w .before .shared-slice-known .given i))
 
--- and has no more records than places
-few : (c : tie.Else2 Inv-loop μ-loop Inv-pages μ-pages) → c .before .before .judge-at .result .page .count ≤ 12
-few c = page-few (seen (c .before .before)) (good c)
-
 -- a slot is tested for what is left from it on
 tested : (c : tie.After-before2 Inv-loop μ-loop Inv-pages μ-pages)
-    → Tested (homeIn (c .before .before .before .before .before .before .before .before .before .before .before .before .args .shape))
-    (c .before .before .before .before .before .before .before .before .judge-at .result .page)
-    (c .before .before .before .before .before .before .before .before .judge-at .result .homes)
-    (c .before .before .before .before .before .before .before .before .before .before .before .before .args .key)
-    (c .before .before .before .before .before .before .before .before .before .before .before .before .args .home)
-    (c .before .before .before .loop .slot) (c .before2 .result)
+    → let j = c .before .before .before .before .before .before .before in
+    let w = j .before .before in
+    let a = w .before .before .args in
+    Tested (homeIn (a .shape)) (held (now (a .area)) (w .pages .a)) (j .judge-at .result) (a .key) (a .home) (c .before .before .loop .slot) (c .before2 .result)
 tested c =
-    let d = c .before .before .before .before .before .before in
-    let w = d .before .before .before .before in
-    record {
-      rows = rows d;
-      left = c .before .before .before .loop .inv;
-      small = omega (arith, w .before .before .fits);
-      lives = w .before .before .pre .4;
-      told = c .before2 .ensures;
-    }
+    let d = c .before .before .before .before .before in
+    let s = d .before .before .before .before .before .before in
+    record { rows = rows d; left = c .before .before .loop .inv; small = omega (arith, s .fits); lives = s .pre .4; told = c .before2 .ensures }
 
 loop-holds : tie.Need-loop-holds Inv-loop μ-loop Inv-pages μ-pages
 loop-holds c = left-all _ _ _
 
+value-at-requires : tie.Need-value-at-requires Inv-loop μ-loop Inv-pages μ-pages
+value-at-requires c κs =
+    let b = c .before .before in
+    let d = b .before .before .before .before .before in
+    (search needs, search needs, page-slot (seen (d .before .before)) (good d) (slot-used (tested b) (c .before .if3 .left)))
+
 loop-again : tie.Need-loop-again Inv-loop μ-loop Inv-pages μ-pages
-loop-again c = slot-on (tested (c .before .before .before)) (c .before .before .if3 .left) (c .if4 .left)
+loop-again c = slot-on (tested (c .before .before)) (c .before .if3 .left) (c .if4 .left)
 
 pages-again : tie.Need-pages-again Inv-loop μ-loop Inv-pages μ-pages
 pages-again c =
     let d = c .before .before .before .before in
     let j = d .before .before in
     let w = j .before .before in
-    let s = w .before .before in
-    let left = c .before .loop .inv in
-    let after = after-last (homeIn (s .args .shape)) (s .args .key) (j .judge-at .result .page) (c .before .loop .slot) (omega (arith, c .loop-test .left, few d)) in (
+    let s = w .before .before in (
       omega arith,
       omega arith,
-      walk-on (seen j) (s .args .key) (w .pages .read) (good d) (rows d) (omega (arith, s .fits)) left after (c .loop-test .left) ∙ w .pages .inv .2,
+      walk-on (seen j) (s .args .key) (w .pages .read) (good d) (rows d) (omega (arith, s .fits)) (c .before .loop .inv) (c .loop-test .left) ∙ w .pages .inv .2,
     )
 
 returns : tie.Need-returns Inv-loop μ-loop Inv-pages μ-pages
@@ -116,26 +108,27 @@ returns-2 c =
 returns-3 : tie.Need-returns-3 Inv-loop μ-loop Inv-pages μ-pages
 returns-3 c =
     let b = c .before in
-    let d = b .before .before .before .before .before .before in
+    let d = b .before .before .before .before .before in
     let j = d .before .before in
     let w = j .before .before in
     let s = w .before .before in
     let t = tested b in (
-      walk-ends (seen j) (s .args .key) (w .pages .read) (good d) (rows d) (t .small) (t .left) (slot-after t (c .if3 .taken)) (b .before .before .loop-test .taken)
+      walk-ends (seen j) (s .args .key) (w .pages .read) (good d) (rows d) (t .small) (t .left) (slot-after t (c .if3 .taken)) (b .before .loop-test .taken)
           ∙ w .pages .inv .2,
-      (j .before .if1 .left, t .left .upto, few d, omega arith, omega arith),
+      (j .before .if1 .left, slot-upto t, page-few (seen j) (good d), omega arith, omega arith),
     )
 
 returns-4 : tie.Need-returns-4 Inv-loop μ-loop Inv-pages μ-pages
 returns-4 c =
-    let b = c .before .before .before .before in
-    let d = b .before .before .before .before .before .before in
+    let b = c .before .before .before in
+    let d = b .before .before .before .before .before in
     let j = d .before .before in
     let w = j .before .before in
     let s = w .before .before in
-    let t = tested b in (
-      walk-found (seen j) (s .args .key) (w .pages .read) (good d) _ _ (slot-hit t (c .before .before .before .if3 .left) (c .before .if4 .taken)) ∙ w .pages .inv .2,
-      (j .before .if1 .left, slot-used t (c .before .before .before .if3 .left), few d, omega arith),
+    let t = tested b in
+    let used = c .before .before .if3 .left in (
+      walk-found (seen j) (s .args .key) (w .pages .read) (good d) _ _ (slot-hit t used (c .before .if4 .taken) _ (c .value-at .ensures)) ∙ w .pages .inv .2,
+      (j .before .if1 .left, slot-used t used, page-few (seen j) (good d), omega arith),
     )
 
 pub meet-from-spec : {M : Type 1} → statement M
@@ -157,8 +150,7 @@ meet-from-spec =
     (λ c κs. search needs)
     (λ c. search needs)
     (λ c. search needs)
-    (λ c. search needs)
-    (λ c. search needs)
+    value-at-requires
     (λ c. search needs)
     (λ c. search needs)
     loop-again

@@ -38,23 +38,22 @@ returns c =
 
 returns-2 : tie.Need-returns-2 Inv-loop μ-loop
 returns-2 c =
-    let j = c .before .before .before .before .before in
+    let j = c .before .before .before .before in
     let w = j .before .before in
     let s = w .before .before in (
-      reach-here (seen j) (s .args .first) (s .args .at) (w .loop .read) (not-false _ (c .before .before .before .if1 .left)) (c .if2 .taken) ∙ w .loop .inv .3,
+      reach-here (seen j) (s .args .first) (s .args .at) (w .loop .read) (not-false _ (c .before .before .if1 .left)) (c .if2 .taken) ∙ w .loop .inv .3,
       (omega arith, omega arith, omega arith),
     )
 
 loop-again : tie.Need-loop-again Inv-loop μ-loop
 loop-again c =
-    let j = c .before .before .before .before .before in
+    let j = c .before .before .before .before in
     let w = j .before .before in
     let s = w .before .before in (
       omega arith,
       omega arith,
       omega arith,
-      reach-on (seen j) (s .args .first) (s .args .at) (w .loop .read) (not-false _
-          (c .before .before .before .if1 .left)) (c .if2 .left) ∙ w .loop .inv .3,
+      reach-on (seen j) (s .args .first) (s .args .at) (w .loop .read) (not-false _ (c .before .before .if1 .left)) (c .if2 .left) ∙ w .loop .inv .3,
     )
 
 returns-3 : tie.Need-returns-3 Inv-loop μ-loop

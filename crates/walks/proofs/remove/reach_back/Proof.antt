@@ -31,35 +31,35 @@ returns c =
 
 returns-2 : tie.Need-returns-2 Inv-loop μ-loop
 returns-2 c =
-    let g = c .before .before .before .before .before .before .before .before .before .before in
-    let w = c .before .before .before .before .before .before .before .before .loop in
-    let m = c .before .before .before .before .before .before in (
+    let m = c .before .before .before .before .before in
+    let w = m .before .before .loop in
+    let g = m .before .before .before .before in (
       plan-apart (homeIn (g .args .shape)) (g .args .area .now) (g .args .cap) (g .args .first) (g .args .at) (w .a) (w .read)
-          (m .judge-at .result) (m .judge-at .ensures) (omega arith) (c .before .before .before .before .if1 .left) (c .if2 .taken) ∙ w .inv .3,
+          (m .judge-at .result) (m .judge-at .ensures) (omega arith) (c .before .before .before .if1 .left) (c .if2 .taken) ∙ w .inv .3,
       (omega arith, omega arith, omega arith),
     )
 
 returns-3 : tie.Need-returns-3 Inv-loop μ-loop
 returns-3 c =
-    let g = c .before .before .before .before .before .before .before .before .before .before .before .before in
-    let w = c .before .before .before .before .before .before .before .before .before .before .loop in
-    let m = c .before .before .before .before .before .before .before .before in (
+    let m = c .before .before .before .before .before .before .before in
+    let w = m .before .before .loop in
+    let g = m .before .before .before .before in (
       plan-short (homeIn (g .args .shape)) (g .args .area .now) (g .args .cap) (g .args .first) (g .args .at) (w .a) (w .read)
-          (m .judge-at .result) (m .judge-at .ensures) (omega arith) (c .before .before .before .before .before .before .if1 .left)
+          (m .judge-at .result) (m .judge-at .ensures) (omega arith) (c .before .before .before .before .before .if1 .left)
           (c .before .before .if2 .left) (c .if3 .taken) ∙ w .inv .3,
       (omega arith, omega arith, omega arith),
     )
 
 loop-again : tie.Need-loop-again Inv-loop μ-loop
 loop-again c =
-    let g = c .before .before .before .before .before .before .before .before .before .before .before .before in
-    let w = c .before .before .before .before .before .before .before .before .before .before .loop in
-    let m = c .before .before .before .before .before .before .before .before in (
+    let m = c .before .before .before .before .before .before .before in
+    let w = m .before .before .loop in
+    let g = m .before .before .before .before in (
       omega arith,
       omega arith,
       omega arith,
       plan-full (homeIn (g .args .shape)) (g .args .area .now) (g .args .cap) (g .args .first) (g .args .at) (w .a) (w .read)
-          (m .judge-at .result) (m .judge-at .ensures) (omega arith) (c .before .before .before .before .before .before .if1 .left)
+          (m .judge-at .result) (m .judge-at .ensures) (omega arith) (c .before .before .before .before .before .if1 .left)
           (c .before .before .if2 .left) (c .if3 .left) ∙ w .inv .3,
     )
 

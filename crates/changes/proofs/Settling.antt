@@ -21,7 +21,7 @@ use Rattle.state.proofs.Ranges.{ranged}
 use Rattle.walks.specs.declared.Plan.{Plan}
 use Rattle.walks.specs.declared.Plan.the-variants.{Go, Stop}
 use Rattle.walks.specs.Walks.{Pages, Walked, putWalk, removeWalk, writes}
-use Rattle.walks.specs.steps.Plans.{held, poured, drawn, planned, planIn, placedIn}
+use Rattle.walks.specs.steps.Plans.{held, poured, drawn, planned, planIn, placedIn, Formed, formedIn}
 use Rattle.changes.specs.Changes.{done, Outcome, settled, putOpen, removeOpen}
 
 -- the state and answer, and the area, of an outcome
@@ -103,6 +103,9 @@ module _ (s : State) (h : inRange inUse s ≡ true) (p : Plan) (f i last read : 
 
   pub place-known : (home : ℕ → ℕ) (area : List ℕ) (x : Record) → placedIn home area (key x) p → i ≡ ahead (rank home) (rank home x) (held area f)
   place-known home area x w = rw e at w
+
+  pub pages-formed : (area : List ℕ) → formedIn area p → Formed area f last
+  pages-formed area w = rw e at w
 
 -- a put where there is room
 pub more-low : (s : State) → inRange inUse s ≡ true → (s .r ≡ slotsOn inUse (s .cap) → ⊥) → s .r < 49152

@@ -1,6 +1,6 @@
 -- Put and remove where nothing was refused before the walk: what each answers, and the state and the
 -- area that it leaves. What is quoted is 01's.
-use Prim.Native.Nat.{ℕ, _*_}
+use Prim.Native.Nat.{ℕ}
 use mathlib.Core.Bool.{Bool, cond}
 use mathlib.Core.List.{List}
 use lib.Dec.{eqb}

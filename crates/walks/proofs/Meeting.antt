@@ -18,10 +18,10 @@ use Rattle.placing.specs.Lay.{rankOf, rankIn}
 use Rattle.placing.specs.Walks.{seek, lastAfter, endsOn}
 use Rattle.placing.proofs.Order.{Sorted}
 use Rattle.pages.specs.declared.Judged.{Judged}
-use Rattle.pages.specs.Page.{Record, key, countIn, readPage, judged}
+use Rattle.pages.specs.Page.{Record, key, readPage, judged}
 use Rattle.pages.specs.Places.{ahead}
 use Rattle.pages.specs.Area.{partAt, pagesFrom}
-use Rattle.pages.proofs.Read.{length-held, held-few}
+use Rattle.pages.proofs.Read.{held-few}
 use Rattle.pages.proofs.Judging.{judged-broken, judged-good, judged-held, judged-count}
 use Rattle.pages.proofs.RoundTrip.{read-good}
 use Rattle.pages.proofs.Rules.{rises-sorted}
@@ -67,10 +67,6 @@ module _ {h : ℕ → ℕ} {area : List ℕ} {cap a : ℕ} {j : Judged} (seen : 
 
     pub page-few : j .count ≤ 12
     page-few = omega (arith, page-counts, held-few inUse (partAt area a))
-
-    -- each stands in a slot
-    pub page-slot : {i : ℕ} → i < j .count → i < countIn inUse (partAt area a)
-    page-slot l = omega (arith, page-counts, length-held inUse (partAt area a))
 
     -- its rows, where the area holds it
     pub page-rows : 256 * (a + 1) ≤ length area → ((i : ℕ) → getD area i 0 < 256) → Rows h (held area a) j

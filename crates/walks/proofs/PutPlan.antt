@@ -15,7 +15,7 @@ use Rattle.layouts.specs.Layout.{inUse}
 use Rattle.placing.specs.Lay.{rankIn, ins}
 use Rattle.placing.proofs.Order.{ins-length}
 use Rattle.pages.specs.declared.Judged.{Judged}
-use Rattle.pages.specs.Page.{Record, key, value, readPage}
+use Rattle.pages.specs.Page.{Record, key, value, wellFormed, readPage}
 use Rattle.pages.specs.Area.{partAt, pagesFrom}
 use Rattle.pages.proofs.RoundTrip.{read-good}
 use Rattle.state.specs.declared.Answer.the-variants.{Broken, NoRoom}
@@ -26,7 +26,8 @@ use Rattle.walks.specs.declared.Met.the-variants as mets
 use Rattle.walks.specs.declared.Plan.{Plan}
 use Rattle.walks.specs.declared.Plan.the-variants.{Go, Stop}
 use Rattle.walks.specs.Walks.{Pages, went, stopped, andPage, walk, carry, putMet, putWalk}
-use Rattle.walks.specs.steps.Plans.{slots, held, poured, reached, planned, placedIn}
+use Rattle.walks.specs.steps.Plans.{slots, held, poured, reached, planned, placedIn, formedIn}
+use Rattle.walks.proofs.Formed.{LastFrom, later, plan-formed, reached-formed}
 use Rattle.walks.proofs.Meeting.{Seen, pages-next, page-broken, page-read, page-counts, Known, walk-known}
 
 -- what is left of the way to the first page with room, from page a on, where n pages were read
@@ -57,21 +58,13 @@ module _ {h : ℕ → ℕ} {area : List ℕ} {cap a : ℕ} {j : Judged} (seen : 
     reach-on l = sym (at-page ∙ rw (le-ltb (j .count) slots l))
 
 module _ (f at : ℕ) where
-  -- a plan from page f on whose last page is page a or a later one
-  abbrev pub LastFrom : ℕ → Plan → Type 0
-  LastFrom a (Go g i last read) = (g ≡ f) × (i ≡ at) × (a ≤ last)
-  LastFrom a (Stop why) = Unit {0}
-
-  pub later : (a : ℕ) (p : Plan) → LastFrom (suc a) p → LastFrom a p
-  later a (Go g i last read) l = (l .0, l .1, omega arith)
-  later a (Stop why) l = tt
-
-  reached-from : (b a n : ℕ) (ps : List (Option (List Record))) → LastFrom a (reached b f at a n ps)
+  -- so is one to the first page with room
+  reached-from : (b a n : ℕ) (ps : List (Option (List Record))) → LastFrom f at a (reached b f at a n ps)
   reached-from b a n [] = tt
   reached-from b a n (none ∷ ps) = tt
-  reached-from b a n (some p ∷ ps) = go (ltb (length p) b) (later a (reached b f at (suc a) (suc n) ps) (reached-from b (suc a) (suc n) ps))
+  reached-from b a n (some p ∷ ps) = go (ltb (length p) b) (later f at a (reached b f at (suc a) (suc n) ps) (reached-from b (suc a) (suc n) ps))
     where
-      go : (u : Bool) → LastFrom a (reached b f at (suc a) (suc n) ps) → LastFrom a (cond u (Go f at a (suc n)) (reached b f at (suc a) (suc n) ps))
+      go : (u : Bool) → LastFrom f at a (reached b f at (suc a) (suc n) ps) → LastFrom f at a (cond u (Go f at a (suc n)) (reached b f at (suc a) (suc n) ps))
       go true l = (refl, refl, omega arith)
       go false l = l
 
@@ -179,3 +172,14 @@ module _ (h : ℕ → ℕ) (area : List ℕ) (x : Record) where
       -- with the key's place on the first page of the plan
       pub put-placed : (p : Plan) → p ≡ reachLeft h area cap a i (suc a) n → placedIn h area k p
       put-placed p q = rw q (placed (suc a) (reachLeft h area cap a i (suc a) n) (reached-from a i slots (suc a) n (pagesFrom inUse h area (cap - suc a) (suc a))))
+
+      -- whose bytes are well formed
+      pub put-formed : wellFormed inUse a (partAt area a) ≡ true
+      put-formed = read-good inUse h a (partAt area a) (held area a) (put-at .0 .read) .formed
+
+      -- with those of the pages after it
+      pub put-reached : (p : Plan) → p ≡ reachLeft h area cap a i (suc a) n → formedIn area p
+      put-reached p q =
+          rw q
+          (plan-formed area a i (suc a) (reachLeft h area cap a i (suc a) n) (reached-from a i slots (suc a) n (pagesFrom inUse h area (cap - suc a) (suc a)))
+          put-formed (reached-formed area h a i (cap - suc a) (suc a) n))

@@ -10,12 +10,12 @@ use lib.Dec.{leb, ltb}
 use lib.ListN.{length}
 use lib.Seq.{take-all}
 use Rattle.layouts.specs.Layout.{inUse}
-use Rattle.placing.specs.Image.{All}
 use Rattle.placing.specs.Lay.{rankIn, ins}
 use Rattle.placing.proofs.Order.{Sorted, ins-length}
 use Rattle.pages.specs.Page.{Record, key, vacant, rises, readPage}
 use Rattle.pages.specs.Places.{closed}
-use Rattle.pages.proofs.Rows.{closed-length}
+use Rattle.pages.specs.steps.Slots.{backed}
+use Rattle.pages.proofs.Rows.{closed-length, all-closed}
 use Rattle.pages.specs.Area.{partAt, pagesFrom}
 use Rattle.pages.proofs.RoundTrip.{Good, read-good}
 use Rattle.pages.proofs.Rules.{rises-sorted}
@@ -23,8 +23,8 @@ use Rattle.pages.proofs.Places.{back-ahead, ins-opened}
 use Rattle.walks.specs.declared.Plan.{Plan}
 use Rattle.walks.specs.declared.Plan.the-variants.{Go, Stop}
 use Rattle.walks.specs.Walks.{Walked, went, stopped, andPage, pullBack}
-use Rattle.walks.specs.steps.Plans.{slots, held, firstOf, backed, drawn, reachedBack, planned}
-use Rattle.walks.proofs.PutPlan.{LastFrom, later}
+use Rattle.walks.specs.steps.Plans.{slots, held, firstOf, drawn, reachedBack, planned}
+use Rattle.walks.proofs.Formed.{LastFrom, later}
 
 -- a record at its place from the back, where there is room for it
 back-ins : (b : ℕ) (h : ℕ → ℕ) (y : Record) (s : List Record) → Sorted (rankIn key h) s → length s < b → backed b h y s ≡ ins (rankIn key h) y s
@@ -34,13 +34,6 @@ back-ins b h y s k n =
 
 -- closing up a slot keeps records sorted
 module _ {R : Type 0} where
-  all-closed : (P : R → Type 0) (i : ℕ) (s : List R) → All P s → All P (closed i s)
-  unfolding closed
-  all-closed P zero [] k = tt
-  all-closed P zero (x ∷ s) k = k .1
-  all-closed P (suc i) [] k = tt
-  all-closed P (suc i) (x ∷ s) k = (k .0, all-closed P i s (k .1))
-
   sorted-closed : (rank : R → ℕ) (i : ℕ) (s : List R) → Sorted rank s → Sorted rank (closed i s)
   unfolding closed
   sorted-closed rank zero [] k = tt
@@ -53,7 +46,7 @@ module _ {R : Type 0} where
   closed-first y q = refl
 
 -- a plan begins where it was asked to, and goes to page a at least
-begins : (b : ℕ) (h : ℕ → ℕ) (f at a n : ℕ) (ps : List (Option (List Record))) → LastFrom f at a (reachedBack b h f at a n ps)
+pub begins : (b : ℕ) (h : ℕ → ℕ) (f at a n : ℕ) (ps : List (Option (List Record))) → LastFrom f at a (reachedBack b h f at a n ps)
 begins b h f at a n [] = (refl, refl, omega arith)
 begins b h f at a n (none ∷ ps) = tt
 begins b h f at a n (some [] ∷ ps) = (refl, refl, omega arith)

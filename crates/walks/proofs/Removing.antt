@@ -1,11 +1,13 @@
 -- A remove by what its walk to the key met.
 use mathlib.Core.Path.{_≡_, ap, _∙_}
+use mathlib.Core.Bool.{true}
 use mathlib.Core.List.{List}
 use Prim.Native.Nat.{ℕ, suc, _-_, _≤_, _<_}
 use native.Mathlib.Omega.{arith}
 use lib.ListN.{length}
 use borrow.Author.Tests.{lt-ltb, le-ltb}
 use Rattle.layouts.specs.Layout.{inUse}
+use Rattle.pages.specs.Page.{wellFormed}
 use Rattle.pages.specs.Area.{partAt, pagesFrom}
 use Rattle.pages.proofs.RoundTrip.{read-good}
 use Rattle.walks.specs.declared.Met.{Met}
@@ -14,9 +16,10 @@ use Rattle.walks.specs.declared.Met.the-variants as mets
 use Rattle.walks.specs.declared.Plan.{Plan}
 use Rattle.walks.specs.declared.Plan.the-variants.{Go}
 use Rattle.walks.specs.Walks.{walk, removeMet, removeWalk}
-use Rattle.walks.specs.steps.Plans.{slots, held, drawn, reachedBack, planned, metIn}
+use Rattle.walks.specs.steps.Plans.{slots, held, drawn, reachedBack, planned, metIn, formedIn}
 use Rattle.walks.proofs.Meeting.{Counted, walk-known}
-use Rattle.walks.proofs.RemovePlan.{remove-plan}
+use Rattle.walks.proofs.RemovePlan.{begins, remove-plan}
+use Rattle.walks.proofs.Formed.{plan-formed, back-formed}
 
 -- where the walk ended, by the case
 pub found-in : (cap : ℕ) (met : Met) (a i c v n : ℕ) → met ≡ Found a i c v n → metIn cap met → (a < cap) × (i < c) × (c ≤ 12) × (n ≤ suc a)
@@ -48,3 +51,13 @@ module _ (h : ℕ → ℕ) (area : List ℕ) (cap k : ℕ) (met : Met) (is : met
         ap (planned (drawn h area)) q
         ∙ remove-plan h area cap a i n (read-good inUse h a (partAt area a) (held area a) (found-counted .read) .rising) (omega (arith, found-counted .count)) (omega arith)
         ∙ rw (le-ltb (length (held area a)) slots (omega (arith, found-counted .count))) at (remove-met (Found a i c v n) e)
+
+    -- the page's bytes are well formed, and those of the pages after it that the plan changes
+    pub found-formed : wellFormed inUse a (partAt area a) ≡ true
+    found-formed = read-good inUse h a (partAt area a) (held area a) (found-counted .read) .formed
+
+    pub remove-formed : (p : Plan) → p ≡ reachedBack slots h a i a n (pagesFrom inUse h area (cap - suc a) (suc a)) → formedIn area p
+    remove-formed p q =
+        rw q
+        (plan-formed area a i a (reachedBack slots h a i a n (pagesFrom inUse h area (cap - suc a) (suc a))) (begins slots h a i a n (pagesFrom inUse h area (cap - suc a) (suc a)))
+        found-formed (back-formed area h a i (cap - suc a) a n))

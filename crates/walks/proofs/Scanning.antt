@@ -15,19 +15,11 @@ use Rattle.placing.specs.Image.{All}
 use Rattle.placing.specs.Lay.{rankOf, rankIn, ranked}
 use Rattle.placing.proofs.Lists.{all-getD}
 use Rattle.placing.proofs.Order.{Sorted, sorted-drop, lower}
-use Rattle.pages.specs.declared.Page.{Page}
 use Rattle.pages.specs.declared.Judged.{Judged}
 use Rattle.pages.specs.Page.{Record, key, value, vacant, judged}
 use Rattle.pages.specs.Places.{ahead}
-use Rattle.pages.specs.steps.Slots.{recordsOf}
-use Rattle.pages.proofs.Seeking.{paired-length}
 use Rattle.pages.proofs.Judging.{judged-count, judged-key, judged-home}
 use Rattle.walks.specs.Walks.{heldAt}
-
--- a page in memory has as many records as it counts
-pub records-count : (p : Page) → length (recordsOf p) ≡ p .count
-unfolding recordsOf
-records-count p = paired-length (p .count) (p .keys) (p .values) (p .runs)
 
 module _ (h : ℕ → ℕ) (k : ℕ) where
   -- these stand after the sought (home, key)

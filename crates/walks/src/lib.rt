@@ -85,12 +85,12 @@ pub fn meet_from(area: &[u8], cap: usize, shape: Shape, home: u64, key: u64) -> 
                 };
             }
             if keys[slot] == key {
-                let value = pages::value_at(area, a, IN_USE, slot);
+                let held = pages::slots::record_at(area, a, IN_USE, slot);
                 break 'pages Met::Found {
                     page: a,
                     slot,
                     count,
-                    value,
+                    value: held.value,
                     read,
                 };
             }

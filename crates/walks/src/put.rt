@@ -5,22 +5,18 @@ use crate::Plan;
 use homes::Shape;
 use layouts::IN_USE;
 use layouts::SLOTS;
-use pages::Page;
 use pages::Record;
 use state::Answer;
 ghost use mathlib.Core.Path.{_≡_};
-ghost use mathlib.Core.Bool.{cond};
 ghost use Prim.Native.Nat.{suc, _+_, _-_, _*_, _≤_, _<_};
 ghost use lib.ListN.{length};
 ghost use Rattle.layouts.specs.Layout.{inUse};
 ghost use Rattle.homes.specs.Homes.{Ready, homeIn};
 ghost use Rattle.pages.specs.Page.{rank};
-ghost use Rattle.placing.specs.Lay.{ranked};
 ghost use Rattle.pages.specs.Places.{ahead};
-ghost use Rattle.pages.specs.steps.Slots.{recordsOf};
 ghost use Rattle.pages.specs.Area.{pagesFrom};
 ghost use Rattle.walks.specs.Walks.{putWalk, writes};
-ghost use Rattle.walks.specs.steps.Plans.{slots, poured, reached, planned, planIn, placedIn, held};
+ghost use Rattle.walks.specs.steps.Plans.{slots, poured, reached, planned, planIn, placedIn, Formed, formedIn, held};
 
 // From a full page on to the first page that isn't full.
 fn reach(area: &[u8], cap: usize, shape: Shape, first: usize, at: usize, seen: u32) -> Plan
@@ -60,7 +56,7 @@ fn reach(area: &[u8], cap: usize, shape: Shape, first: usize, at: usize, seen: u
 pub fn plan_put(area: &[u8], cap: usize, shape: Shape, home: u64, new: Record) -> Plan
     requires { ⌜ (cap ≤ 4096) × (length (now area) ≡ 256 * cap) × Ready shape × (shape .p ≤ cap) × (home ≡ homeIn shape (new .key)) ⌝ }
     ensures { λ r. ⌜ planned (λ n a i. poured (homeIn shape) (now (area .entry)) (suc n) a new) r ≡ putWalk inUse (homeIn shape) (now (area .entry)) cap new ⌝ }
-    ensures within { λ r. ⌜ planIn cap r × placedIn (homeIn shape) (now (area .entry)) (new .key) r ⌝ }
+    ensures within { λ r. ⌜ planIn cap r × placedIn (homeIn shape) (now (area .entry)) (new .key) r × formedIn (now (area .entry)) r ⌝ }
 {
     match crate::meet_from(area, cap, shape, home, new.key) {
         Met::Found {
@@ -100,33 +96,17 @@ pub fn plan_put(area: &[u8], cap: usize, shape: Shape, home: u64, new: Record) -
     }
 }
 
-// The place of a key on a page: known on the first one, sought from the front on those after it.
-fn place_on(page: Page, shape: Shape, known: bool, at: usize, key: u64) -> usize
-    requires { ⌜ (page .count ≤ 12) × Ready shape ⌝ }
-    ensures { λ r. ⌜ r ≡ cond known at (ahead (rank (homeIn shape)) (ranked (homeIn shape key) key) (recordsOf page)) ⌝ }
-{
-    if known {
-        return at;
-    }
-    pages::slots::place_ahead(page, shape, shape.home(key), key)
-}
-
-// The second phase of a put: a record goes to its place on each page, and the last of a full page
-// goes on to the next. It is total on any bytes.
+// The second phase of a put: the record goes to its place on the first page, and the last record of
+// a full page to its place on the next. The pages are those that the first phase judged.
 pub fn pour(area: &mut [u8], shape: Shape, first: usize, at: usize, last: usize, new: Record)
     requires { ⌜ (first ≤ last) × (last < 4096) × (256 * (last + 1) ≤ length (now area)) × Ready shape ⌝ }
-    requires { ⌜ at ≡ ahead (rank (homeIn shape)) (rank (homeIn shape) new) (held (now area) first) ⌝ }
+    requires { ⌜ (at ≡ ahead (rank (homeIn shape)) (rank (homeIn shape) new) (held (now area) first)) × Formed (now area) first last ⌝ }
     ensures { λ _. ⌜ now (area .exit) ≡ writes inUse (now (area .entry)) (poured (homeIn shape) (now (area .entry)) (suc (last - first)) first new) ⌝ }
 {
-    let mut a = first;
-    let mut x = new;
+    let mut x = pages::slots::insert_at(area, first, IN_USE, at, new);
+    let mut a = first + 1;
     while a <= last {
-        let page = pages::parse_at(&area[..], a, IN_USE);
-        let place = place_on(page, shape, a == first, at, x.key);
-        let pushed = pages::slots::push(page, place, x);
-        let next = pushed.page;
-        pages::store_at(area, a, IN_USE, next);
-        x = pushed.over;
+        x = pages::slots::push_at(area, a, IN_USE, shape, x);
         a += 1;
     }
 }

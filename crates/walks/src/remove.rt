@@ -4,20 +4,15 @@ use crate::Plan;
 use homes::Shape;
 use layouts::IN_USE;
 use layouts::SLOTS;
-use pages::Page;
-use pages::Record;
 use state::Answer;
 ghost use mathlib.Core.Path.{_≡_};
 ghost use Prim.Native.Nat.{suc, _+_, _-_, _*_, _≤_, _<_};
 ghost use lib.ListN.{length};
 ghost use Rattle.layouts.specs.Layout.{inUse};
 ghost use Rattle.homes.specs.Homes.{Ready, homeIn};
-ghost use Rattle.pages.specs.Page.{inMemory};
-ghost use Rattle.pages.specs.Places.{closed};
-ghost use Rattle.pages.specs.steps.Slots.{recordsOf};
 ghost use Rattle.pages.specs.Area.{pagesFrom};
 ghost use Rattle.walks.specs.Walks.{removeWalk, writes};
-ghost use Rattle.walks.specs.steps.Plans.{slots, backed, drawn, reachedBack, planned, planIn, firstOf};
+ghost use Rattle.walks.specs.steps.Plans.{slots, drawn, reachedBack, planned, planIn, Formed, formedIn};
 
 // From a full page on, page by page, while the next page's first record has a home no higher than
 // the page before it.
@@ -70,7 +65,7 @@ fn reach_back(area: &[u8], cap: usize, shape: Shape, first: usize, at: usize, se
 pub fn plan_remove(area: &[u8], cap: usize, shape: Shape, key: u64) -> Plan
     requires { ⌜ (cap ≤ 4096) × (length (now area) ≡ 256 * cap) × Ready shape × (shape .p ≤ cap) ⌝ }
     ensures { λ r. ⌜ planned (drawn (homeIn shape) (now (area .entry))) r ≡ removeWalk inUse (homeIn shape) (now (area .entry)) cap key ⌝ }
-    ensures within { λ r. ⌜ planIn cap r ⌝ }
+    ensures within { λ r. ⌜ planIn cap r × formedIn (now (area .entry)) r ⌝ }
 {
     match crate::meet(area, cap, shape, key) {
         Met::Found {
@@ -110,51 +105,19 @@ pub fn plan_remove(area: &[u8], cap: usize, shape: Shape, key: u64) -> Plan
     }
 }
 
-// A page with a slot closed up, if a record stands in it.
-fn close_up(page: Page, slot: usize) -> Page
-    requires { ⌜ (page .count ≤ 12) × (page ≡ inMemory (recordsOf page)) ⌝ }
-    ensures { λ r. ⌜ r ≡ inMemory (closed slot (recordsOf page)) ⌝ }
-{
-    if page.count <= slot {
-        return page;
-    }
-    pages::slots::take_out(page, slot)
-}
-
-// A page with the first record of the page after it in its place, sought from the back.
-fn take_back(page: Page, next: Page, shape: Shape) -> Page
-    requires { ⌜ (page .count ≤ 12) × (page ≡ inMemory (recordsOf page)) × (next ≡ inMemory (recordsOf next)) × Ready shape ⌝ }
-    ensures { λ r. ⌜ r ≡ inMemory (backed slots (homeIn shape) (firstOf (recordsOf next)) (recordsOf page)) ⌝ }
-{
-    let keys = next.keys;
-    let values = next.values;
-    let runs = next.runs;
-    let key = keys[0];
-    let value = values[0];
-    let run = runs[0];
-    let place = pages::slots::place_back(page, shape, shape.home(key), key);
-    let pushed = pages::slots::push(page, place, Record { key, value, run });
-    pushed.page
-}
-
 // The second phase of a remove: the slots are closed up, and each page but the last takes the first
-// record of the next. It is total on any bytes.
+// record of the next. The pages are those that the first phase judged.
 pub fn draw_back(area: &mut [u8], shape: Shape, first: usize, at: usize, last: usize)
-    requires { ⌜ (first ≤ last) × (last < 4096) × (256 * (last + 1) ≤ length (now area)) × Ready shape ⌝ }
+    requires { ⌜ (first ≤ last) × (last < 4096) × (256 * (last + 1) ≤ length (now area)) × Ready shape × Formed (now area) first last ⌝ }
     ensures { λ _. ⌜ now (area .exit) ≡ writes inUse (now (area .entry)) (drawn (homeIn shape) (now (area .entry)) (last - first) first at) ⌝ }
 {
     let mut slot = at;
     let mut a = first;
     while a < last {
-        let page = pages::parse_at(&area[..], a, IN_USE);
-        let next = pages::parse_at(&area[..], a + 1, IN_USE);
-        let closed = close_up(page, slot);
-        let full = take_back(closed, next, shape);
-        pages::store_at(area, a, IN_USE, full);
+        let next = pages::slots::record_at(&area[..], a + 1, IN_USE, 0);
+        pages::slots::refill_at(area, a, IN_USE, shape, slot, next);
         slot = 0;
         a += 1;
     }
-    let page = pages::parse_at(&area[..], last, IN_USE);
-    let closed = close_up(page, slot);
-    pages::store_at(area, last, IN_USE, closed);
+    pages::slots::take_out_at(area, last, IN_USE, slot);
 }

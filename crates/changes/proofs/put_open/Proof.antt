@@ -6,7 +6,7 @@ use borrow.Author.Needs.{needs}
 use Rattle.layouts.specs.Layout.{inUse}
 use Rattle.homes.specs.Homes.{homeIn}
 use Rattle.state.proofs.Ranges.{ranged, in-shape}
-use Rattle.changes.proofs.Settling.{shape-fits, home-shaped, put-stops, put-full, put-goes, writes-low, place-known, more-low}
+use Rattle.changes.proofs.Settling.{shape-fits, home-shaped, put-stops, put-full, put-goes, writes-low, place-known, pages-formed, more-low}
 use Rattle.changes.proofs.put_open.Statement.{statement}
 use Rattle.changes.proofs.put_open.Tie as tie
 
@@ -59,8 +59,11 @@ pour-requires c κs =
     let b = h .before .before in
     let w = low k in (
       (w .0, w .1, w .2, h .shape .ensures .1),
-      place-known (b .args .state) (b .pre .0) _ (g .0 .0) (g .0 .1 .0) (g .0 .1 .1 .0) (g .0 .1 .1 .1 .0) (g .1)
-          (homeIn (h .shape .result)) (now (b .args .area)) (b .args .new) (o .plan-put .ensures .1 .1),
+      (
+        place-known (b .args .state) (b .pre .0) _ (g .0 .0) (g .0 .1 .0) (g .0 .1 .1 .0) (g .0 .1 .1 .1 .0) (g .1)
+            (homeIn (h .shape .result)) (now (b .args .area)) (b .args .new) (o .plan-put .ensures .1 .1),
+        pages-formed (b .args .state) (b .pre .0) _ (g .0 .0) (g .0 .1 .0) (g .0 .1 .1 .0) (g .0 .1 .1 .1 .0) (g .1) (now (b .args .area)) (o .plan-put .ensures .1 .2),
+      ),
     )
 
 one-more-requires : tie.Need-one-more-requires

@@ -5,7 +5,7 @@ use denote.Ref.{now}
 use borrow.Author.Needs.{needs}
 use Rattle.layouts.specs.Layout.{inUse}
 use Rattle.state.proofs.Ranges.{ranged, in-shape}
-use Rattle.changes.proofs.Settling.{shape-fits, remove-stops, remove-none, remove-goes, writes-low}
+use Rattle.changes.proofs.Settling.{shape-fits, remove-stops, remove-none, remove-goes, writes-low, pages-formed}
 use Rattle.changes.proofs.remove_open.Statement.{statement}
 use Rattle.changes.proofs.remove_open.Tie as tie
 
@@ -17,7 +17,7 @@ low c =
     let g = c .plan2 .given in
     let o = c .before .before in
     let b = o .before .before .before .before .before in
-    writes-low (b .args .state) (b .pre .0) _ (g .0 .0) (g .0 .1 .0) (g .0 .1 .1 .0) (g .0 .1 .1 .1 .0) (g .1) _ (b .pre .1) (o .plan-remove .ensures .1)
+    writes-low (b .args .state) (b .pre .0) _ (g .0 .0) (g .0 .1 .0) (g .0 .1 .1 .0) (g .0 .1 .1 .1 .0) (g .1) _ (b .pre .1) (o .plan-remove .ensures .1 .0)
 
 -- the plan that was gone by
 abbrev gone : tie.After-one-less → tie.After-plan2
@@ -45,9 +45,13 @@ returns c =
 draw-back-requires : tie.Need-draw-back-requires
 draw-back-requires c κs =
     let k = c .before .before .before .before in
-    let h = k .before .before .before .before .before in
+    let g = k .plan2 .given in
+    let o = k .before .before in
+    let h = o .before .before .before in
+    let b = h .before .before in
     let w = low k in
-    (w .0, w .1, w .2, h .shape .ensures .1)
+    let formed = pages-formed (b .args .state) (b .pre .0) _ (g .0 .0) (g .0 .1 .0) (g .0 .1 .1 .0) (g .0 .1 .1 .1 .0) (g .1) (now (b .args .area)) (o .plan-remove .ensures .1 .1) in
+    (w .0, w .1, w .2, h .shape .ensures .1, formed)
 
 wrote-requires : tie.Need-wrote-requires
 wrote-requires c κs = let w = low (gone c) in (w .0, w .1)

@@ -1,6 +1,6 @@
 -- `walks::meet_from` meets its contract. The outer invariant: what is left of the walk is the whole of
 -- it. The inner one: what is left of the page's slots decides as all of them do.
-use mathlib.Core.Path.{_≡_, refl, _∙_}
+use mathlib.Core.Path.{_≡_, refl, ap, _∙_}
 use mathlib.Core.Bool.{true}
 use Prim.Native.Nat.{_-_, _≤_, _<_}
 use native.Mathlib.Omega.{arith}
@@ -9,10 +9,11 @@ use borrow.Author.Tests.{not-true, not-false}
 use denote.Ref.{now}
 use Rattle.layouts.specs.Layout.{inUse}
 use Rattle.homes.specs.Homes.{homeIn}
+use Rattle.pages.specs.Page.{value}
 use Rattle.walks.specs.Walks.{walk}
 use Rattle.walks.specs.steps.Plans.{slots, held}
 use Rattle.walks.proofs.Scanning.{ToScan, Rows, Tested, left-all, slot-upto, slot-after, slot-used, slot-hit, slot-on}
-use Rattle.walks.proofs.Meeting.{home-fits, Seen, page-few, page-slot, page-rows, walkLeft, walk-starts, walk-past, walk-sick, walk-found, walk-ends, walk-on}
+use Rattle.walks.proofs.Meeting.{home-fits, Seen, page-few, page-rows, walkLeft, walk-starts, walk-past, walk-sick, walk-found, walk-ends, walk-on}
 use Rattle.walks.proofs.meet_from.Statement.{statement}
 use Rattle.walks.proofs.meet_from.Tie as tie
 
@@ -70,12 +71,6 @@ tested c =
 loop-holds : tie.Need-loop-holds Inv-loop μ-loop Inv-pages μ-pages
 loop-holds c = left-all _ _ _
 
-value-at-requires : tie.Need-value-at-requires Inv-loop μ-loop Inv-pages μ-pages
-value-at-requires c κs =
-    let b = c .before .before in
-    let d = b .before .before .before .before .before in
-    (search needs, search needs, page-slot (seen (d .before .before)) (good d) (slot-used (tested b) (c .before .if3 .left)))
-
 loop-again : tie.Need-loop-again Inv-loop μ-loop Inv-pages μ-pages
 loop-again c = slot-on (tested (c .before .before)) (c .before .if3 .left) (c .if4 .left)
 
@@ -127,7 +122,7 @@ returns-4 c =
     let s = w .before .before in
     let t = tested b in
     let used = c .before .before .if3 .left in (
-      walk-found (seen j) (s .args .key) (w .pages .read) (good d) _ _ (slot-hit t used (c .before .if4 .taken) _ (c .value-at .ensures)) ∙ w .pages .inv .2,
+      walk-found (seen j) (s .args .key) (w .pages .read) (good d) _ _ (slot-hit t used (c .before .if4 .taken) _ (ap value (c .record-at .ensures))) ∙ w .pages .inv .2,
       (j .before .if1 .left, slot-used t used, page-few (seen j) (good d), omega arith),
     )
 
@@ -150,7 +145,7 @@ meet-from-spec =
     (λ c κs. search needs)
     (λ c. search needs)
     (λ c. search needs)
-    value-at-requires
+    (λ c κs. search needs)
     (λ c. search needs)
     (λ c. search needs)
     loop-again

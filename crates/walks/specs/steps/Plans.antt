@@ -2,16 +2,16 @@
 -- the two together are the walk is proved.
 use Prim.Native.Nat.{ℕ, zero, suc, _-_, _≤_, _<_}
 use mathlib.Core.Path.{_≡_}
-use mathlib.Core.Bool.{cond}
+use mathlib.Core.Bool.{true, cond}
 use mathlib.Core.Option.{Option, none, some}
 use mathlib.Core.List.{List, [], _∷_}
 use lib.ListN.{length, take, getD}
 use lib.Dec.{leb, ltb}
 use Rattle.layouts.specs.Layout.{inUse, slotsOf}
 use Rattle.placing.specs.Lay.{rankOf, rankIn, ins}
-use Rattle.pages.specs.Page.{Record, key, vacant, recordsIn}
+use Rattle.pages.specs.Page.{Record, key, vacant, recordsIn, wellFormed}
 use Rattle.pages.specs.Places.{closed, ahead}
-use Rattle.pages.specs.steps.Slots.{opened, upToBack}
+use Rattle.pages.specs.steps.Slots.{backed}
 use Rattle.pages.specs.Area.{partAt}
 use Rattle.state.specs.declared.Answer.the-variants.{Broken, NoRoom}
 use Rattle.walks.specs.declared.Met.{Met}
@@ -32,10 +32,6 @@ held area a = recordsIn inUse (partAt area a)
 -- the first record of a page
 abbrev pub firstOf : List Record → Record
 firstOf rs = getD rs 0 vacant
-
--- a record at its place, sought from the back, and b records at most
-abbrev pub backed : ℕ → (ℕ → ℕ) → Record → List Record → List Record
-backed b h y s = take b (opened (upToBack (rankIn key h) (rankIn key h y) vacant s (length s)) y s)
 
 module _ (h : ℕ → ℕ) (area : List ℕ) where
   -- n pages from a on, each with one record more; its last goes on
@@ -86,3 +82,12 @@ placedIn h area k (Stop why) = Unit {0}
 abbrev pub planIn : (cap : ℕ) → Plan → Type 0
 planIn cap (Go f at last read) = (f ≤ last) × (last < cap) × (at ≤ 12)
 planIn cap (Stop why) = Unit {0}
+
+-- the bytes of these pages are well formed
+abbrev pub Formed : List ℕ → (first last : ℕ) → Type 0
+Formed area first last = (a : ℕ) → first ≤ a → a ≤ last → wellFormed inUse a (partAt area a) ≡ true
+
+-- so are those of the pages that a plan changes
+abbrev pub formedIn : List ℕ → Plan → Type 0
+formedIn area (Go f at last read) = Formed area f last
+formedIn area (Stop why) = Unit {0}

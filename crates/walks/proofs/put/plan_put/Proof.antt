@@ -9,7 +9,8 @@ use Rattle.walks.specs.declared.Met.the-variants.{Ends}
 use Rattle.walks.specs.declared.Met.the-variants as mets
 use Rattle.walks.specs.Walks.{stopped}
 use Rattle.walks.specs.steps.Plans.{metIn}
-use Rattle.walks.proofs.PutPlan.{put-found, put-sick, put-past, put-at, put-here, put-on, put-placed}
+use Rattle.walks.proofs.PutPlan.{put-found, put-sick, put-past, put-at, put-here, put-on, put-placed, put-formed, put-reached}
+use Rattle.walks.proofs.Formed.{one-page}
 use Rattle.walks.proofs.put.plan_put.Statement.{statement}
 use Rattle.walks.proofs.put.plan_put.Tie as tie
 
@@ -41,6 +42,8 @@ returns c =
         (omega arith, w .0, omega arith),
         put-at (homeIn (a .shape)) (now (a .area)) (a .new) (a .cap) (m .result) (m .ensures .0)
             (g .0 .0) (g .0 .1 .0) (g .0 .1 .1 .0) (g .0 .1 .1 .1 .0) (g .1) .1,
+        one-page (now (a .area)) (g .0 .0)
+            (put-formed (homeIn (a .shape)) (now (a .area)) (a .new) (a .cap) (m .result) (m .ensures .0) (g .0 .0) (g .0 .1 .0) (g .0 .1 .1 .0) (g .0 .1 .1 .1 .0) (g .1)),
       ),
     )
 
@@ -58,7 +61,7 @@ returns-2 c =
       ap stopped (c .again .ensures)
           ∙ put-found (homeIn (a .shape)) (now (a .area)) (a .new) (a .cap) (m .result) (m .ensures .0) (g .0 .0) (g .0 .1 .0) (g .0 .1 .1 .0) (g .0 .1 .1 .1 .0)
           (g .0 .1 .1 .1 .1 .0) (g .1),
-      (tt, tt),
+      (tt, tt, tt),
     )
 
 returns-3 : tie.Need-returns-3
@@ -66,14 +69,14 @@ returns-3 c =
     let g = c .before .page .given in
     let m = c .before .before .before .meet-from in
     let a = c .before .before .before .before .before .args in
-    (put-sick (homeIn (a .shape)) (now (a .area)) (a .new) (a .cap) (m .result) (m .ensures .0) (g .0 .0) (g .0 .1 .0) (g .1), (tt, tt))
+    (put-sick (homeIn (a .shape)) (now (a .area)) (a .new) (a .cap) (m .result) (m .ensures .0) (g .0 .0) (g .0 .1 .0) (g .1), (tt, tt, tt))
 
 returns-4 : tie.Need-returns-4
 returns-4 c =
     let g = c .before .read .given in
     let m = c .before .before .before .meet-from in
     let a = c .before .before .before .before .before .args in
-    (put-past (homeIn (a .shape)) (now (a .area)) (a .new) (a .cap) (m .result) (m .ensures .0) (g .0 .0) (g .1), (tt, tt))
+    (put-past (homeIn (a .shape)) (now (a .area)) (a .new) (a .cap) (m .result) (m .ensures .0) (g .0 .0) (g .1), (tt, tt, tt))
 
 returns-5 : tie.Need-returns-5
 returns-5 c =
@@ -87,6 +90,8 @@ returns-5 c =
       (
         r .ensures .1,
         put-placed (homeIn (a .shape)) (now (a .area)) (a .new) (a .cap)
+            (m .result) (m .ensures .0) (g .0 .0) (g .0 .1 .0) (g .0 .1 .1 .0) (g .0 .1 .1 .1 .0) (g .1) (r .result) (r .ensures .0),
+        put-reached (homeIn (a .shape)) (now (a .area)) (a .new) (a .cap)
             (m .result) (m .ensures .0) (g .0 .0) (g .0 .1 .0) (g .0 .1 .1 .0) (g .0 .1 .1 .1 .0) (g .1) (r .result) (r .ensures .0),
       ),
     )

@@ -1,5 +1,5 @@
--- `walks::pour` meets its contract. The loop's invariant: the pages from page a on are as they
--- were, and what is left to write of them is all that is to be written.
+-- `walks::pour` meets its contract. The loop's invariant: the pages from page a on are as they were
+-- after the first, and what is left to write of them is all that is to be written.
 use mathlib.Core.Path.{_≡_, refl, sym, _∙_}
 use Prim.Native.Nat.{suc, _+_, _*_, _-_, _≤_}
 use native.Mathlib.Omega.{arith}
@@ -8,92 +8,77 @@ use denote.Ref.{now}
 use lib.ListN.{length}
 use Rattle.layouts.specs.Layout.{inUse}
 use Rattle.homes.specs.Homes.{homeIn}
+use Rattle.pages.specs.Page.{rank}
+use Rattle.pages.specs.Area.{partAt}
+use Rattle.pages.proofs.Read.{length-held}
+use Rattle.pages.proofs.Places.{ahead-le}
 use Rattle.walks.specs.Walks.{writes}
-use Rattle.walks.specs.steps.Plans.{poured}
-use Rattle.walks.proofs.Pouring.{Untouched, stored-length, stored-same, read-kept, Turn, place-right, place-within, next-fits, pour-starts, pour-turn, pour-ends}
+use Rattle.walks.specs.steps.Plans.{held, poured}
+use Rattle.walks.proofs.Pouring.{Untouched, stored-length, stored-same, still-formed, pour-first, pour-turn, pour-ends}
 use Rattle.walks.proofs.put.pour.Statement.{statement}
 use Rattle.walks.proofs.put.pour.Tie as tie
 
 abbrev Inv-loop : tie.InvT-loop
-Inv-loop area₀ shape first at last a₀ x₀ area a x =
-    (first ≤ a) × (a ≤ last + 1) × (length area ≡ length area₀) × Untouched area₀ area a × (a ≡ first → x ≡ x₀)
-    × (writes inUse area (poured (homeIn shape) area₀ (suc last - a) a x) ≡ writes inUse area₀ (poured (homeIn shape) area₀ (suc (last - first)) first x₀))
+Inv-loop area₀ shape first at last x₀ a₀ area x a =
+    (first + 1 ≤ a) × (a ≤ last + 1) × (length area ≡ length area₀) × Untouched area₀ area a
+    × (writes inUse area (poured (homeIn shape) area₀ (suc last - a) a x) ≡ writes inUse area₀ (poured (homeIn shape) area₀ (suc last - a₀) a₀ x₀))
 
 abbrev μ-loop : tie.MeasureT-loop
-μ-loop area₀ shape first at last a₀ x₀ area a x = last + 1 - a
+μ-loop area₀ shape first at last x₀ a₀ area x a = last + 1 - a
+
+insert-at-requires : tie.Need-insert-at-requires Inv-loop μ-loop
+insert-at-requires c κs =
+    let s = c .before .before in
+    let h = homeIn (s .args .shape) in
+    let rs = held (now (s .args .area)) (s .args .first) in
+    let low = ahead-le (rank h) (rank h (s .args .new)) rs in
+    (omega arith, omega arith, omega (arith, s .pre .1 .0, low, length-held inUse (partAt (now (s .args .area)) (s .args .first))), s .pre .1 .1 (s .args .first) (omega arith) (s .pre .0 .0))
 
 loop-holds : tie.Need-loop-holds Inv-loop μ-loop
-loop-holds c =
-    let a = c .before .args in (
-      omega arith,
-      omega arith,
-      refl,
-      λ b l. refl,
-      λ e. refl,
-      pour-starts (homeIn (a .shape)) (now (a .area)) (a .first) (a .last) (a .new)
-          (c .before .pre .0 .0),
-    )
+loop-holds c = (omega arith, omega arith, refl, (λ b l. refl), refl)
 
-place-on-requires : tie.Need-place-on-requires Inv-loop μ-loop
-place-on-requires c κs =
-    let l = c .before .before .before .loop in
-    (read-kept (c .parse-at .result) _ (c .parse-at .ensures) .0, c .before .before .before .before .before .pre .0 .3)
+-- the pages after the first are as they were before it was written
+rest : (c : tie.After-insert-at Inv-loop μ-loop) → Untouched (now (c .before .before .before .args .area)) (c .insert-at .last .0) (c .before .before .before .args .first + 1)
+rest c = stored-same _ _ _ _ (c .insert-at .ensures .1) (omega arith) _ (λ b l. refl)
 
--- the place is the right one
-turn : (c : tie.After-place-on Inv-loop μ-loop)
-    → Turn (homeIn (c .before .before .before .before .before .before .args .shape)) (now (c .before .before .before .before .before .before .args .area))
-    (c .before .before .before .before .loop .area) (c .before .before .before .before .loop .a) (c .before .before .before .before .loop .x)
-    (c .before .parse-at .result) (c .place-on .result)
-turn c =
-    let l = c .before .before .before .before .loop in
-    let s = c .before .before .before .before .before .before in
-    let is = c .before .parse-at .ensures in
-    record {
-      rest = l .inv .3;
-      is = is;
-      at = place-right (homeIn (s .args .shape)) (now (s .args .area)) (l .area) (l .a) (l .x) (c .before .parse-at .result) (s .args .first) (s .args .at)
-          (s .args .new) (c .place-on .result) (l .inv .3) is (l .inv .4) (s .pre .1) (c .place-on .ensures);
-    }
-
-push-requires : tie.Need-push-requires Inv-loop μ-loop
-push-requires c κs =
-    let l = c .before .before .before .before .loop in
-    let f = read-kept (c .before .parse-at .result) _ (c .before .parse-at .ensures) in
-    (f .0, place-within (turn c), f .1)
-
-store-at-requires : tie.Need-store-at-requires Inv-loop μ-loop
-store-at-requires c κs =
-    let l = c .before .before .before .before .before .before .before .loop in
-    let s = c .before .before .before .before .before .before .before .before .before in
-    let p = c .before .before .push in
-    let f = next-fits (turn (c .before .before .before)) (p .result) (p .ensures) in
-    (omega arith, omega arith, f .0, f .1)
+push-at-requires : tie.Need-push-at-requires Inv-loop μ-loop
+push-at-requires c κs =
+    let l = c .before .before .loop in
+    let i = c .before .before .before .before .before in
+    let s = i .before .before .before in
+    let same : Untouched (now (s .args .area)) (l .area) (l .a) = λ b k. l .inv .3 b k ∙ rest i b (omega arith) in
+    (omega arith, omega (arith, i .insert-at .kept), s .pre .0 .3, still-formed _ _ _ _ _ (l .a) (s .pre .1 .1) same (omega arith) (omega arith) (omega arith))
 
 loop-again : tie.Need-loop-again Inv-loop μ-loop
 loop-again c =
-    let w = c .before .before .before .before .before .before in
-    let l = w .before .before .before .before .before .loop in
-    let s = w .before .before .before .before .before .before .before in
-    let t = turn (w .before) in
-    let to = c .before .before .before .store-at in
-    let fits : 256 * (l .a + 1) ≤ length (l .area) = omega arith in (
+    let p = c .before .before in
+    let l = p .before .before .before .loop in
+    let i = p .before .before .before .before .before .before in
+    let s = i .before .before .before in
+    let fits : 256 * (l .a + 1) ≤ length (l .area) = omega (arith, i .insert-at .kept) in
+    let e = p .push-at .ensures in (
       omega arith,
       omega arith,
-      stored-length _ _ _ _ (to .ensures) fits ∙ l .inv .2,
-      stored-same _ _ _ _ (to .ensures) fits _ (l .inv .3),
-      λ e. absurd (omega arith),
-      pour-turn t (w .push .result) (w .push .ensures) (to .last .0) (to .ensures) fits (s .args .last) (w .before .before .before .before .loop-test .taken)
-          ∙ l .inv .5,
+      stored-length _ _ _ _ (e .1) fits ∙ l .inv .2,
+      stored-same _ _ _ _ (e .1) fits _ (l .inv .3),
+      pour-turn (homeIn (s .args .shape)) (l .area) _ (l .a) (s .args .last) (l .x) _ (omega arith) (e .0) (e .1) _ (l .inv .3) ∙ l .inv .4,
     )
 
 same-length : tie.Need-same-length Inv-loop μ-loop
-same-length c = c .before .loop .inv .2
+same-length c =
+    let i = c .before .before .before .before in
+    c .before .loop .inv .2 ∙ stored-length _ _ _ _ (i .insert-at .ensures .1) (omega arith)
 
 returns : tie.Need-returns Inv-loop μ-loop
 returns c =
     let l = c .before .loop in
-    let a = c .before .before .before .args in
-    sym (pour-ends (homeIn (a .shape)) (now (a .area)) (l .area) (a .last) (l .a) (l .x) (c .loop-test .left)) ∙ l .inv .5
+    let i = c .before .before .before .before in
+    let s = i .before .before .before in
+    let a = s .args in
+    let e = i .insert-at .ensures in
+    sym (pour-ends (homeIn (a .shape)) (i .insert-at .last .0) (l .area) (a .last) (l .a) (l .x) (c .loop-test .left))
+    ∙ l .inv .4
+    ∙ pour-first (homeIn (a .shape)) (now (a .area)) _ (a .first) (a .last) (a .new) _ (s .pre .0 .0) (a .at) (s .pre .1 .0) (e .0) (e .1) (omega arith)
 
 pub pour-spec : {M : Type 1} → statement M
 pour-spec =
@@ -101,11 +86,10 @@ pour-spec =
     (tie.spec
     Inv-loop
     μ-loop
+    insert-at-requires
+    (λ c. search needs)
     loop-holds
-    (λ c κs. search needs)
-    place-on-requires
-    push-requires
-    store-at-requires
+    push-at-requires
     (λ c. search needs)
     (λ c. search needs)
     loop-again

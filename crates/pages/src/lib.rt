@@ -8,7 +8,7 @@ use layouts::TWELVE;
 ghost use mathlib.Core.Path.{_≡_};
 ghost use mathlib.Core.Bool.{cond, _&&_};
 ghost use mathlib.Core.Option.{none, some};
-ghost use mathlib.Core.List.{[], map};
+ghost use mathlib.Core.List.{List, [], map};
 ghost use Prim.Native.Nat.{ℕ, _+_, _*_, _≤_, _<_};
 ghost use lib.ListN.{length, getD};
 ghost use lib.Dec.{ltb};
@@ -190,13 +190,12 @@ fn homes_of(count: usize, keys: [u64; 12], shape: Shape) -> [u64; 12]
     homes::lanes::homes(shape, keys)
 }
 
-// The rules about homes and order. A home is worked out once, and kept.
-fn judge_records(part: &[u8], address: u64, layout: u8, shape: Shape) -> Judged
-    requires { ⌜ (length (now part) ≡ 256) × Ready shape ⌝ }
-    ensures { λ r. let rs = recordsIn layout (now (part .entry)) in ⌜ r ≡ judged (homeIn shape) (cond (homesTo (homeIn shape) address rs && rises (homeIn shape) rs) (some rs) none) ⌝ }
+// The rules about homes and order, by the keys of a page's records. A home is worked out once, and
+// kept.
+fn judge_keys(count: usize, keys: [u64; 12], address: u64, shape: Shape) -> Judged
+    requires { ⌜ (count ≤ 12) × Ready shape ⌝ }
+    ensures { λ r. ⌜ ((rs : List Record) → count ≡ length rs → keys ≡ padded (map key rs) → r ≡ judged (homeIn shape) (cond (homesTo (homeIn shape) address rs && rises (homeIn shape) rs) (some rs) none)) ⌝ }
 {
-    let count = count_in(part, layout);
-    let keys = keys_in(part, layout, count);
     let found = homes_of(count, keys, shape);
     let mut homes = [0; 12];
     let mut last_home = 0;
@@ -223,15 +222,18 @@ fn judge_records(part: &[u8], address: u64, layout: u8, shape: Shape) -> Judged
     }
 }
 
-// A page's part of the area, judged by the page rules.
+// A page's part of the area, judged by the page rules. Its keys are read first: they are then at
+// hand where their homes are worked out, twelve at once.
 pub fn judge(part: &[u8], address: u32, layout: u8, shape: Shape) -> Judged
     requires { ⌜ (length (now part) ≡ 256) × Ready shape ⌝ }
     ensures { λ r. ⌜ r ≡ judged (homeIn shape) (readPage layout (homeIn shape) address (now (part .entry))) ⌝ }
 {
+    let count = count_in(part, layout);
+    let keys = keys_in(part, layout, count);
     if !well_formed(part, address, layout) {
         return broken();
     }
-    judge_records(part, address as u64, layout, shape)
+    judge_keys(count, keys, address as u64, shape)
 }
 
 fn put_head(part: &mut [u8], address: u32, layout: u8, count: usize)

@@ -2,11 +2,13 @@
 -- The measure is how many are left.
 use denote.Ref.{now}
 use mathlib.Core.Path.{_≡_, sym, _∙_}
+use mathlib.Core.Bool.{Bool, true, false}
 use Prim.Native.Nat.{_-_, _≤_}
 use native.Mathlib.Nat.{sub-zero}
 use native.Mathlib.Omega.{arith}
 use borrow.Author.Tests.{not-true, not-false}
 use borrow.Author.Needs.{needs}
+use lib.Dec.{ltb}
 use Rattle.homes.specs.Homes.{homeIn}
 use Rattle.placing.specs.Lay.{ranked}
 use Rattle.pages.specs.Page.{rank, recordsIn}
@@ -37,27 +39,26 @@ whole c =
     let rs = recordsIn (a .layout) (now (a .part)) in
     records-ahead (homeIn (a .shape)) (ranked (a .home) (a .key)) rs _ (c .count-in .ensures ∙ sym (length-held (a .layout) (now (a .part))))
 
+-- the test of the record that was looked at
+tested : (c : tie.After-before2 Inv-loop μ-loop) (u : Bool) → c .before2 .result ≡ u
+    → let a = c .before .before .before .before .before .before .before .args in
+    ltb (rankAt (homeIn (a .shape)) (recordsIn (a .layout) (now (a .part))) (c .before .before .before .before .loop .i)) (ranked (a .home) (a .key)) ≡ u
+tested c u v =
+    let a = c .before .before .before .before .before .before .before .args in
+    key-test (homeIn (a .shape)) (ranked (a .home) (a .key)) (recordsIn (a .layout) (now (a .part))) (c .before .before .before .before .loop .i) _ _ _ u
+    (c .before .before .key-in .ensures) (c .before .home .ensures) (c .before2 .ensures) v
+
 returns : tie.Need-returns Inv-loop μ-loop
 returns c =
     let e = c .before .before .before .before .before .before in
-    let a = e .before .before .args in
     let l = c .before .before .before .before .before .loop in
-    let h = homeIn (a .shape) in
-    let r = ranked (a .home) (a .key) in
-    let rs = recordsIn (a .layout) (now (a .part)) in
-    let t = key-test h r rs (l .i) _ _ _ _ (c .before .before .before .key-in .ensures) (c .before .before .home .ensures) (c .before .before2 .ensures) (not-true _ (c .if1 .taken)) in
-    sym (passed-here (rankAt h rs) (e .count-in .result) (l .i) r (omega arith) t) ∙ l .inv .1 ∙ whole e
+    sym (passed-here _ (e .count-in .result) (l .i) _ (omega arith) (tested (c .before) false (not-true _ (c .if1 .taken)))) ∙ l .inv .1 ∙ whole e
 
 loop-again : tie.Need-loop-again Inv-loop μ-loop
 loop-again c =
     let e = c .before .before .before .before .before .before in
-    let a = e .before .before .args in
     let l = c .before .before .before .before .before .loop in
-    let h = homeIn (a .shape) in
-    let r = ranked (a .home) (a .key) in
-    let rs = recordsIn (a .layout) (now (a .part)) in
-    let t = key-test h r rs (l .i) _ _ _ _ (c .before .before .before .key-in .ensures) (c .before .before .home .ensures) (c .before .before2 .ensures) (not-false _ (c .if1 .left)) in
-    (omega arith, passed-turn (rankAt h rs) (e .count-in .result) (l .i) r (omega arith) t ∙ l .inv .1)
+    (omega arith, passed-turn _ (e .count-in .result) (l .i) _ (omega arith) (tested (c .before) true (not-false _ (c .if1 .left))) ∙ l .inv .1)
 
 returns-2 : tie.Need-returns-2 Inv-loop μ-loop
 returns-2 c =

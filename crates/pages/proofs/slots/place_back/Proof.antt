@@ -2,15 +2,17 @@
 -- back, decide. The measure is how many are left.
 use denote.Ref.{now}
 use mathlib.Core.Path.{_≡_, refl, sym, ap, _∙_}
+use mathlib.Core.Bool.{Bool, true, false}
 use Prim.Native.Nat.{_-_, _≤_}
 use native.Mathlib.Omega.{arith}
 use lib.ListN.{length}
 use borrow.Author.Needs.{needs}
+use lib.Dec.{ltb}
 use Rattle.homes.specs.Homes.{homeIn}
 use Rattle.placing.specs.Lay.{ranked}
 use Rattle.pages.specs.Page.{recordsIn}
 use Rattle.pages.proofs.Read.{length-held}
-use Rattle.pages.proofs.Seeking.{key-test, back, back-here, back-turn}
+use Rattle.pages.proofs.Seeking.{rankAt, key-test, back, back-here, back-turn}
 use Rattle.pages.proofs.slots.place_back.Statement.{statement}
 use Rattle.pages.proofs.slots.place_back.Tie as tie
 
@@ -33,27 +35,27 @@ whole c =
     let a = c .before .before .args in
     ap (back (homeIn (a .shape)) (ranked (a .home) (a .key)) (recordsIn (a .layout) (now (a .part)))) (c .count-in .ensures ∙ sym (length-held (a .layout) (now (a .part))))
 
+-- the test of the record that was looked at
+tested : (c : tie.After-before2 Inv-loop μ-loop) (u : Bool) → c .before2 .result ≡ u
+    → let a = c .before .before .before .before .before .before .before .args in
+    ltb (rankAt (homeIn (a .shape)) (recordsIn (a .layout) (now (a .part))) (c .before .before .before .before .loop .i - 1)) (ranked (a .home) (a .key)) ≡ u
+tested c u v =
+    let a = c .before .before .before .before .before .before .before .args in
+    key-test (homeIn (a .shape)) (ranked (a .home) (a .key)) (recordsIn (a .layout) (now (a .part))) (c .before .before .before .before .loop .i - 1) _ _ _ u
+    (c .before .before .key-in .ensures) (c .before .home .ensures) (c .before2 .ensures) v
+
 returns : tie.Need-returns Inv-loop μ-loop
 returns c =
     let e = c .before .before .before .before .before .before in
     let a = e .before .before .args in
     let l = c .before .before .before .before .before .loop in
-    let h = homeIn (a .shape) in
-    let r = ranked (a .home) (a .key) in
-    let rs = recordsIn (a .layout) (now (a .part)) in
-    let t = key-test h r rs (l .i - 1) _ _ _ _ (c .before .before .before .key-in .ensures) (c .before .before .home .ensures) (c .before .before2 .ensures) (c .if1 .taken) in
-    sym (back-here h r rs (l .i) (omega arith) t) ∙ l .inv .1 ∙ whole e
+    sym (back-here (homeIn (a .shape)) (ranked (a .home) (a .key)) (recordsIn (a .layout) (now (a .part))) (l .i) (omega arith) (tested (c .before) true (c .if1 .taken))) ∙ l .inv .1 ∙ whole e
 
 loop-again : tie.Need-loop-again Inv-loop μ-loop
 loop-again c =
-    let e = c .before .before .before .before .before .before in
-    let a = e .before .before .args in
+    let a = c .before .before .before .before .before .before .before .before .args in
     let l = c .before .before .before .before .before .loop in
-    let h = homeIn (a .shape) in
-    let r = ranked (a .home) (a .key) in
-    let rs = recordsIn (a .layout) (now (a .part)) in
-    let t = key-test h r rs (l .i - 1) _ _ _ _ (c .before .before .before .key-in .ensures) (c .before .before .home .ensures) (c .before .before2 .ensures) (c .if1 .left) in
-    (omega arith, back-turn h r rs (l .i) (omega arith) t ∙ l .inv .1)
+    (omega arith, back-turn (homeIn (a .shape)) (ranked (a .home) (a .key)) (recordsIn (a .layout) (now (a .part))) (l .i) (omega arith) (tested (c .before) false (c .if1 .left)) ∙ l .inv .1)
 
 returns-2 : tie.Need-returns-2 Inv-loop μ-loop
 returns-2 c =

@@ -4,8 +4,6 @@ pub mod Held
 pub mod Read
 pub mod Write
 pub mod Seeking
-pub mod Shifting
-pub mod Moving
 pub mod Judging
 pub mod Bounds
 pub mod RoundTrip

@@ -15,13 +15,10 @@ use Rattle.placing.specs.Image.{All}
 use Rattle.placing.proofs.Seek.{clash}
 use Rattle.layouts.specs.Layout.{Layout, kindOf, slotsOf, widthOf, slotAt}
 use Rattle.layouts.proofs.Lying.{slots-few, slot-first, slot-next, width-small, kind-small}
-use Rattle.pages.proofs.Rows.{closed-few, all-closed}
 use Rattle.pages.proofs.Read.{slot-width, held-few}
-use Rattle.pages.proofs.Bounds.{held-small}
 use Rattle.pages.proofs.Write.{fields-width}
 use Rattle.pages.specs.Page.{Record, key, value, run, runField, runAt, vacant, slot, recordSlot, slots, fields, pageBytes, recordIn, recordsFrom, countIn, recordsIn, wellFormed, homesTo, rises, readPage}
 use Rattle.pages.specs.Small.{RunFits, Small}
-use Rattle.pages.specs.Places.{closed}
 
 fit-run : (f : Layout) (r : ℕ) → RunFits f r → Fit (runField f r)
 fit-run zero r k = tt
@@ -151,12 +148,3 @@ pub read-bytes : (f : Layout) (h : ℕ → ℕ) (a : ℕ) (l : List ℕ) (rs : L
 read-bytes f h a l rs e n b =
     let g : Good f h a l rs = read-good f h a l rs e in
     rw (g .records) (formed-bytes f a l (g .formed) n b)
-
--- a record taken out of a page that holds what its bytes say leaves such a page
-pub page-shut : (f : Layout) (a : ℕ) (l m : List ℕ) (at : ℕ) → a < 2 ^ 32 → length l ≡ 256 → Bytes l → m ≡ pageBytes f a (closed at (recordsIn f l))
-    → (recordsIn f m ≡ closed at (recordsIn f l)) × (wellFormed f a m ≡ true)
-page-shut f a l m at low n b e =
-    let rs : List Record = recordsIn f l in
-    let few : length (closed at rs) ≤ slotsOf f = omega (arith, closed-few at rs, held-few f l) in
-    let small : All (Small f) (closed at rs) = all-closed (Small f) at rs (held-small f l n b) in
-    (rw e (records-bytes f a (closed at rs) few small), rw e (page-formed f a (closed at rs) few small low))

@@ -1,7 +1,6 @@
 // A page of records: 256 bytes of a lent area in some layout, and one value in memory.
 pub mod known;
 pub mod slot;
-pub mod slots;
 
 use homes::Shape;
 use layouts::TWELVE;
@@ -75,7 +74,7 @@ pub fn before(home: u64, key: u64, home2: u64, key2: u64) -> bool
 }
 
 // How many records a page says that it holds, of its slots at most.
-fn count_in(part: &[u8], layout: u8) -> usize
+pub fn count_in(part: &[u8], layout: u8) -> usize
     requires { ⌜ length (now part) ≡ 256 ⌝ }
     ensures { λ r. ⌜ r ≡ countIn layout (now (part .entry)) ⌝ }
 {

@@ -85,7 +85,7 @@ pub fn meet_from(area: &[u8], cap: usize, shape: Shape, home: u64, key: u64) -> 
                 };
             }
             if keys[slot] == key {
-                let held = pages::slots::record_at(area, a, IN_USE, slot);
+                let held = slots::record_at(area, a, IN_USE, slot);
                 break 'pages Met::Found {
                     page: a,
                     slot,

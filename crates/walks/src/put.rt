@@ -103,10 +103,10 @@ pub fn pour(area: &mut [u8], shape: Shape, first: usize, at: usize, last: usize,
     requires { ⌜ (at ≡ ahead (rank (homeIn shape)) (rank (homeIn shape) new) (held (now area) first)) × Formed (now area) first last ⌝ }
     ensures { λ _. ⌜ now (area .exit) ≡ writes inUse (now (area .entry)) (poured (homeIn shape) (now (area .entry)) (suc (last - first)) first new) ⌝ }
 {
-    let mut x = pages::slots::insert_at(area, first, IN_USE, at, new);
+    let mut x = slots::insert_at(area, first, IN_USE, at, new);
     let mut a = first + 1;
     while a <= last {
-        x = pages::slots::push_at(area, a, IN_USE, shape, x);
+        x = slots::push_at(area, a, IN_USE, shape, x);
         a += 1;
     }
 }

@@ -114,10 +114,10 @@ pub fn draw_back(area: &mut [u8], shape: Shape, first: usize, at: usize, last: u
     let mut slot = at;
     let mut a = first;
     while a < last {
-        let next = pages::slots::record_at(&area[..], a + 1, IN_USE, 0);
-        pages::slots::refill_at(area, a, IN_USE, shape, slot, next);
+        let next = slots::record_at(&area[..], a + 1, IN_USE, 0);
+        slots::refill_at(area, a, IN_USE, shape, slot, next);
         slot = 0;
         a += 1;
     }
-    pages::slots::take_out_at(area, last, IN_USE, slot);
+    slots::take_out_at(area, last, IN_USE, slot);
 }

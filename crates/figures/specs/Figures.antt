@@ -8,7 +8,8 @@ use lib.ListN.{replicate}
 use Rattle.numbers.specs.Little.{little, bytesOf, numberAt, written}
 use Rattle.numbers.specs.Fields.{encode}
 use Rattle.layouts.specs.Layout.{inUse}
-use Rattle.homes.specs.Homes.{draw, later, mover, swept, newPage, movedTo, nextGroups, steps, params, home}
+use Rattle.draws.specs.Draws.{draw, later}
+use Rattle.homes.specs.Homes.{mover, swept, newPage, movedTo, nextGroups, steps, params, home}
 use Rattle.pages.specs.Page.{key, recordWith, pageBytes, recordsIn, wellFormed, readPage, inMemory}
 use Rattle.pages.specs.Places.{closed}
 use Rattle.pages.specs.steps.Slots.{opened}

@@ -16,7 +16,7 @@ fn draw_of(x: u64) -> u64 {
     let mut draw = 1;
     let mut i = 0;
     while i < x {
-        draw = homes::next_draw(draw);
+        draw = draws::next_draw(draw);
         i += 1;
     }
     draw as u64

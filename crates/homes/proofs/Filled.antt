@@ -8,7 +8,8 @@ use native.Mathlib.Nat.{mod-lt, mod-eq-of-lt, div-add-mod', mul-le-mul-right}
 use native.Mathlib.Omega.{arith}
 use lib.Arith.{digits-div, digits-mod}
 use Rattle.homes.specs.Homes.{swept, newPage}
-use Rattle.homes.proofs.New.{split, starts, swept-sweep}
+use Rattle.draws.proofs.Split.{split}
+use Rattle.homes.proofs.New.{starts, swept-sweep}
 
 -- A later sweep starts where an earlier one ends, or after that.
 start-after : (q r v w : ℕ) → v < w → starts q r (suc v) ≤ starts q r w

@@ -7,7 +7,8 @@ use native.Mathlib.Nat.{suc-add, add-mul, mul-assoc, mul-le-mul-right}
 use native.Mathlib.Omega.{arith}
 use lib.Dec.{ltb, eqb, lit≤}
 use Rattle.homes.specs.declared.Params.{Params}
-use Rattle.homes.specs.Homes.{nextGroups, steps, later, mover, newPage, firstPages, homeWithin, home, InRange}
+use Rattle.draws.specs.Draws.{later}
+use Rattle.homes.specs.Homes.{nextGroups, steps, mover, newPage, firstPages, homeWithin, home, InRange}
 use Rattle.homes.proofs.Steps.{stopped, enough}
 
 -- The size after n steps, from step x on.

@@ -3,11 +3,12 @@
 --
 use mathlib.Core.Path.{_≡_}
 use mathlib.Core.Logic.{_⊎_, inl, inr, ⊎-elim}
-use Prim.Native.Nat.{ℕ, zero, suc, _+_, _-_, _%_, _<_}
+use Prim.Native.Nat.{ℕ, _+_, _-_, _%_, _<_}
 use native.Mathlib.Nat.{mod-lt, mul-pos}
 use native.Mathlib.Omega.{arith}
 use Rattle.homes.specs.declared.Params.{Params}
-use Rattle.homes.specs.Homes.{seedOf, draw, later, mover, newPage, firstPages, home, InRange, shapeOf}
+use Rattle.draws.specs.Draws.{later}
+use Rattle.homes.specs.Homes.{mover, newPage, firstPages, home, InRange, shapeOf}
 use Rattle.homes.specs.steps.Last.{lastStep}
 use Rattle.homes.proofs.New.{new-low, new-high}
 use Rattle.homes.proofs.Steps.{Into, OneMore, steps-below, grown}
@@ -36,9 +37,3 @@ home-more q P K r =
 -- In short: it stays or becomes that page.
 pub home-grown : (q : Params) (P K : ℕ) → InRange q P → (home q (P + 1) K ≡ home q P K) ⊎ (home q (P + 1) K ≡ P)
 home-grown q P K r = ⊎-elim inl (λ w. inr (w .0)) (home-more q P K r)
-
--- Every draw is below its modulus, the seed too.
-pub draw-below : (K x : ℕ) → draw (seedOf K) x < 2147483647
-unfolding draw
-draw-below K zero = omega arith
-draw-below K (suc x) = omega arith

@@ -2,7 +2,6 @@
 -- it agree with them.
 use mathlib.Core.Bool.{true, false≢true}
 use mathlib.Core.Path.{_≡_}
-use Prim.Native.Nat.{ℕ}
 use Rattle.homes.specs.declared.Shape.{Shape}
 use Rattle.homes.specs.declared.new_homes.Stays.{Stays}
 use Rattle.homes.specs.declared.new_homes.Stays.the-variants.{Nowhere, Grown}

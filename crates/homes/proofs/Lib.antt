@@ -4,8 +4,6 @@ pub mod Round
 pub mod Steps
 pub mod Forty
 pub mod Homes
-pub mod Table
-pub mod Draws
 pub mod Quotients
 pub mod Rests
 pub mod Bits

@@ -4,11 +4,12 @@ use Prim.Native.Nat.{ℕ, _+_, _*_}
 use mathlib.Core.Path.{_≡_, refl}
 use native.Mathlib.Omega.{arith}
 use lib.Dec.{leb}
-use Rattle.homes.specs.Homes.{seedOf, draw, later, np, mover}
+use Rattle.draws.specs.Draws.{seedOf, draw, later}
+use Rattle.homes.specs.Homes.{np, mover}
 use Rattle.homes.specs.Promises.{HomesPromises}
 use Rattle.homes.proofs.New.{new-low, new-high}
 use Rattle.homes.proofs.Filled.{new-one, new-onto}
-use Rattle.homes.proofs.Draws.{by-table}
+use Rattle.draws.proofs.Draws.{by-table}
 use Rattle.homes.proofs.Forty as Forty
 use Rattle.homes.proofs.Homes as Homes
 

@@ -12,7 +12,7 @@ use borrow.Author.Tests.{eq-eqb, ne-eqb}
 use Rattle.homes.specs.declared.Stage.{Stage}
 use Rattle.homes.specs.Homes.{np, nextGroups}
 use Rattle.homes.specs.steps.Stages.{nextStep}
-use Rattle.homes.proofs.New.{split}
+use Rattle.draws.proofs.Split.{split}
 
 module _ (n0 x : ℕ) (t : Stage) (h : 1 ≤ x) (e : t .np ≡ np n0 x) where
   -- the remainder of the next step, by that of this one

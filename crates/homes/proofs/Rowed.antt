@@ -8,7 +8,7 @@ use native.Mathlib.Omega.{arith}
 use lib.ListN.{length, getD, set, length-set}
 use lib.Seq.{getD-set-same, getD-set-other}
 use Rattle.homes.specs.declared.lane.Lane.{Lane}
-use Rattle.homes.proofs.New.{split}
+use Rattle.draws.proofs.Split.{split}
 
 -- the first i places of the row are those that `new` says
 pub record Passed (n : ℕ) (new : ℕ → ℕ) (row : List ℕ) (i : ℕ) : Type 0 where

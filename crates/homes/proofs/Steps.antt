@@ -12,7 +12,7 @@ use Rattle.homes.specs.declared.Stage.{Stage}
 use Rattle.homes.specs.Homes.{np, movedTo, nextGroups, steps}
 use Rattle.homes.specs.steps.Stages.{stageAt, nextStep, After}
 use Rattle.homes.specs.steps.Last.{lastFrom}
-use Rattle.homes.proofs.New.{split}
+use Rattle.draws.proofs.Split.{split}
 
 -- A way to a new page leads into the pages that a step adds.
 pub record Into (goes : ℕ → ℕ → ℕ → ℕ) : Type 0 where

@@ -12,10 +12,12 @@ use lib.Dec.{ltb, eqb}
 use borrow.Author.Tests.{lt-ltb, ltb-true, ltb-false, eq-eqb, eqb-true}
 use Rattle.homes.specs.declared.Stage.{Stage}
 use Rattle.homes.specs.declared.lane.Lane.{Lane}
-use Rattle.homes.specs.Homes.{seedOf, newPage, movedTo, mover}
+use Rattle.draws.specs.Draws.{seedOf}
+use Rattle.homes.specs.Homes.{newPage, movedTo, mover}
 use Rattle.homes.specs.steps.Stages.{After}
 use Rattle.homes.specs.steps.Lanes.{addressOf, InGroup, aimed, steppedTo, goneTo, picked}
-use Rattle.homes.proofs.New.{split, swept-from, swept-high}
+use Rattle.draws.proofs.Split.{split}
+use Rattle.homes.proofs.New.{swept-from, swept-high}
 use Rattle.homes.proofs.Turn.{Stepping, Leads, leads-on, size-next, groups-same, groups-twice}
 
 -- The page of a lane's new page.

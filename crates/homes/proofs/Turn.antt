@@ -7,10 +7,11 @@ use native.Mathlib.Omega.{arith}
 use lib.Dec.{leb}
 use Rattle.homes.specs.declared.Params.{Params}
 use Rattle.homes.specs.declared.Stage.{Stage}
-use Rattle.homes.specs.Homes.{seedOf, draw, later, np, mover, newPage, movedTo, nextGroups, steps, firstPages, home, InRange}
-use Rattle.homes.specs.steps.Powers.{power, limit, Drawable}
+use Rattle.draws.specs.Draws.{seedOf, draw, later}
+use Rattle.homes.specs.Homes.{np, mover, newPage, movedTo, nextGroups, steps, firstPages, home, InRange}
+use Rattle.draws.specs.steps.Powers.{power, limit, Drawable}
 use Rattle.homes.specs.steps.Stages.{stageAt, nextStep, After, Bounded}
-use Rattle.homes.proofs.Draws.{drawable, drawn, limit-is}
+use Rattle.draws.proofs.Draws.{drawable, drawn, limit-is}
 use Rattle.homes.proofs.Forty.{sizeAfter, size-forty}
 use Rattle.homes.proofs.Round.{even-kept, groups-kept, groups-doubled}
 use Rattle.homes.proofs.Steps.{turn, stopped}

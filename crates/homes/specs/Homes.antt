@@ -3,23 +3,9 @@
 use Prim.Native.Nat.{ℕ, zero, suc, _+_, _-_, _*_, _/_, _%_, _≤_, min}
 use mathlib.Core.Bool.{Bool, cond, _&&_}
 use lib.Dec.{leb, ltb, eqb}
+use Rattle.draws.specs.Draws.{seedOf, draw, later}
 use Rattle.homes.specs.declared.Params.{Params}
 use Rattle.homes.specs.declared.Shape.{Shape}
-
--- "seed = (K mod 2147483646) + 1"
-abbrev pub seedOf : ℕ → ℕ
-seedOf K = K % 2147483646 + 1
-
--- "draw 1 = 16807 x seed mod 2147483647, each next draw 16807 times the last, same modulus"; draw 0
--- is the seed
-unfoldable pub draw : ℕ → ℕ → ℕ
-draw seed zero = seed
-draw seed (suc x) = 16807 * draw seed x % 2147483647
-
--- 02, request 4: "From the new edition on, step x uses draw x + 10", and in edition 1 draw x: how
--- many draws after draw x
-abbrev pub later : (edition : ℕ) → ℕ
-later edition = cond (eqb edition 2) 10 0
 
 -- "np = n0 + ((x - 1) mod n0)"
 abbrev pub np : ℕ → ℕ → ℕ

@@ -5,7 +5,8 @@ use lib.Dec.{leb}
 use mathlib.Core.Path.{_≡_}
 use mathlib.Core.Logic.{_⊎_}
 use Rattle.homes.specs.declared.Params.{Params}
-use Rattle.homes.specs.Homes.{seedOf, draw, later, np, mover, newPage, firstPages, homeWithin, home, InRange}
+use Rattle.draws.specs.Draws.{seedOf, draw, later}
+use Rattle.homes.specs.Homes.{np, mover, newPage, firstPages, homeWithin, home, InRange}
 
 pub record HomesPromises : Type 0 where
   -- "draw 1 = 16807 x seed mod 2147483647, each next draw 16807 times the last, same modulus": so

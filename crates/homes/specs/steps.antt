@@ -1,5 +1,4 @@
 -- Steps between the code and the definitions: they need not be believed.
-pub mod Powers
 pub mod Starts
 pub mod Sweeps
 pub mod Stages

@@ -11,8 +11,9 @@ ghost use mathlib.Core.List.{map};
 ghost use Prim.Native.Nat.{ℕ, _*_, _/_, _%_, _≤_, _<_};
 ghost use lib.ListN.{length, getD};
 ghost use lib.Dec.{leb};
-ghost use Rattle.homes.specs.Homes.{Ready, homeIn, seedOf};
-ghost use Rattle.homes.specs.steps.Powers.{Drawable};
+ghost use Rattle.draws.specs.Draws.{seedOf};
+ghost use Rattle.homes.specs.Homes.{Ready, homeIn};
+ghost use Rattle.draws.specs.steps.Powers.{Drawable};
 ghost use Rattle.homes.specs.steps.Sweeps.{sweepsOf};
 ghost use Rattle.homes.specs.steps.Lanes.{laneOf, InGroup, goneTo, picked, Placed};
 
@@ -42,7 +43,7 @@ fn begin(keys: [u64; 12], m: u64) -> Begun
     let mut i = 0;
     while i < 12 {
         let key = keys[i];
-        seeds[i] = crate::powers::twice_seed(key);
+        seeds[i] = draws::twice_seed(key);
         pages[i] = start.page(key) as u16;
         i += 1;
     }
@@ -79,7 +80,7 @@ fn movers(seeds: [u64; 12], power: u32, limit: u32) -> [u16; 16]
     let mut moves = [0; 16];
     let mut i = 0;
     while i < 12 {
-        moves[i] = if crate::powers::draw(seeds[i], power) <= limit {
+        moves[i] = if draws::draw(seeds[i], power) <= limit {
             1
         } else {
             0
@@ -178,9 +179,9 @@ pub fn homes(shape: Shape, keys: [u64; 12]) -> [u64; 12]
 {
     let n0 = shape.params.n0 as u64;
     let p = shape.p;
-    let powers = crate::powers::powers();
-    let limits = crate::powers::limits();
-    let later = crate::powers::later(shape.params.edition);
+    let powers = draws::powers();
+    let limits = draws::limits();
+    let later = draws::later(shape.params.edition);
     let mut stage = shape.first();
     let begun = begin(keys, stage.f);
     let seeds = begun.seeds;

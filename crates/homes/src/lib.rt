@@ -2,7 +2,6 @@
 mod lane;
 pub mod lanes;
 pub mod new_homes;
-mod powers;
 mod starts;
 mod sweeps;
 
@@ -35,23 +34,6 @@ pub struct Stage {
     pub g: u64,
     pub f: u64,
     pub np: u64,
-}
-
-// The draw after a draw; after the seed, the first. Homes take their draws from a table (`powers`);
-// this is for draws that it doesn't reach. The modulus is 2^31 - 1, so 2^31 counts as 1: the high
-// bits are added to the low ones, and nothing is divided.
-pub fn next_draw(draw: u32) -> u32
-    requires { ⌜ draw < 2147483647 ⌝ }
-    ensures { λ r. ⌜ r ≡ 16807 * draw % 2147483647 ⌝ }
-    ensures within { λ r. ⌜ r < 2147483647 ⌝ }
-{
-    let product = 16807 * draw as u64;
-    let folded = (product / 2147483648) as u32 + (product % 2147483648) as u32;
-    if folded < 2147483647 {
-        folded
-    } else {
-        folded - 2147483647
-    }
 }
 
 // The page that the group of a page grows into, at size f, with g groups and s sweeps.
@@ -112,17 +94,17 @@ impl Shape {
     {
         let n0 = self.params.n0 as u64;
         let p = self.p;
-        let powers = powers::powers();
-        let limits = powers::limits();
-        let later = powers::later(self.params.edition);
-        let seed = powers::twice_seed(key);
+        let powers = draws::powers();
+        let limits = draws::limits();
+        let later = draws::later(self.params.edition);
+        let seed = draws::twice_seed(key);
         let mut stage = self.first();
         let start = Start::new(stage.f);
         let mut lane = Lane::new(start.page(key) as u16, self.params.n);
         let mut sweeps = Sweeps::new(self.params.s, self.params.n);
         let mut x = 1;
         while stage.f < p {
-            let moves = powers::draw(seed, powers[x + later]) <= limits[stage.np as usize];
+            let moves = draws::draw(seed, powers[x + later]) <= limits[stage.np as usize];
             lane = lane.step(stage, sweeps, p, moves);
             x += 1;
             let next = stage.next(n0);

@@ -45,7 +45,7 @@ opened-past b at x rs n e =
     let all : take b rs ≡ rs = take-all b rs (omega arith) in
     rw (e, all) (sym (getD-at rs x (drop b rs) x b n), sym (take-at rs (x ∷ drop b rs) b n))
 
--- before their last one it takes that one's place behind them
+-- put in before the end, it sends on the record of the last slot, if there is one
 pub opened-over : {R : Type 0} (b at : ℕ) (x : R) (rs : List R) → at < b → at ≤ length rs → getD rs (b - 1) x ≡ getD (opened at x rs) b x
 opened-over b at x rs l h =
     let e : suc (b - 1) ≡ b = omega arith in
@@ -73,7 +73,7 @@ module _ (f : Layout) where
   slots-last (suc n) (x ∷ q) = rw (slots-last n q) (sym (append-assoc (recordSlot f x) (slots f n (take n q)) (slots f 1 (drop n q))))
 
   -- the bytes of a page with any count
-  abbrev pub counted : (address n : ℕ) → List Record → List ℕ
+  abbrev counted : (address n : ℕ) → List Record → List ℕ
   counted address n rs = encode (head f address n ++ slots f (slotsOf f) rs)
 
   module _ (address n : ℕ) (p : List Record) (j : ℕ) (all : length p + suc j ≡ slotsOf f) where
@@ -100,7 +100,7 @@ module _ (f : Layout) where
         omega (arith, length-encode (slots f j q), rw (e, slot-end f) at (slots-width f j (suc (length p)) q))
 
     -- a record in that slot, and those behind it one slot on
-    pub slot-opened : (x : Record) (q : List Record) (l : List ℕ) → l ≡ counted address n (p ++ q)
+    slot-opened : (x : Record) (q : List Record) (l : List ℕ) → l ≡ counted address n (p ++ q)
         → written l (slotAt f (length p)) (encode (recordSlot f x) ++ take (256 - slotAt f (suc (length p))) (drop (slotAt f (length p)) l)) ≡ counted address n (p ++ (x ∷ take j q))
     slot-opened x q l e =
         let at : ℕ = slotAt f (length p) in
@@ -113,7 +113,7 @@ module _ (f : Layout) where
         (written-tail front (encode (slots f (suc j) q)) (encode (slots f (suc j) (x ∷ take j q))) at front-length (slots-long (x ∷ take j q) ∙ sym (slots-long q)))
 
     -- the record in that slot gone, those behind it one slot down, and an empty slot at the end
-    pub slot-closed : (y : Record) (q : List Record) (l : List ℕ) → length q ≤ j → l ≡ counted address n (p ++ (y ∷ q))
+    slot-closed : (y : Record) (q : List Record) (l : List ℕ) → length q ≤ j → l ≡ counted address n (p ++ (y ∷ q))
         → written l (slotAt f (length p)) (drop (slotAt f (suc (length p))) l ++ encode (emptySlot f)) ≡ counted address n (p ++ q)
     slot-closed y q l few e =
         let at : ℕ = slotAt f (length p) in
@@ -128,7 +128,7 @@ module _ (f : Layout) where
         (written-tail front (encode (slots f (suc j) (y ∷ q))) (encode (slots f (suc j) q)) at front-length (slots-long q ∙ sym (slots-long (y ∷ q))))
 
   -- another count written to the head
-  pub recounted : (address n m : ℕ) (rs : List Record) → written (counted address n rs) 8 (bytesOf 2 m) ≡ counted address m rs
+  recounted : (address n m : ℕ) (rs : List Record) → written (counted address n rs) 8 (bytesOf 2 m) ≡ counted address m rs
   recounted address n m rs =
       let before : List Field = (2, 256) ∷ (2, kindOf f) ∷ (4, address) ∷ [] in
       let after : List Field = (2, 0) ∷ (4, 0) ∷ slots f (slotsOf f) rs in

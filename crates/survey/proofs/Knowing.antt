@@ -9,7 +9,7 @@ use borrow.Author.Tests.{leb-true, le-leb}
 use Rattle.layouts.specs.Layout.{Layout}
 use Rattle.homes.specs.declared.new_homes.NewHomes.{NewHomes}
 use Rattle.homes.specs.steps.NewHomes.{newHome, keepsAt, Agrees}
-use Rattle.homes.proofs.New.{split}
+use Rattle.draws.proofs.Split.{split}
 use Rattle.placing.specs.Image.{All}
 use Rattle.placing.specs.Lay.{rankIn}
 use Rattle.placing.proofs.Lists.{all-map, all-map₂}

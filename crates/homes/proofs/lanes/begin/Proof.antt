@@ -10,8 +10,8 @@ use native.Mathlib.Omega.{arith}
 use borrow.Author.Needs.{needs}
 use lib.ListN.{getD, set, replicate, getD-replicate}
 use lib.Seq.{getD-set-other}
-use Rattle.homes.specs.Homes.{seedOf}
-use Rattle.homes.proofs.New.{split}
+use Rattle.draws.specs.Draws.{seedOf}
+use Rattle.draws.proofs.Split.{split}
 use Rattle.homes.proofs.Rowed.{Passed, none, one, over}
 use Rattle.homes.proofs.Beginning.{start-is, start-by}
 use Rattle.homes.proofs.lanes.begin.Statement.{statement}

@@ -8,7 +8,7 @@ use native.Mathlib.Omega.{arith}
 use lib.ListN.{getD}
 use borrow.Author.Needs.{needs}
 use Rattle.homes.proofs.Quotients.{remains, by-share}
-use Rattle.homes.proofs.Table.{table, at}
+use Rattle.draws.proofs.Table.{table, at}
 use Rattle.homes.proofs.sweeps.Sweeps.new.Statement.{statement}
 use Rattle.homes.proofs.sweeps.Sweeps.new.Tie as tie
 

@@ -1,11 +1,11 @@
--- `homes::next_draw` meets its contract.
+-- `draws::next_draw` meets its contract.
 use mathlib.Core.Path.{_≡_, refl, sym, ap, _∙_}
 use Prim.Native.Nat.{ℕ, _+_, _-_, _*_, _/_, _%_, _≤_, _<_}
 use lib.Arith.{digits-mod}
 use native.Mathlib.Omega.{arith}
 use borrow.Author.Needs.{needs}
-use Rattle.homes.proofs.next_draw.Statement.{statement}
-use Rattle.homes.proofs.next_draw.Tie as tie
+use Rattle.draws.proofs.next_draw.Statement.{statement}
+use Rattle.draws.proofs.next_draw.Tie as tie
 
 -- a number folded once, and past the modulus once, is its remainder
 fold : (x y : ℕ) → x < 16807 * 2147483647 → y ≡ x / 2147483648 + x % 2147483648 → 2147483647 ≤ y → (y - 2147483647 ≡ x % 2147483647) × (y - 2147483647 < 2147483647)

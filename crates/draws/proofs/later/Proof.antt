@@ -1,8 +1,8 @@
--- `homes::powers::later` meets its contract.
+-- `draws::later` meets its contract.
 use native.Mathlib.Omega.{arith}
 use borrow.Author.Tests.{eq-eqb, ne-eqb}
-use Rattle.homes.proofs.powers.later.Statement.{statement}
-use Rattle.homes.proofs.powers.later.Tie as tie
+use Rattle.draws.proofs.later.Statement.{statement}
+use Rattle.draws.proofs.later.Tie as tie
 
 returns : tie.Need-returns
 returns c = (rw (eq-eqb _ 2 (c .if1 .taken)), omega arith)

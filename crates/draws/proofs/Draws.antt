@@ -8,10 +8,15 @@ use native.Mathlib.Nat.{add-mul, mul-assoc, mul-comm, mul-right-comm, mod-add-di
 use native.Mathlib.Omega.{arith}
 use borrow.Author.Tests.{le-leb, lt-leb}
 use lib.Dec.{leb}
-use Rattle.homes.specs.Homes.{seedOf, draw}
-use Rattle.homes.specs.steps.Powers.{power, limit, Drawable}
-use Rattle.homes.proofs.New.{split}
-use Rattle.homes.proofs.Homes.{draw-below}
+use Rattle.draws.specs.Draws.{seedOf, draw}
+use Rattle.draws.specs.steps.Powers.{power, limit, Drawable}
+use Rattle.draws.proofs.Split.{split}
+
+-- Every draw is below its modulus, the seed too.
+pub draw-below : (K x : ℕ) → draw (seedOf K) x < 2147483647
+unfolding draw
+draw-below K zero = omega arith
+draw-below K (suc x) = omega arith
 
 -- 16807 has an inverse, so no draw but 0 is followed by 0.
 next-pos : (d : ℕ) → 0 < d → d < 2147483647 → 0 < 16807 * d % 2147483647

@@ -4,8 +4,8 @@
 ghost use mathlib.Core.Path.{_≡_};
 ghost use Prim.Native.Nat.{ℕ, _*_, _/_, _%_, _≤_, _<_};
 ghost use lib.ListN.{getD};
-ghost use Rattle.homes.specs.Homes.{seedOf, later};
-ghost use Rattle.homes.specs.steps.Powers.{power, limit, Drawable};
+ghost use Rattle.draws.specs.Draws.{seedOf, later};
+ghost use Rattle.draws.specs.steps.Powers.{power, limit, Drawable};
 
 // Power 0 is 1, and each next 16807 times the last, modulo 2147483647. A file takes forty steps at
 // most, and edition 2 begins ten draws later.
@@ -113,4 +113,21 @@ pub fn draw(twice: u64, power: u32) -> u32
     let product = twice % 4294967296 * power as u64;
     let sum = (product / 4294967296) as u32 + (product % 4294967296) as u32 / 2;
     sum / 2147483648 + sum % 2147483648
+}
+
+// The draw after a draw; after the seed, the first. Homes take their draws from the table; this
+// is for draws that it doesn't reach. The modulus is 2^31 - 1, so 2^31 counts as 1: the high
+// bits are added to the low ones, and nothing is divided.
+pub fn next_draw(draw: u32) -> u32
+    requires { ⌜ draw < 2147483647 ⌝ }
+    ensures { λ r. ⌜ r ≡ 16807 * draw % 2147483647 ⌝ }
+    ensures within { λ r. ⌜ r < 2147483647 ⌝ }
+{
+    let product = 16807 * draw as u64;
+    let folded = (product / 2147483648) as u32 + (product % 2147483648) as u32;
+    if folded < 2147483647 {
+        folded
+    } else {
+        folded - 2147483647
+    }
 }

@@ -1,4 +1,4 @@
--- `homes::powers::draw` meets its contract: 2^31 counts as 1, so the product is folded twice.
+-- `draws::draw` meets its contract: 2^31 counts as 1, so the product is folded twice.
 use mathlib.Core.Path.{_≡_, sym, ap, _∙_}
 use mathlib.Core.Logic.{⊎-elim}
 use Prim.Native.Nat.{ℕ, _+_, _*_, _/_, _%_, _≤_, _<_}
@@ -6,10 +6,10 @@ use native.Mathlib.Nat.{mul-le-mul, mul-assoc, mul-comm}
 use native.Mathlib.Omega.{arith}
 use lib.Arith.{digits-mod}
 use borrow.Author.Needs.{needs}
-use Rattle.homes.specs.steps.Powers.{Drawable}
-use Rattle.homes.proofs.New.{split}
-use Rattle.homes.proofs.powers.draw.Statement.{statement}
-use Rattle.homes.proofs.powers.draw.Tie as tie
+use Rattle.draws.specs.steps.Powers.{Drawable}
+use Rattle.draws.proofs.Split.{split}
+use Rattle.draws.proofs.draw.Statement.{statement}
+use Rattle.draws.proofs.draw.Tie as tie
 
 -- the product, which is that of the seed doubled
 doubled : (t p : ℕ) → Drawable t p → t % 4294967296 * p ≡ 2 * (p * (t / 2))

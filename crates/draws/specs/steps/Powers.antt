@@ -1,7 +1,7 @@
 -- Draws from a table of powers. A step between code and definition.
 use Prim.Native.Nat.{ℕ, _+_, _*_, _/_, _%_, _<_}
 use mathlib.Core.Path.{_≡_}
-use Rattle.homes.specs.Homes.{draw}
+use Rattle.draws.specs.Draws.{draw}
 
 -- power x of 16807: power 0 is 1, and each next 16807 times the last, modulo 2147483647. So it is
 -- draw x of the seed 1.

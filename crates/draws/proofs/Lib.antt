@@ -1,0 +1,3 @@
+pub mod Split
+pub mod Table
+pub mod Draws

@@ -1,5 +1,5 @@
--- Where a key lives: the section of that name of document 01, in its words and its order, and 02's
--- request 4 for the editions. What is quoted is 01's, or 02's where that is said.
+-- Where a key lives: the section of that name of document 01, in its words and its order, from where
+-- its draws are there (draws/specs/Draws.antt has them, and 02's editions). What is quoted is 01's.
 use Prim.Native.Nat.{ℕ, zero, suc, _+_, _-_, _*_, _/_, _%_, _≤_, min}
 use mathlib.Core.Bool.{Bool, cond, _&&_}
 use lib.Dec.{leb, ltb, eqb}

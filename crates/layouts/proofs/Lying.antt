@@ -49,11 +49,6 @@ pub slots-times : (f : Layout) (n : ℕ) → slotsOn f n ≡ slotsOf f * n
 slots-times zero n = refl
 slots-times (suc f) n = refl
 
--- no more than twelve to a page
-pub slots-bound : (f : Layout) (n : ℕ) → slotsOn f n ≤ 12 * n
-slots-bound zero n = omega arith
-slots-bound (suc f) n = omega arith
-
 -- a layout that isn't the first is one more than another
 pub past-twelve : (f : Layout) → (f ≡ 0 → ⊥) → f ≡ suc (f - 1)
 past-twelve f h = omega arith

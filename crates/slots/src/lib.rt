@@ -1,6 +1,6 @@
 // Places among the records of a page, and a record put in or taken out where they stand: the slots
-// behind it move by one, whatever the layout. Any bytes are taken; what a page then holds is said of
-// one whose bytes are well formed.
+// behind it move by one, whatever the layout. What a page then holds is said of one whose bytes are
+// well formed, as those of a page are that was judged good.
 use homes::Shape;
 use pages::Record;
 ghost use mathlib.Core.Path.{_≡_};
@@ -174,7 +174,7 @@ fn refill(part: &mut [u8], layout: u8, shape: Shape, at: usize, x: Record)
     insert(part, layout, place, x);
 }
 
-// The record in a slot of the page at an address, or another where there is none.
+// The record in a slot of the page at an address, or all zeros where there is none.
 pub fn record_at(area: &[u8], a: usize, layout: u8, i: usize) -> Record
     requires { ⌜ (a < 4096) × (256 * (a + 1) ≤ length (now area)) ⌝ }
     ensures { λ r. ⌜ r ≡ getD (recordsIn layout (partAt (now (area .entry)) a)) i vacant ⌝ }

@@ -2,21 +2,22 @@
 use mathlib.Core.Path.{_≡_}
 use mathlib.Core.Bool.{true, false}
 use mathlib.Core.List.{List}
-use Prim.Native.Nat.{ℕ, _*_}
+use Prim.Native.Nat.{ℕ, _*_, _<_}
 use native.Mathlib.Omega.{arith}
 use lib.ListN.{length}
 use borrow.Author.Tests.{eq-eqb, ne-eqb}
 use Rattle.layouts.specs.Layout.{Layout}
+use Rattle.homes.specs.Homes.{firstPages}
 use Rattle.state.specs.declared.State.{State}
 use Rattle.state.specs.declared.Answer.{Answer}
-use Rattle.state.specs.declared.Answer.the-variants.{OutOfRange, WrongArea, WrongRow, AtCap}
+use Rattle.state.specs.declared.Answer.the-variants.{OutOfRange, WrongArea, WrongRow, AtCap, AtStart}
 use Rattle.state.specs.State.{inRange}
 use Rattle.state.specs.Promises.{Ranged}
 use Rattle.state.proofs.Ranges.{ranged}
 use Rattle.gates.specs.declared.Gate.{Gate}
 use Rattle.gates.specs.declared.Gate.the-variants.{Open, Shut}
-use Rattle.gates.specs.Gates.{gateOf, imageGate, growEntry, growGate}
-use Rattle.gates.specs.steps.Past.{OpenFor, EnteredToGrow}
+use Rattle.gates.specs.Gates.{gateOf, imageGate, growEntry, growGate, shrinkEntry, shrinkGate}
+use Rattle.gates.specs.steps.Past.{OpenFor, EnteredToGrow, EnteredToShrink}
 
 module _ (form : Layout) (s : State) (n : ℕ) where
   -- a number out of range
@@ -77,3 +78,39 @@ module _ (form : Layout) (s : State) (area : List ℕ) (n : ℕ) (g : Gate) (gat
   pub pages-decide : (i : Gate) → i ≡ imageGate form s area → n ≡ s .cap → (s .p ≡ s .cap → ⊥) → i ≡ growGate form s area n
   unfolding growGate
   pages-decide i k f m = rw (k, ← entry-open form s (length area) n g gate e f m)
+
+-- the product of two parameters in range is a number of 16 bits
+pub start-fits : (form : Layout) (s : State) → inRange form s ≡ true → firstPages (s .params) < 65536
+start-fits form s r = let w : Ranged form s = ranged form s r in omega arith
+
+-- what a shrinking refuses before it looks at a page, with an area of m bytes
+module _ (form : Layout) (s : State) (m : ℕ) (g : Gate) (gate : g ≡ gateOf form s m) where
+  -- as every call does
+  pub shrink-shut : (why : Answer) → g ≡ Shut why → Shut why ≡ shrinkEntry form s m
+  shrink-shut why e = rw (← gate, e)
+
+  module _ (e : g ≡ Open) where
+    -- no page to give up
+    pub shrink-start : s .p ≡ firstPages (s .params) → Shut AtStart ≡ shrinkEntry form s m
+    shrink-start k = rw (← gate, e, eq-eqb (s .p) (firstPages (s .params)) k)
+
+    pub shrink-open : (s .p ≡ firstPages (s .params) → ⊥) → Open ≡ shrinkEntry form s m
+    shrink-open k = rw (← gate, e, ne-eqb (s .p) (firstPages (s .params)) k)
+
+-- what is known past them
+pub past-start : (form : Layout) (s : State) (m : ℕ) → inRange form s ≡ true → m ≡ 256 * s .cap → (s .p ≡ firstPages (s .params) → ⊥) → EnteredToShrink form s m Open
+past-start form s m r l k = let w : Ranged form s = ranged form s r in (r, l, omega arith)
+
+-- and is known where they were found open
+pub past-shrink : (form : Layout) (s : State) (m : ℕ) (g : Gate) → EnteredToShrink form s m g → g ≡ Open → EnteredToShrink form s m Open
+past-shrink form s m g k e = rw e at k
+
+-- after them the pages decide
+module _ (form : Layout) (s : State) (area : List ℕ) (g : Gate) (gate : g ≡ gateOf form s (length area)) (e : g ≡ Open) where
+  pub start-shut : s .p ≡ firstPages (s .params) → Shut AtStart ≡ shrinkGate form s area
+  unfolding shrinkGate
+  start-shut k = rw (← shrink-start form s (length area) g gate e k)
+
+  pub pages-decide-shrink : (i : Gate) → i ≡ imageGate form s area → (s .p ≡ firstPages (s .params) → ⊥) → i ≡ shrinkGate form s area
+  unfolding shrinkGate
+  pages-decide-shrink i k m = rw (k, ← shrink-open form s (length area) g gate e m)

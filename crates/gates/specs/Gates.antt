@@ -1,15 +1,16 @@
 -- What a call refuses before it does anything (01, 'Refusal numbers'), in 01's order. What is
--- quoted is 01's.
+-- quoted is 01's, or 02's where that is said.
 use Prim.Native.Nat.{ℕ, suc, _*_}
 use mathlib.Core.Bool.{cond, _&&_}
 use mathlib.Core.List.{List}
 use lib.ListN.{length}
 use lib.Dec.{eqb}
 use Rattle.layouts.specs.Layout.{Layout}
+use Rattle.homes.specs.Homes.{firstPages}
 use Rattle.state.specs.declared.State.{State}
 use Rattle.state.specs.State.{inRange, homes}
 use Rattle.state.specs.declared.Answer.{Answer}
-use Rattle.state.specs.declared.Answer.the-variants.{OutOfRange, WrongArea, WrongRow, Broken, AtCap, NotImage}
+use Rattle.state.specs.declared.Answer.the-variants.{OutOfRange, WrongArea, WrongRow, Broken, AtCap, NotImage, AtStart}
 use Rattle.survey.specs.declared.Verdict.{Verdict}
 use Rattle.survey.specs.declared.Verdict.the-variants.{Whole}
 use Rattle.survey.specs.declared.Verdict.the-variants as verdicts
@@ -42,3 +43,11 @@ growEntry f s m n = onGate (gateOf f s m) Shut (cond (eqb n (s .cap)) (cond (eqb
 -- then "4, 9"
 unfoldable pub growGate : Layout → State → List ℕ → (n : ℕ) → Gate
 growGate f s area n = onGate (growEntry f s (length area) n) Shut (imageGate f s area)
+
+-- 02, request 5: "14 when P = n0 x N; order 1, 2, 14", with an area of m bytes
+abbrev pub shrinkEntry : Layout → State → (m : ℕ) → Gate
+shrinkEntry f s m = onGate (gateOf f s m) Shut (cond (eqb (s .p) (firstPages (s .params))) (Shut AtStart) Open)
+
+-- then "4, 9"
+unfoldable pub shrinkGate : Layout → State → List ℕ → Gate
+shrinkGate f s area = onGate (shrinkEntry f s (length area)) Shut (imageGate f s area)

@@ -9,8 +9,8 @@ ghost use Prim.Native.Nat.{ℕ, _*_, _<_};
 ghost use lib.ListN.{length};
 ghost use Rattle.state.specs.State.{inRange};
 ghost use Rattle.survey.specs.declared.Verdict.the-variants as verdicts;
-ghost use Rattle.gates.specs.Gates.{gateOf, imageOf, imageGate, growEntry};
-ghost use Rattle.gates.specs.steps.Past.{OpenFor, EnteredToGrow};
+ghost use Rattle.gates.specs.Gates.{gateOf, imageOf, imageGate, growEntry, shrinkEntry};
+ghost use Rattle.gates.specs.steps.Past.{OpenFor, EnteredToGrow, EnteredToShrink};
 
 // Whether a call may go on, or why not.
 pub enum Gate {
@@ -95,6 +95,25 @@ pub fn grow_entry(state: State, m: usize, n: usize, layout: u8) -> Gate
             }
             if state.p == state.cap {
                 return Gate::Shut { why: Answer::AtCap };
+            }
+            Gate::Open
+        }
+    }
+}
+
+// What a shrinking refuses before it looks at a page, with an area of m bytes.
+pub fn shrink_entry(state: State, m: usize, layout: u8) -> Gate
+    ensures { λ r. ⌜ r ≡ shrinkEntry layout state m ⌝ }
+    ensures within { λ r. ⌜ EnteredToShrink layout state m r ⌝ }
+{
+    let gate = enter(state, m, layout);
+    match gate {
+        Gate::Shut { why } => Gate::Shut { why },
+        Gate::Open => {
+            if state.p == state.params.n0 * state.params.n {
+                return Gate::Shut {
+                    why: Answer::AtStart,
+                };
             }
             Gate::Open
         }

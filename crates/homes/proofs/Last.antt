@@ -3,7 +3,7 @@
 --
 use mathlib.Core.Path.{_≡_, refl, sym, ap, _∙_}
 use mathlib.Core.Bool.{true, false, and-false}
-use mathlib.Core.Logic.{⊎-elim, inl, inr}
+use mathlib.Core.Logic.{_↔_, _⊎_, inl, inr}
 use Prim.Native.Nat.{ℕ, zero, suc, _+_, _-_, _*_, _≤_, _<_}
 use native.Mathlib.Omega.{arith}
 use lib.Dec.{ltb}
@@ -59,36 +59,31 @@ seek-on n0 P last t t′ b more after sound =
       rest = rw (next, ← last-later n0 P (b .left - 1) x t more, ← e) (b .rest);
     }
 
--- A page whose group grows into the last page isn't told to stay.
-leaves : (shape : Shape) (last : Stage) (a : ℕ) → newPage (shape .params .s) (last .f) (last .g) a ≡ shape .p - 1 → staysAt shape last a ≡ false
+-- A page whose group grows into the added page isn't told to stay.
+leaves : (s : ℕ) (last : Stage) (added a : ℕ) → newPage s (last .f) (last .g) a ≡ added → staysAt s last added a ≡ false
 unfolding staysAt
-leaves shape last a e = rw (eq-eqb _ _ e) (and-false (ltb a (shape .p - 1)))
+leaves s last added a e = rw (eq-eqb _ _ e) (and-false (ltb a added))
 
--- Where the group of a page doesn't grow into the new page P, a key that has its home on that page
--- keeps it.
-pub home-stays : (q : Params) (P K a : ℕ) → InRange q P → staysAt (shapeOf q (P + 1)) (lastStep (shapeOf q (P + 1))) a ≡ true → home q P K ≡ a → home q (P + 1) K ≡ a
-home-stays q P K a r stays here = go (home-more q P K r)
+-- Nor is the added page, or one after it.
+ends : (s : ℕ) (last : Stage) (added a : ℕ) → added ≤ a → staysAt s last added a ≡ false
+unfolding staysAt
+ends s last added a l = rw (le-ltb a added l)
+
+-- A page that is told to stay is the home of the same keys before page P is added and after.
+pub beside : (q : Params) (P K a : ℕ) → InRange q P → staysAt (q .s) (lastStep (shapeOf q (P + 1))) P a ≡ true → (home q P K ≡ a) ↔ (home q (P + 1) K ≡ a)
+beside q P K a r stays = (before (home-more q P K r), after (home-grown q P K r))
   where
-    shape : Shape
-    shape = shapeOf q (P + 1)
+    last : Stage
+    last = lastStep (shapeOf q (P + 1))
 
-    go : OneMore (newPage (q .s)) P (lastStep shape) (home q P K) (home q (P + 1) K) → home q (P + 1) K ≡ a
-    go (inl e) = e ∙ here
-    go (inr w) =
-        let no : staysAt shape (lastStep shape) a ≡ false = leaves shape (lastStep shape) a (rw here at (w .1) ∙ omega arith) in
+    before : OneMore (newPage (q .s)) P last (home q P K) (home q (P + 1) K) → home q P K ≡ a → home q (P + 1) K ≡ a
+    before (inl e) here = e ∙ here
+    before (inr w) here =
+        let no : staysAt (q .s) last P a ≡ false = leaves (q .s) last P a (rw here at (w .1)) in
         cc
 
--- Nor is a page from the last on.
-ends : (q : Params) (P a : ℕ) (last : Stage) → P ≤ a → staysAt (shapeOf q (P + 1)) last a ≡ false
-unfolding staysAt
-ends q P a last l =
-    let q : P + 1 - 1 ≡ P = omega arith in
-    rw (q, le-ltb a P l)
-
--- And a key that has its home there after has had it before.
-pub home-stayed : (q : Params) (P K a : ℕ) (last : Stage) → InRange q P → staysAt (shapeOf q (P + 1)) last a ≡ true → home q (P + 1) K ≡ a → home q P K ≡ a
-home-stayed q P K a last r stays here =
-    ⊎-elim
-    (λ e. sym e ∙ here)
-    (λ e. absurd (let no : staysAt (shapeOf q (P + 1)) last a ≡ false = ends q P a last (omega arith) in let z : _≡_ {A = ℕ} 0 1 = cc in omega arith))
-    (home-grown q P K r)
+    after : (home q (P + 1) K ≡ home q P K) ⊎ (home q (P + 1) K ≡ P) → home q (P + 1) K ≡ a → home q P K ≡ a
+    after (inl e) here = sym e ∙ here
+    after (inr e) here =
+        let no : staysAt (q .s) last P a ≡ false = ends (q .s) last P a (omega arith) in
+        cc

@@ -117,7 +117,8 @@ impl Shape {
         lane.turn as u64 * stage.g + lane.group as u64
     }
 
-    // The last step that a file of this shape takes, asked for once a growth.
+    // The last step that a file of this shape takes, asked for once where a page is added or taken
+    // away.
     pub fn last_step(self) -> Stage
         requires { ⌜ Ready self × (self .params .n0 * self .params .n < self .p) ⌝ }
         ensures { λ r. ⌜ r ≡ lastStep self ⌝ }
@@ -132,13 +133,12 @@ impl Shape {
         stage
     }
 
-    // Whether all keys that had their home on a page before the last page was added have it there
-    // still. It tells so by the page's group alone, and may say no where all stay.
-    fn stays(self, last: Stage, page: u64) -> bool
+    // Whether the keys that have their home on a page are the same with the page that the step
+    // added as without it. It tells so by the page's group alone, and may say no where they are.
+    fn stays(self, last: Stage, added: u64, page: u64) -> bool
         requires { ⌜ Ready self × Within last ⌝ }
-        ensures { λ r. ⌜ r ≡ staysAt self last page ⌝ }
+        ensures { λ r. ⌜ r ≡ staysAt (self .params .s) last added page ⌝ }
     {
-        let added = self.p - 1;
         let new = new_page(self.params.s, last.f, last.g, page);
         (page < added) & (new != added)
     }

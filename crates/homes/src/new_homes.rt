@@ -4,11 +4,11 @@ use crate::Stage;
 ghost use mathlib.Core.Path.{_≡_};
 ghost use Rattle.homes.specs.steps.NewHomes.{Usable, keepsAt};
 
-// Where homes are known to stay: nowhere, or, in a file that grew by a page, where its last step
-// leaves them.
+// Where homes are known to stay: nowhere, or, where a page is added or taken away, on the pages that
+// the step leaves alone by which that page comes.
 pub enum Stays {
     Nowhere,
-    Grown { last: Stage },
+    Beside { last: Stage, added: u64 },
 }
 
 // The shape that gives the new homes, and where the old ones stay. `apart` says from which home on
@@ -29,7 +29,7 @@ impl NewHomes {
         let stays = self.stays;
         match stays {
             Stays::Nowhere => false,
-            Stays::Grown { last } => self.shape.stays(last, page),
+            Stays::Beside { last, added } => self.shape.stays(last, added, page),
         }
     }
 }

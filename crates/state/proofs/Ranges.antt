@@ -9,9 +9,9 @@ use native.Mathlib.Omega.{arith}
 use lib.ListN.{getD}
 use borrow.Author.Tests.{leb-true, le-leb}
 use Rattle.layouts.specs.Layout.{Layout, slotsOn}
-use Rattle.homes.specs.Homes.{InRange}
+use Rattle.homes.specs.Homes.{InRange, firstPages}
 use Rattle.state.specs.declared.State.{State}
-use Rattle.state.specs.State.{all, ranges, inRange, oneMore, oneLess, grown}
+use Rattle.state.specs.State.{all, ranges, inRange, oneMore, oneLess, grown, shrunk}
 use Rattle.state.specs.Promises.{Ranged}
 
 -- Thirteen tests joined from left to right are all of their list.
@@ -84,6 +84,10 @@ in-shape f s h = let r : Ranged f s = ranged f s h in search arith
 -- One page more, where the lent pages have one more.
 pub grown-range : (f : Layout) (s : State) → inRange f s ≡ true → s .p < s .cap → inRange f (grown s) ≡ true
 grown-range f s h room = let r : Ranged f s = ranged f s h in in-range f (grown s) (search arith)
+
+-- One page less, where the file has more than at the start.
+pub shrunk-range : (f : Layout) (s : State) → inRange f s ≡ true → firstPages (s .params) < s .p → inRange f (shrunk s) ≡ true
+shrunk-range f s h more = let r : Ranged f s = ranged f s h in in-range f (shrunk s) (search arith)
 
 -- One record more, where the capacity has one more.
 pub more-range : (f : Layout) (s : State) → inRange f s ≡ true → s .r < slotsOn f (s .cap) → inRange f (oneMore s) ≡ true

@@ -54,3 +54,7 @@ oneLess s = record { params = s .params; p = s .p; cap = s .cap; r = s .r - 1 }
 -- "one page more"
 abbrev pub grown : State → State
 grown s = record { params = s .params; p = s .p + 1; cap = s .cap; r = s .r }
+
+-- 02, request 5: "from P to P - 1"
+abbrev pub shrunk : State → State
+shrunk s = record { params = s .params; p = s .p - 1; cap = s .cap; r = s .r }

@@ -5,7 +5,7 @@ use homes::Shape;
 ghost use mathlib.Core.Path.{_≡_};
 ghost use Prim.Native.Nat.{_≤_, _<_};
 ghost use Rattle.homes.specs.Homes.{InRange, Ready, firstPages, shapeOf};
-ghost use Rattle.state.specs.State.{inRange, isDue, fresh, oneMore, oneLess, grown};
+ghost use Rattle.state.specs.State.{inRange, isDue, fresh, oneMore, oneLess, grown, shrunk};
 ghost use Rattle.state.specs.Answer.{numbers, again};
 
 // The parameters, pages grown to, pages lent, records held.
@@ -30,6 +30,7 @@ pub enum Answer {
     AtCap,
     NotImage { read: u32 },
     Clash { value: u64, read: u32 },
+    AtStart,
 }
 
 // An answer in the numbers of the refusal table.
@@ -120,6 +121,15 @@ impl State {
         self
     }
 
+    // One page less.
+    pub fn shrunk(mut self) -> Self
+        requires { ⌜ 1 ≤ self .p ⌝ }
+        ensures { λ r. ⌜ r ≡ shrunk self ⌝ }
+    {
+        self.p = self.p - 1;
+        self
+    }
+
     // What the homes of its keys depend on.
     pub fn shape(self) -> Shape
         requires { ⌜ InRange (self .params) (self .p) ⌝ }
@@ -171,6 +181,7 @@ impl Answer {
             Answer::AtCap => told(8, 0, 0, 0, 0),
             Answer::NotImage { read } => told(9, 0, 0, read, 0),
             Answer::Clash { value, read } => told(13, 0, value, read, 0),
+            Answer::AtStart => told(14, 0, 0, 0, 0),
         }
     }
 }

@@ -3,6 +3,7 @@ use Prim.Native.Nat.{ℕ, _*_, _<_}
 use mathlib.Core.Path.{_≡_}
 use mathlib.Core.Bool.{true}
 use Rattle.layouts.specs.Layout.{Layout}
+use Rattle.homes.specs.Homes.{firstPages}
 use Rattle.state.specs.declared.State.{State}
 use Rattle.state.specs.State.{inRange}
 use Rattle.gates.specs.declared.Gate.{Gate}
@@ -17,3 +18,8 @@ OpenFor f s n (Shut why) = Unit {0}
 abbrev pub EnteredToGrow : Layout → State → (m n : ℕ) → Gate → Type 0
 EnteredToGrow f s m n Open = (inRange f s ≡ true) × (m ≡ 256 * s .cap) × (n ≡ s .cap) × (s .p < s .cap)
 EnteredToGrow f s m n (Shut why) = Unit {0}
+
+-- what is known past the entry of a shrinking
+abbrev pub EnteredToShrink : Layout → State → (m : ℕ) → Gate → Type 0
+EnteredToShrink f s m Open = (inRange f s ≡ true) × (m ≡ 256 * s .cap) × (firstPages (s .params) < s .p)
+EnteredToShrink f s m (Shut why) = Unit {0}

@@ -22,6 +22,6 @@ lastStep shape = lastFrom (shape .params .n0) (shape .p) (shape .p - firstPages 
 abbrev pub Within : Stage → Type 0
 Within t = (1 ≤ t .g) × (t .g ≤ t .f) × (t .f < 4096)
 
--- whether a page is another than the last, and of a group that doesn't grow into the last
-unfoldable pub staysAt : Shape → Stage → ℕ → Bool
-staysAt shape last a = ltb a (shape .p - 1) && not (eqb (newPage (shape .params .s) (last .f) (last .g) a) (shape .p - 1))
+-- whether a page is below the one that a step adds, and of a group that doesn't grow into it
+unfoldable pub staysAt : (s : ℕ) → Stage → (added a : ℕ) → Bool
+staysAt s last added a = ltb a added && not (eqb (newPage s (last .f) (last .g) a) added)

@@ -40,10 +40,15 @@ returns-10 c = c .told10 .ensures ∙ sym (ap numbers (c .before .before .self6 
 returns-11 : tie.Need-returns-11
 returns-11 c = c .told11 .ensures ∙ sym (ap numbers (c .before .before .self7 .given .1))
 
+returns-12 : tie.Need-returns-12
+returns-12 c = c .told12 .ensures ∙ sym (ap numbers (c .before .enum-told5 .given .1))
+
 pub numbers-spec : {M : Type 1} → statement M
 numbers-spec =
     tie.close
     (tie.spec
+    (λ c. search needs)
+    (λ c κs. search needs)
     (λ c. search needs)
     (λ c κs. search needs)
     (λ c. search needs)
@@ -76,4 +81,5 @@ numbers-spec =
     returns-8
     returns-9
     returns-10
-    returns-11)
+    returns-11
+    returns-12)

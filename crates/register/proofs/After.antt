@@ -1,7 +1,7 @@
 -- Histories of calls: in two parts, and the layout that they leave.
 use mathlib.Core.Path.{_≡_, refl, _∙_}
 use mathlib.Core.List.{List, [], _∷_, _++_}
-use Rattle.register.specs.Files.{Call, format, find, put, remove, grow, check, due, File, left, after}
+use Rattle.register.specs.Files.{Call, format, find, put, remove, grow, shrink, check, due, File, left, after}
 
 pub after-append : (f : File) (cs ds : List Call) → after f (cs ++ ds) ≡ after (after f cs) ds
 unfolding after
@@ -16,6 +16,7 @@ same-layout f (find k) = refl
 same-layout f (put x) = refl
 same-layout f (remove k) = refl
 same-layout f (grow row) = refl
+same-layout f shrink = refl
 same-layout f check = refl
 same-layout f due = refl
 

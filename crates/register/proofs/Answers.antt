@@ -1,4 +1,4 @@
--- What format, check and grow come to, on each way out of their gates.
+-- What format, check, grow and shrink come to, on each way out of their gates.
 use mathlib.Core.Path.{_≡_, refl, sym}
 use mathlib.Core.Bool.{Bool, true, false}
 use mathlib.Core.List.{List, []}
@@ -13,16 +13,16 @@ use Rattle.state.specs.declared.State.{State}
 use Rattle.state.specs.declared.Done.{Done}
 use Rattle.state.specs.declared.Answer.{Answer}
 use Rattle.state.specs.declared.Answer.the-variants.{Accepted, OutOfRange}
-use Rattle.state.specs.State.{inRange, fresh}
+use Rattle.state.specs.State.{inRange, fresh, grown, shrunk}
 use Rattle.state.specs.Promises.{Ranged}
 use Rattle.state.proofs.Ranges.{ranged}
 use Rattle.gates.specs.declared.Gate.{Gate}
 use Rattle.gates.specs.declared.Gate.the-variants.{Open, Shut}
-use Rattle.gates.specs.Gates.{gateOf, imageGate, growEntry, growGate}
+use Rattle.gates.specs.Gates.{gateOf, imageGate, growEntry, growGate, shrinkEntry, shrinkGate}
 use Rattle.changes.proofs.Settling.{Comes}
-use Rattle.register.specs.steps.Past.{grewEntered}
+use Rattle.register.specs.steps.Past.{grewEntered, shrankEntered}
 use Rattle.changes.specs.Changes.{done}
-use Rattle.register.specs.Calls.{formatted, checked, Growth, grownFile, grew}
+use Rattle.register.specs.Calls.{formatted, checked, Growth, homeCounts, remade, grew, shrank}
 use Rattle.gates.proofs.Gating.{range-shut}
 
 -- the state and answer, the area and the row of a growth
@@ -82,5 +82,22 @@ module _ (s : State) (area row : List ℕ) (g : Gate) (gate : g ≡ imageGate in
   pub entered-shut : (why : Answer) → g ≡ Shut why → Grows (done s why) area row (grewEntered s area row)
   entered-shut why e = rw (← gate, e) (refl, (refl, refl))
 
-  pub entered-open : g ≡ Open → (d : Done) (new filled : List ℕ) → Grows d new filled (grownFile inUse s area) → Grows d new filled (grewEntered s area row)
-  entered-open e d new filled k = rw (← gate, e) k
+  pub entered-open : g ≡ Open → (next : State) → next ≡ grown s → (d : Done) (new filled : List ℕ) → Comes d new (remade inUse s next area) → filled ≡ homeCounts inUse s next area
+      → Grows d new filled (grewEntered s area row)
+  entered-open e next k d new filled c f = rw (← gate, e) (rw k at (c .0), (rw k at (c .1), rw k at f))
+
+module _ (s : State) (area : List ℕ) (g : Gate) (gate : g ≡ shrinkEntry inUse s (length area)) where
+  pub shrank-shut : (why : Answer) → g ≡ Shut why → Comes (done s why) area (shrank inUse s area)
+  unfolding shrinkGate
+  shrank-shut why e = rw (← gate, e) (refl, refl)
+
+  pub shrank-open : g ≡ Open → (d : Done) (new : List ℕ) → Comes d new (shrankEntered s area) → Comes d new (shrank inUse s area)
+  unfolding shrinkGate
+  shrank-open e d new k = rw (← gate, e) k
+
+module _ (s : State) (area : List ℕ) (g : Gate) (gate : g ≡ imageGate inUse s area) where
+  pub shrinks-shut : (why : Answer) → g ≡ Shut why → Comes (done s why) area (shrankEntered s area)
+  shrinks-shut why e = rw (← gate, e) (refl, refl)
+
+  pub shrinks-open : g ≡ Open → (next : State) → next ≡ shrunk s → (d : Done) (new : List ℕ) → Comes d new (remade inUse s next area) → Comes d new (shrankEntered s area)
+  shrinks-open e next k d new c = rw (← gate, e) (rw k at c)

@@ -2,10 +2,10 @@ pub mod After
 pub mod Clearing
 pub mod Answers
 pub mod Settling
-pub mod Growing
+pub mod MadeAnew
 pub mod CheckImage
 pub mod Promises
 pub mod OnImage
 pub mod FormatImage
-pub mod GrownImage
+pub mod RemadeImage
 pub mod ImageCalls

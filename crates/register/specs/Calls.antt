@@ -1,5 +1,5 @@
 -- The calls of the register: what each answers, and the state, the area and the row that it leaves,
--- for any page layout, any numbers and any bytes. What is quoted is 01's.
+-- for any page layout, any numbers and any bytes. What is quoted is 01's, or 02's where that is said.
 use Prim.Native.Nat.{ℕ}
 use mathlib.Core.Bool.{cond}
 use mathlib.Core.List.{List, []}
@@ -14,12 +14,12 @@ use Rattle.pages.specs.Page.{Record, key, homeFor}
 use Rattle.pages.specs.Area.{heldFrom, areaFrom}
 use Rattle.rebuild.specs.Relaid.{relaid}
 use Rattle.state.specs.declared.State.{State}
-use Rattle.state.specs.State.{homes, fresh, grown}
+use Rattle.state.specs.State.{homes, fresh, grown, shrunk}
 use Rattle.state.specs.declared.Done.{Done}
 use Rattle.state.specs.declared.Answer.the-variants.{Accepted, NoRoom}
 use Rattle.walks.specs.Walks.{walk, findAnswer}
 use Rattle.changes.specs.Changes.{done, Outcome, refused, putOpen, removeOpen}
-use Rattle.gates.specs.Gates.{onGate, gateOf, imageGate, growGate}
+use Rattle.gates.specs.Gates.{onGate, gateOf, imageGate, growGate, shrinkGate}
 
 -- Format: "empty file, P = n0 x N, r = 0"; "judged on the numbers it is asked for, not on the state
 -- before it"
@@ -42,29 +42,41 @@ removed f s area k = onGate (gateOf f s (length area)) (refused s area) (removeO
 abbrev pub checked : Layout → State → List ℕ → Done
 checked f s area = onGate (gateOf f s (length area)) (done s) (onGate (imageGate f s area) (done s) (done s (Accepted 0 (s .cap) 0)))
 
+-- "the number of records of each home" in the file `next`, a count for each lent page
+abbrev pub homeCounts : Layout → (s next : State) → List ℕ → List ℕ
+homeCounts f s next area = counts (homeFor (homes next)) (cat (heldFrom f area (s .cap) 0) []) (s .cap) 0
+
+-- Grow and shrink, where the file is the image of r records: the image for the pages of `next` is
+-- made, or there is no room (7).
+unfoldable pub remade : Layout → (s next : State) → List ℕ → Outcome
+remade f s next area =
+    let old = heldFrom f area (s .cap) 0 in
+    let held = cat old [] in
+    let new = relaid (slotsOf f) (homes next) (s .cap) old in
+    cond (eqb (taken (homeFor (homes next)) (slotsOf f) held (s .cap)) (length held))
+    (record { done = done next (Accepted 0 (s .cap) (strayed key old new)); area = areaFrom f 0 new })
+    (refused s area (NoRoom (s .cap)))
+
 -- what a growth comes to
 pub record Growth : Type 0 where
   pub done : Done
   pub area : List ℕ
   pub row : List ℕ
 
+-- with a row
+abbrev pub withRow : Outcome → (row : List ℕ) → Growth
+withRow o row = record { done = o .done; area = o .area; row = row }
+
 -- the row "holds the number of records of each home at size P + 1"
 abbrev pub grownCounts : Layout → State → List ℕ → List ℕ
-grownCounts f s area = counts (homeFor (homes (grown s))) (cat (heldFrom f area (s .cap) 0) []) (s .cap) 0
+grownCounts f s area = homeCounts f s (grown s) area
 
--- Grow, where the file is the image of r records: it "makes the image for P + 1", or there is no
--- room (7); the row is filled "after success or 7".
-unfoldable pub grownFile : Layout → State → List ℕ → Growth
-grownFile f s area =
-    let old = heldFrom f area (s .cap) 0 in
-    let held = cat old [] in
-    let h = homes (grown s) in
-    let new = relaid (slotsOf f) h (s .cap) old in
-    let row = grownCounts f s area in
-    cond (eqb (taken (homeFor h) (slotsOf f) held (s .cap)) (length held))
-    (record { done = done (grown s) (Accepted 0 (s .cap) (strayed key old new)); area = areaFrom f 0 new; row = row })
-    (record { done = done s (NoRoom (s .cap)); area = area; row = row })
-
--- "Grow 1, 2, 3, 8, 4, 9, 7."; "The row is untouched by 1, 2, 3, 8, 4 and 9"
+-- "Grow 1, 2, 3, 8, 4, 9, 7.": it "makes the image for P + 1"; "The row is untouched by 1, 2, 3, 8,
+-- 4 and 9", and filled "after success or 7"
 abbrev pub grew : Layout → State → List ℕ → (row : List ℕ) → Growth
-grew f s area row = onGate (growGate f s area (length row)) (λ why. record { done = done s why; area = area; row = row }) (grownFile f s area)
+grew f s area row = onGate (growGate f s area (length row)) (λ why. withRow (refused s area why) row) (withRow (remade f s (grown s) area) (grownCounts f s area))
+
+-- 02, request 5: "the reverse of grow: from P to P - 1, giving the image for that size, with the same
+-- check of the whole file first"; "order 1, 2, 14, 4, 9, 7"
+abbrev pub shrank : Layout → State → List ℕ → Outcome
+shrank f s area = onGate (shrinkGate f s area) (refused s area) (remade f s (shrunk s) area)

@@ -13,16 +13,17 @@ use Rattle.state.specs.declared.Numbers.{Numbers}
 use Rattle.state.specs.State.{isDue}
 use Rattle.state.specs.Answer.{numbers}
 use Rattle.changes.specs.Changes.{Outcome}
-use Rattle.register.specs.Calls.{Growth, formatted, found, stored, removed, checked, grew}
+use Rattle.register.specs.Calls.{Growth, formatted, found, stored, removed, checked, grew, shrank}
 
--- "Calls: format .., find, put, remove, grow .., check, due", each with what it is given beside
--- state and area
+-- "Calls: format .., find, put, remove, grow .., check, due", and 02's shrink (request 5), each with
+-- what it is given beside state and area
 pub data Call : Type 0 where
   format : Params → (cap : ℕ) → Call
   find : (k : ℕ) → Call
   put : (x : Record) → Call
   remove : (k : ℕ) → Call
   grow : (row : List ℕ) → Call
+  shrink : Call
   check : Call
   due : Call
 
@@ -68,6 +69,7 @@ left f (find k) = leaves (f .layout) (found (f .layout) (f .state) (f .area) k) 
 left f (put x) = ofOutcome (f .layout) (stored (f .layout) (f .state) (f .area) x)
 left f (remove k) = ofOutcome (f .layout) (removed (f .layout) (f .state) (f .area) k)
 left f (grow row) = ofGrowth (f .layout) (grew (f .layout) (f .state) (f .area) row)
+left f shrink = ofOutcome (f .layout) (shrank (f .layout) (f .state) (f .area))
 left f check = leaves (f .layout) (checked (f .layout) (f .state) (f .area)) (f .area) []
 left f due = record { said = says (isDue (f .layout) (f .state)); file = f; row = [] }
 

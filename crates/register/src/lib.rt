@@ -1,6 +1,8 @@
 // The register: request number -> the commit it became, in a lent area of pages. Every call takes
 // any numbers and any bytes, and answers.
 mod growth;
+mod remaking;
+mod shrinking;
 
 use gates::Gate;
 use homes::Params;
@@ -18,7 +20,7 @@ ghost use Rattle.layouts.specs.Layout.{inUse};
 ghost use Rattle.pages.specs.Area.{areaFrom};
 ghost use Rattle.walks.specs.Walks.{findAnswer};
 ghost use Rattle.walks.specs.steps.Plans.{metIn};
-ghost use Rattle.register.specs.Calls.{formatted, found, stored, removed, checked, grew};
+ghost use Rattle.register.specs.Calls.{formatted, found, stored, removed, checked, grew, shrank};
 
 // All pages empty.
 fn clear_pages(area: &mut [u8], cap: usize)
@@ -168,5 +170,16 @@ pub fn grow(state: State, area: &mut [u8], row: &mut [u32]) -> Done
     match gate {
         Gate::Shut { why } => Done { state, answer: why },
         Gate::Open => growth::grow_entered(state, area, row),
+    }
+}
+
+// One page less.
+pub fn shrink(state: State, area: &mut [u8]) -> Done
+    ensures { λ r. let o = shrank inUse state (now (area .entry)) in ⌜ (r ≡ o .done) × (now (area .exit) ≡ o .area) ⌝ }
+{
+    let gate = gates::shrink_entry(state, area.len(), IN_USE);
+    match gate {
+        Gate::Shut { why } => Done { state, answer: why },
+        Gate::Open => shrinking::shrink_entered(state, area),
     }
 }

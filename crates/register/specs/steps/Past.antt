@@ -1,32 +1,56 @@
 -- What the code knows past a gate: a step between code and definition.
-use Prim.Native.Nat.{ℕ, _+_, _*_, _<_}
+use Prim.Native.Nat.{ℕ, _-_, _*_, _≤_}
 use mathlib.Core.Path.{_≡_}
 use mathlib.Core.Bool.{true}
-use mathlib.Core.List.{List}
+use mathlib.Core.List.{List, []}
 use lib.ListN.{length}
 use Rattle.layouts.specs.Layout.{inUse}
 use Rattle.homes.specs.declared.new_homes.NewHomes.{NewHomes}
+use Rattle.homes.specs.declared.new_homes.Stays.the-variants.{Beside}
 use Rattle.homes.specs.Homes.{shapeOf}
-use Rattle.homes.specs.steps.NewHomes.{Usable, Follows}
+use Rattle.homes.specs.steps.Last.{lastStep}
+use Rattle.homes.specs.steps.NewHomes.{newHome, Usable, Follows}
+use Rattle.placing.specs.Image.{cat}
+use Rattle.placing.specs.Rows.{counts}
+use Rattle.pages.specs.Page.{homeFor}
+use Rattle.pages.specs.Area.{heldFrom}
 use Rattle.state.specs.declared.State.{State}
-use Rattle.state.specs.State.{inRange}
+use Rattle.state.specs.State.{inRange, grown, shrunk}
 use Rattle.gates.specs.declared.Gate.{Gate}
 use Rattle.gates.specs.declared.Gate.the-variants.{Open, Shut}
 use Rattle.gates.specs.Gates.{onGate, imageGate}
-use Rattle.changes.specs.Changes.{done}
-use Rattle.register.specs.Calls.{Growth, grownFile}
+use Rattle.changes.specs.Changes.{Outcome, refused}
+use Rattle.register.specs.Calls.{Growth, withRow, grownCounts, remade}
 
--- what is known past the whole gate of a growth
-abbrev pub OpenToGrow : State → List ℕ → ℕ → Gate → Type 0
-OpenToGrow s area n Open = (inRange inUse s ≡ true) × (length area ≡ 256 * s .cap) × (n ≡ s .cap) × (s .p < s .cap) × (imageGate inUse s area ≡ Open)
-OpenToGrow s area n (Shut why) = Unit {0}
+-- a state in range, an area of its length, and a count for each page
+abbrev pub Judgeable : State → (m n : ℕ) → Type 0
+Judgeable s m n = (inRange inUse s ≡ true) × (m ≡ 256 * s .cap) × (n ≡ s .cap)
 
--- the homes in the file of one page more
-pub record OnePageMore (s : State) (new : NewHomes) : Type 0 where
+-- an area that is the image of the state's records
+abbrev pub OpenImage : State → List ℕ → Type 0
+OpenImage s area = (inRange inUse s ≡ true) × (length area ≡ 256 * s .cap) × (imageGate inUse s area ≡ Open)
+
+-- the homes in the file `next`, where `larger` is the one of two files with a page more
+pub record Besides (next larger : State) (new : NewHomes) : Type 0 where
   pub usable : Usable new
-  pub shaped : new .shape ≡ shapeOf (s .params) (s .p + 1)
+  pub shaped : new .shape ≡ shapeOf (next .params) (next .p)
+  pub beside : new .stays ≡ Beside (lastStep (shapeOf (larger .params) (larger .p))) (larger .p - 1)
+
+-- new homes for the records of a file
+pub record Rehomes (s : State) (new : NewHomes) : Type 0 where
+  pub usable : Usable new
   pub follows : Follows (shapeOf (s .params) (s .p)) new (new .stays)
+  pub low : new .shape .p ≤ s .cap
+
+-- where the pages pass, their homes are counted
+abbrev pub CountedIf : Gate → State → NewHomes → List ℕ → (row : List ℕ) → Type 0
+CountedIf Open s new area row = row ≡ counts (homeFor (newHome new)) (cat (heldFrom inUse area (s .cap) 0) []) (s .cap) 0
+CountedIf (Shut why) s new area row = Unit {0}
 
 -- what a growth comes to that enters
 abbrev pub grewEntered : State → List ℕ → (row : List ℕ) → Growth
-grewEntered s area row = onGate (imageGate inUse s area) (λ why. record { done = done s why; area = area; row = row }) (grownFile inUse s area)
+grewEntered s area row = onGate (imageGate inUse s area) (λ why. withRow (refused s area why) row) (withRow (remade inUse s (grown s) area) (grownCounts inUse s area))
+
+-- what a shrinking comes to that enters
+abbrev pub shrankEntered : State → List ℕ → Outcome
+shrankEntered s area = onGate (imageGate inUse s area) (refused s area) (remade inUse s (shrunk s) area)

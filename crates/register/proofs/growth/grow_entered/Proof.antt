@@ -1,18 +1,11 @@
 -- `register::grow_entered` meets its contract.
-use mathlib.Core.Path.{_≡_, sym}
-use Prim.Native.Nat.{ℕ, _≤_}
-use native.Mathlib.Omega.{arith}
-use lib.ListN.{length, take, replicate, length-replicate}
-use lib.Seq.{length-take-le}
+use mathlib.Core.Path.{sym}
 use borrow.Author.Needs.{needs}
 use Rattle.layouts.specs.Layout.{inUse}
 use Rattle.state.proofs.Ranges.{ranged}
+use Rattle.register.proofs.MadeAnew.{cut}
 use Rattle.register.proofs.growth.grow_entered.Statement.{statement}
 use Rattle.register.proofs.growth.grow_entered.Tie as tie
-
--- as many zeros as are cut off from more
-cut : (m n : ℕ) → n ≤ m → length {A = ℕ} (take n (replicate m 0)) ≡ n
-cut m n l = length-take-le {A = ℕ} n (replicate m 0) (omega (arith, length-replicate {A = ℕ} m 0))
 
 array-borrow-prefix-counts : tie.Need-array-borrow-prefix-counts
 array-borrow-prefix-counts c =

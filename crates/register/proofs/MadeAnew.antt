@@ -1,0 +1,171 @@
+-- A file made anew past its gate: the records are a set, their homes are pages, and the counts tell
+-- whether they have room.
+use mathlib.Core.Path.{_≡_, refl, sym, ap, _∙_}
+use mathlib.Core.Bool.{Bool, true, false}
+use mathlib.Core.Logic.{_↔_, inl, inr}
+use mathlib.Core.List.{List, [], _∷_}
+use Prim.Native.Nat.{ℕ, _+_, _-_, _*_, _≤_, _<_}
+use native.Mathlib.Omega.{arith}
+use lib.Dec.{eqb}
+use lib.ListN.{length, take, replicate, length-replicate}
+use lib.Seq.{length-take-le}
+use borrow.Author.Tests.{eqb-true, eq-eqb}
+use Rattle.numbers.specs.Little.{Bytes}
+use Rattle.layouts.specs.Layout.{Layout, inUse, slotsOf}
+use Rattle.homes.specs.declared.Shape.{Shape}
+use Rattle.homes.specs.declared.new_homes.NewHomes.{NewHomes}
+use Rattle.homes.specs.Homes.{InRange, firstPages, shapeOf, homeIn}
+use Rattle.homes.specs.steps.NewHomes.{newHome, Agrees}
+use Rattle.homes.proofs.Homes.{home-below}
+use Rattle.homes.proofs.Keeping.{agrees}
+use Rattle.placing.specs.Image.{All, cat, RecordSet, Room}
+use Rattle.placing.specs.Lay.{taken}
+use Rattle.placing.specs.Rows.{counts, leftOver, strayed}
+use Rattle.placing.proofs.Images.{room-taken}
+use Rattle.placing.proofs.Rows.{counts-length, row-room}
+use Rattle.pages.specs.Page.{Record, key, homeFor}
+use Rattle.pages.specs.Area.{heldFrom, areaFrom}
+use Rattle.pages.specs.steps.Known.{KnownAt}
+use Rattle.rebuild.specs.Relaid.{relaid}
+use Rattle.survey.specs.declared.Count.the-variants.{Homes}
+use Rattle.survey.specs.declared.Verdict.{Verdict}
+use Rattle.survey.specs.steps.Counts.{Counts, Countable}
+use Rattle.survey.proofs.ImageTest.{image-set, good-pages}
+use Rattle.survey.proofs.Knowing.{image-known}
+use Rattle.state.specs.declared.State.{State}
+use Rattle.state.specs.declared.Answer.the-variants.{Accepted, NoRoom}
+use Rattle.state.specs.State.{inRange, homes, grown, shrunk}
+use Rattle.state.specs.Promises.{Ranged}
+use Rattle.state.proofs.Ranges.{ranged, in-shape, grown-range, shrunk-range}
+use Rattle.gates.specs.declared.Gate.{Gate}
+use Rattle.gates.specs.declared.Gate.the-variants.{Open, Shut}
+use Rattle.gates.specs.Gates.{imageOf, imageGate}
+use Rattle.gates.proofs.Judging.{open-counted, GoodFile, open-good}
+use Rattle.changes.specs.Changes.{done}
+use Rattle.changes.proofs.Settling.{Comes}
+use Rattle.register.specs.steps.Past.{Besides, Rehomes, CountedIf}
+use Rattle.register.specs.Calls.{homeCounts, remade}
+
+-- the records of an area that is an image are a set
+pub held-set : (form : Layout) (s : State) (area : List ℕ) → Bytes area → length area ≡ 256 * s .cap → imageGate form s area ≡ Open
+    → RecordSet key (cat (heldFrom form area (s .cap) 0) [])
+held-set form s area b l e =
+    let k : GoodFile form s area = open-good form s area e in
+    image-set form (homes s) (heldFrom form area (s .cap) 0) (k .image) (good-pages form (homes s) area b (s .cap) 0 (omega arith) (k .whole))
+
+-- the counts are as many as the area has pages
+pub counts-many : (form : Layout) (s next : State) (area row : List ℕ) → row ≡ homeCounts form s next area → length row ≡ s .cap
+counts-many form s next area row e = ap length e ∙ counts-length (homeFor (homes next)) (cat (heldFrom form area (s .cap) 0) []) (s .cap) 0
+
+-- as many zeros as are cut off from more
+pub cut : (m n : ℕ) → n ≤ m → length {A = ℕ} (take n (replicate m 0)) ≡ n
+cut m n l = length-take-le {A = ℕ} n (replicate m 0) (omega (arith, length-replicate {A = ℕ} m 0))
+
+-- a file of one page more
+module _ (s next : State) (e : next ≡ grown s) (range : inRange inUse s ≡ true) (low : s .p < s .cap) where
+  pub grown-in : inRange inUse next ≡ true
+  grown-in = rw e (grown-range inUse s range low)
+
+  -- has pages that it didn't start with
+  pub grown-more : firstPages (next .params) < next .p
+  grown-more = rw e (omega (arith, ranged inUse s range .p-low))
+
+  -- and its homes may follow those of the file as it was
+  pub grown-rehomes : {new : NewHomes} → Besides next next new → Rehomes s new
+  grown-rehomes {new} b =
+      let p : next .p ≡ s .p + 1 = rw e in
+      let q : new .shape .p ≡ s .p + 1 = rw (b .shaped) p in
+      let a : next .p - 1 + 1 ≡ next .p = omega arith in
+      record {
+        usable = b .usable;
+        follows = rw (b .beside) (rw (b .shaped, e), rw (a, e), inl (omega arith, omega arith));
+        low = omega arith;
+      }
+
+-- a file of one page less
+module _ (s next : State) (e : next ≡ shrunk s) (range : inRange inUse s ≡ true) (more : firstPages (s .params) < s .p) where
+  pub shrunk-in : inRange inUse next ≡ true
+  shrunk-in = rw e (shrunk-range inUse s range more)
+
+  pub shrunk-rehomes : {new : NewHomes} → Besides next s new → Rehomes s new
+  shrunk-rehomes {new} b =
+      let r : Ranged inUse s = ranged inUse s range in
+      let p : next .p ≡ s .p - 1 = rw e in
+      let q : new .shape .p ≡ s .p - 1 = rw (b .shaped) p in
+      let a : s .p - 1 + 1 ≡ s .p = omega arith in
+      record {
+        usable = b .usable;
+        follows = rw (b .beside) (rw (b .shaped, e), rw a, inr (omega arith, omega arith));
+        low = omega (arith, r .p-high);
+      }
+
+-- new homes of a file's records
+module _ (s : State) (range : inRange inUse s ≡ true) {new : NewHomes} (m : Rehomes s new) where
+  same-page : Agrees (homes s) new
+  same-page = agrees (shapeOf (s .params) (s .p)) new (in-shape inUse s range) (m .usable .ready) (m .follows)
+
+  -- may be counted in a row of all pages, if those before were of the file as it is
+  pub countable : (old : Shape) → old ≡ shapeOf (s .params) (s .p) → (n : ℕ) → n ≡ s .cap → Countable (Homes new) (λ k a. homeIn old k ≡ a) n
+  countable old f n l = (m .usable, omega (arith, m .low), omega (arith, ranged inUse s range .cap-high), λ k a e on. same-page k a on .0 (rw f at e))
+
+  -- and past the gate of the pages they are counted
+  pub counted-if : (area row : List ℕ) (n : ℕ) → n ≡ s .cap → (v : Verdict) → (g : Gate) → g ≡ imageOf s v → Counts v (Homes new) (cat (heldFrom inUse area (s .cap) 0) []) n row
+      → CountedIf g s new area row
+  counted-if area row n l v Open e k = rw l at (open-counted s v new (cat (heldFrom inUse area (s .cap) 0) []) n row (sym e) k)
+  counted-if area row n l v (Shut why) e k = tt
+
+  -- what is known of the homes on its pages, if they are an image
+  pub rehomed-known : (area : List ℕ) → Bytes area → length area ≡ 256 * s .cap → imageGate inUse s area ≡ Open → (a : ℕ) → a < s .cap → KnownAt inUse new area a
+  rehomed-known area b l e =
+      let k : GoodFile inUse s area = open-good inUse s area e in
+      image-known inUse (homes s) new same-page area (s .cap) (good-pages inUse (homes s) area b (s .cap) 0 (omega arith) (k .whole)) (k .image)
+
+-- the homes that were counted are those of the state that has their shape
+pub counted : (s next : State) (new : NewHomes) → new .shape ≡ shapeOf (next .params) (next .p) → (area row : List ℕ) (g : Gate) → CountedIf g s new area row → g ≡ Open → row ≡ homeCounts inUse s next area
+counted s next new of area row g k e = rw of at (rw e at k)
+
+-- the counts for a file, where its shape is in range and its pages are among those lent
+module _ (form : Layout) (s next : State) (shape : InRange (next .params) (next .p)) (low : next .p ≤ s .cap) where
+  -- all homes are pages of the area
+  homes-low : (rs : List Record) → All (λ x. homeFor (homes next) x < s .cap) rs
+  homes-low [] = tt
+  homes-low (x ∷ rs) = (omega (arith, home-below (next .params) (next .p) (key x) shape), homes-low rs)
+
+  -- so the counts tell whether the pages can take all
+  row-takes : (area : List ℕ)
+      → eqb (leftOver (slotsOf form) (homeCounts form s next area) 0) 0 ≡ eqb (taken (homeFor (homes next)) (slotsOf form) (cat (heldFrom form area (s .cap) 0) []) (s .cap)) (length (cat (heldFrom form area (s .cap) 0) []))
+  row-takes area =
+      let rs : List Record = cat (heldFrom form area (s .cap) 0) [] in
+      row-room (homeFor (homes next)) (slotsOf form) rs (s .cap) (homes-low rs)
+
+  -- and whether there is an arrangement
+  pub row-arranges : (area : List ℕ) → RecordSet key (cat (heldFrom form area (s .cap) 0) [])
+      → (leftOver (slotsOf form) (homeCounts form s next area) 0 ≡ 0) ↔ Room key (homes next) (slotsOf form) (s .cap) (cat (heldFrom form area (s .cap) 0) [])
+  row-arranges area set =
+      let t = room-taken key (homes next) (slotsOf form) (s .cap) (cat (heldFrom form area (s .cap) 0) []) set in
+      let e = row-takes area in
+      (λ z. t .1 (eqb-true _ _ (sym e ∙ eq-eqb _ 0 z)), λ r. eqb-true _ 0 (e ∙ eq-eqb _ _ (t .0 r)))
+
+  module _ (area row : List ℕ) (filled : row ≡ homeCounts form s next area) (room : Bool) (told : room ≡ eqb (leftOver (slotsOf form) row 0) 0) where
+    decided : eqb (taken (homeFor (homes next)) (slotsOf form) (cat (heldFrom form area (s .cap) 0) []) (s .cap)) (length (cat (heldFrom form area (s .cap) 0) [])) ≡ room
+    decided = sym (told ∙ rw filled (row-takes area))
+
+    -- without room the area stays
+    pub remake-full : room ≡ false → Comes (done s (NoRoom (s .cap))) area (remade form s next area)
+    unfolding remade
+    remake-full e = rw (decided, e) (refl, refl)
+
+    module _ (yes : room ≡ true) (new : NewHomes) (of : new .shape ≡ shapeOf (next .params) (next .p)) where
+      same-homes : newHome new ≡ homes next
+      same-homes = rw of
+
+      -- with room a rebuild may go on
+      pub takes-all : taken (homeFor (newHome new)) (slotsOf form) (cat (heldFrom form area (s .cap) 0) []) (s .cap) ≡ length (cat (heldFrom form area (s .cap) 0) [])
+      takes-all = rw same-homes (eqb-true _ _ (decided ∙ yes))
+
+      -- and makes the file anew
+      pub remake-done : (moved : ℕ) → moved ≡ strayed key (heldFrom form area (s .cap) 0) (relaid (slotsOf form) (newHome new) (s .cap) (heldFrom form area (s .cap) 0))
+          → (made : List ℕ) → made ≡ areaFrom form 0 (relaid (slotsOf form) (newHome new) (s .cap) (heldFrom form area (s .cap) 0))
+          → Comes (done next (Accepted 0 (s .cap) moved)) made (remade form s next area)
+      unfolding remade
+      remake-done moved k made n = rw (decided, yes) (rw (k, same-homes), n ∙ rw same-homes)

@@ -1,0 +1,158 @@
+-- What check, grow and shrink do on a file that is the image of its records.
+use mathlib.Core.Path.{_≡_, refl, sym}
+use mathlib.Core.Bool.{cond}
+use mathlib.Core.List.{List, [], _∷_, Permᴰ·symm}
+use Prim.Native.Nat.{ℕ, suc, _<_}
+use native.Mathlib.Omega.{arith}
+use lib.Dec.{eqb}
+use lib.ListN.{length}
+use borrow.Author.Tests.{eq-eqb, ne-eqb}
+use Rattle.numbers.specs.Little.{Bytes}
+use Rattle.numbers.proofs.Laws.{bytes-append}
+use Rattle.layouts.specs.Layout.{Layout, slotsOf}
+use Rattle.homes.specs.Homes.{firstPages}
+use Rattle.placing.specs.Image.{cat, Image, Room}
+use Rattle.placing.specs.Lay.{rankIn, sort, taken}
+use Rattle.placing.specs.Rows.{counts, strayed}
+use Rattle.placing.proofs.Taken.{taken-cong}
+use Rattle.placing.proofs.Perms.{perm-length, perm-upTo, sort-perm}
+use Rattle.placing.proofs.Rows.{counts-perm}
+use Rattle.placing.proofs.Tidy.{set-perm, set-sorted}
+use Rattle.placing.proofs.Images.{room-taken}
+use Rattle.placing.proofs.Rehome.{rehomed}
+use Rattle.pages.specs.Page.{Record, key, homeFor, pageBytes}
+use Rattle.pages.specs.Area.{areaFrom}
+use Rattle.pages.proofs.Write.{page-bytes}
+use Rattle.rebuild.specs.Relaid.{relaid}
+use Rattle.state.specs.declared.State.{State}
+use Rattle.state.specs.declared.Answer.the-variants.{Accepted, WrongRow, NoRoom, AtCap, AtStart}
+use Rattle.state.specs.State.{homes, grown, shrunk}
+use Rattle.state.proofs.Ranges.{grown-range, shrunk-range}
+use Rattle.gates.specs.declared.Gate.the-variants.{Open}
+use Rattle.gates.specs.Gates.{imageGate}
+use Rattle.changes.specs.Changes.{done, refused}
+use Rattle.register.specs.Calls.{homeCounts, remade, withRow}
+use Rattle.register.specs.Files.{grow, shrink, check, fileIn, ofOutcome, ofGrowth, left}
+use Rattle.gates.proofs.Gating.{row-shut, cap-shut, pages-decide, start-shut, pages-decide-shrink}
+use Rattle.gates.proofs.Judging.{good-open}
+use Rattle.register.proofs.CheckImage.{image-good}
+use Rattle.walks.proofs.Clean.{clean-pass, clean-held}
+use Rattle.register.proofs.OnImage.{OnImage, on-clean, on-length, on-gate, Refused, Accepts}
+
+-- the pages for another state, and the row at one page more
+abbrev pub remadePages : Layout → (s next : State) → List (List Record) → List (List Record)
+remadePages form s next ps = relaid (slotsOf form) (homes next) (s .cap) ps
+
+abbrev pub grownRow : State → List Record → List ℕ
+grownRow s rs = counts (homeFor (homes (grown s))) rs (s .cap) 0
+
+-- pages are bytes
+area-bytes : (form : Layout) (a : ℕ) (ps : List (List Record)) → Bytes (areaFrom form a ps)
+area-bytes form a [] = λ k h. omega arith
+area-bytes form a (p ∷ ps) = bytes-append (pageBytes form a p) (areaFrom form (suc a) ps) (page-bytes form a p) (area-bytes form (suc a) ps)
+
+module _ {form : Layout} {s : State} {rs : List Record} {ps : List (List Record)} (w : OnImage form s rs ps) where
+  -- the pages pass
+  pub image-open : imageGate form s (areaFrom form 0 ps) ≡ Open
+  image-open =
+      good-open form s (areaFrom form 0 ps) (image-good form s (areaFrom form 0 ps) (area-bytes form 0 ps) (on-length w) (record {
+        records = rs;
+        set = w .set;
+        count = w .count;
+        is = record { pages = ps; bytes = refl; pass = clean-pass (on-clean w); image = w .image };
+      }))
+
+  -- so check says yes
+  pub check-yes : Accepts form s ps check 0 [] s rs (λ qs. 0)
+  unfolding left
+  check-yes = record { read = s .cap; moved = 0; pages = ps; left = rw (← on-gate w, image-open); stands = w; moves = refl }
+
+  module _ (next : State) where
+    -- the pages made anew are the image for that state
+    pub remade-image : Room key (homes next) (slotsOf form) (s .cap) rs → Image key (homes next) (slotsOf form) (s .cap) rs (remadePages form s next ps)
+    unfolding relaid
+    remade-image r =
+        let h = homes next in
+        rehomed key (homes s) h (slotsOf form) (s .cap) (sort (rankIn key h) (cat ps [])) (w .set) (w .image) r
+        (sort-perm (rankIn key h) (cat ps []))
+        (set-sorted key h (cat ps []) (set-perm key (Permᴰ·symm (w .image .arranged .holds)) (w .set)))
+
+    -- what the pages can take of the records decides, in whatever order they are
+    decides : remade form s next (areaFrom form 0 ps) ≡ cond (eqb (taken (homeFor (homes next)) (slotsOf form) rs (s .cap)) (length rs))
+        (record { done = done next (Accepted 0 (s .cap) (strayed key ps (remadePages form s next ps))); area = areaFrom form 0 (remadePages form s next ps) })
+        (refused s (areaFrom form 0 ps) (NoRoom (s .cap)))
+    unfolding remade
+    decides =
+        let h = homeFor (homes next) in
+        let p = w .image .arranged .holds in
+        rw (clean-held (on-clean w), taken-cong h (slotsOf form) (cat ps []) rs (λ j. perm-upTo h j p) (s .cap), perm-length p)
+
+    -- with room the file is made anew
+    pub remade-room : Room key (homes next) (slotsOf form) (s .cap) rs
+        → remade form s next (areaFrom form 0 ps) ≡ record { done = done next (Accepted 0 (s .cap) (strayed key ps (remadePages form s next ps))); area = areaFrom form 0 (remadePages form s next ps) }
+    remade-room r = rw (decides, eq-eqb _ _ (room-taken key (homes next) (slotsOf form) (s .cap) rs (w .set) .0 r))
+
+    -- without room it stays
+    pub remade-full : (Room key (homes next) (slotsOf form) (s .cap) rs → ⊥) → remade form s next (areaFrom form 0 ps) ≡ refused s (areaFrom form 0 ps) (NoRoom (s .cap))
+    remade-full n = rw (decides, ne-eqb _ _ (λ e. n (room-taken key (homes next) (slotsOf form) (s .cap) rs (w .set) .1 e)))
+
+  -- the counts of the pages are those of the records
+  row-told : homeCounts form s (grown s) (areaFrom form 0 ps) ≡ grownRow s rs
+  row-told = rw (clean-held (on-clean w)) (counts-perm (homeFor (homes (grown s))) (w .image .arranged .holds) (s .cap) 0)
+
+  module _ (row : List ℕ) where
+    -- growth is refused with a row of another length
+    pub grow-other-row : (length row ≡ s .cap → ⊥) → Refused form s ps (grow row) WrongRow row
+    unfolding left
+    grow-other-row f = rw (← (row-shut form) s (areaFrom form 0 ps) (length row) Open (on-gate w) refl f)
+
+    module _ (fits : length row ≡ s .cap) where
+      -- and with no page to grow to
+      pub grow-no-page : s .p ≡ s .cap → Refused form s ps (grow row) AtCap row
+      unfolding left
+      grow-no-page m = rw (← (cap-shut form) s (areaFrom form 0 ps) (length row) Open (on-gate w) refl fits m)
+
+      module _ (low : s .p < s .cap) where
+        -- else the records decide
+        grows : left (fileIn form s (areaFrom form 0 ps)) (grow row) ≡ ofGrowth form (withRow (remade form s (grown s) (areaFrom form 0 ps)) (grownRow s rs))
+        unfolding left
+        grows = rw (← (pages-decide form) s (areaFrom form 0 ps) (length row) Open (on-gate w) refl Open (sym image-open) fits (λ e. omega arith), row-told)
+
+        pub grow-with-room : Room key (homes (grown s)) (slotsOf form) (s .cap) rs → Accepts form s ps (grow row) 0 (grownRow s rs) (grown s) rs (λ qs. strayed key ps qs)
+        grow-with-room r =
+            record {
+              read = s .cap;
+              moved = strayed key ps (remadePages form s (grown s) ps);
+              pages = remadePages form s (grown s) ps;
+              left = rw (grows, remade-room (grown s) r);
+              stands = record { range = grown-range form s (w .range) low; set = w .set; formed = w .formed; count = w .count; image = remade-image (grown s) r };
+              moves = refl;
+            }
+
+        pub grow-no-room : (Room key (homes (grown s)) (slotsOf form) (s .cap) rs → ⊥) → Refused form s ps (grow row) (NoRoom (s .cap)) (grownRow s rs)
+        grow-no-room n = rw (grows, remade-full (grown s) n)
+
+  -- a shrinking is refused with no page to give up
+  pub shrink-no-page : s .p ≡ firstPages (s .params) → Refused form s ps shrink AtStart []
+  unfolding left
+  shrink-no-page m = rw (← (start-shut form) s (areaFrom form 0 ps) Open (on-gate w) refl m)
+
+  module _ (more : firstPages (s .params) < s .p) where
+    -- else the records decide
+    shrinks : left (fileIn form s (areaFrom form 0 ps)) shrink ≡ ofOutcome form (remade form s (shrunk s) (areaFrom form 0 ps))
+    unfolding left
+    shrinks = rw (← (pages-decide-shrink form) s (areaFrom form 0 ps) Open (on-gate w) refl Open (sym image-open) (λ e. omega arith))
+
+    pub shrink-with-room : Room key (homes (shrunk s)) (slotsOf form) (s .cap) rs → Accepts form s ps shrink 0 [] (shrunk s) rs (λ qs. strayed key ps qs)
+    shrink-with-room r =
+        record {
+          read = s .cap;
+          moved = strayed key ps (remadePages form s (shrunk s) ps);
+          pages = remadePages form s (shrunk s) ps;
+          left = rw (shrinks, remade-room (shrunk s) r);
+          stands = record { range = shrunk-range form s (w .range) more; set = w .set; formed = w .formed; count = w .count; image = remade-image (shrunk s) r };
+          moves = refl;
+        }
+
+    pub shrink-no-room : (Room key (homes (shrunk s)) (slotsOf form) (s .cap) rs → ⊥) → Refused form s ps shrink (NoRoom (s .cap)) []
+    shrink-no-room n = rw (shrinks, remade-full (shrunk s) n)

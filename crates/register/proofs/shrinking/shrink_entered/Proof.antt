@@ -1,0 +1,34 @@
+-- `register::shrinking::shrink_entered` meets its contract.
+use mathlib.Core.Path.{sym}
+use borrow.Author.Needs.{needs}
+use Rattle.layouts.specs.Layout.{inUse}
+use Rattle.state.proofs.Ranges.{ranged}
+use Rattle.register.proofs.MadeAnew.{cut}
+use Rattle.register.proofs.shrinking.shrink_entered.Statement.{statement}
+use Rattle.register.proofs.shrinking.shrink_entered.Tie as tie
+
+array-borrow-prefix-counts : tie.Need-array-borrow-prefix-counts
+array-borrow-prefix-counts c =
+    let b = c .before .before .before in
+    ranged inUse (b .args .state) (b .pre .0) .cap-high
+
+slice-aggregate-shrink-counting : tie.Need-slice-aggregate-shrink-counting
+slice-aggregate-shrink-counting c =
+    let b = c .before .before .before .before in
+    sym (cut 4096 (b .args .state .cap) (ranged inUse (b .args .state) (b .pre .0) .cap-high))
+
+shrink-counting-requires : tie.Need-shrink-counting-requires
+shrink-counting-requires c κs =
+    let b = c .before .before .before .before in
+    (b .pre, cut 4096 (b .args .state .cap) (ranged inUse (b .args .state) (b .pre .0) .cap-high))
+
+pub shrink-entered-spec : {M : Type 1} → statement M
+shrink-entered-spec =
+    tie.close
+    (tie.spec
+    (λ c. search needs)
+    array-borrow-prefix-counts
+    slice-aggregate-shrink-counting
+    shrink-counting-requires
+    (λ c. search needs)
+    (λ c. search needs))

@@ -12,6 +12,7 @@ use lib.Dec.{eqb}
 use lib.ListN.{length}
 use Rattle.numbers.specs.Little.{Bytes}
 use Rattle.layouts.specs.Layout.{Layout, slotsOf}
+use Rattle.homes.specs.Homes.{firstPages}
 use Rattle.placing.specs.Image.{cat, Room}
 use Rattle.placing.specs.Lay.{taken}
 use Rattle.placing.proofs.Images.{room-taken}
@@ -24,15 +25,15 @@ use Rattle.survey.specs.declared.Verdict.the-variants.{Whole}
 use Rattle.survey.specs.Survey.{lowestBroken, isImage, onBroken, surveyed}
 use Rattle.state.specs.declared.State.{State}
 use Rattle.state.specs.declared.Answer.{Answer}
-use Rattle.state.specs.declared.Answer.the-variants.{OutOfRange, WrongArea, WrongRow, AtCap, Broken, NotImage}
-use Rattle.state.specs.State.{inRange, homes, grown}
+use Rattle.state.specs.declared.Answer.the-variants.{OutOfRange, WrongArea, WrongRow, AtCap, AtStart, Broken, NotImage}
+use Rattle.state.specs.State.{inRange, homes}
 use Rattle.state.specs.Promises.{Ranged}
 use Rattle.state.proofs.Ranges.{ranged, in-range}
 use Rattle.gates.specs.declared.Gate.the-variants.{Open, Shut}
-use Rattle.gates.specs.Gates.{gateOf, imageOf, imageGate, growGate}
+use Rattle.gates.specs.Gates.{gateOf, imageOf, imageGate, growGate, shrinkGate}
 use Rattle.register.specs.OneImage.{ImageOfR}
 use Rattle.register.specs.Files.{File}
-use Rattle.gates.proofs.Gating.{range-shut, area-shut, gate-open, row-shut, cap-shut, pages-decide}
+use Rattle.gates.proofs.Gating.{range-shut, area-shut, gate-open, row-shut, cap-shut, pages-decide, start-shut, pages-decide-shrink}
 use Rattle.gates.proofs.Judging.{good-open}
 use Rattle.register.proofs.CheckImage.{image-good, check-image}
 use Rattle.demands.specs.Refusals.{RightArea, SomeBroken, LowestBroken}
@@ -85,7 +86,7 @@ module _ (form : Layout) (h : ℕ → ℕ) (area : List ℕ) where
       go none q w = (omega arith, omega arith, q, λ c l u k. omega arith)
       go (some p) q w = on-looked p q (lowestBroken (suc a) (pagesFrom form h area n (suc a))) w
 
--- what check and grow find of the pages of a file that they enter
+-- what check, grow and shrink find of the pages of a file that they enter
 pub data Pages (f : File) : Type 0 where
   sick : (a : ℕ) → LowestBroken f a → (ImageOfR (f .layout) (f .state) (f .area) → ⊥) → imageGate (f .layout) (f .state) (f .area) ≡ Shut (Broken a (suc a)) → Pages f
   strange : (SomeBroken f → ⊥) → (ImageOfR (f .layout) (f .state) (f .area) → ⊥) → imageGate (f .layout) (f .state) (f .area) ≡ Shut (NotImage (f .state .cap)) → Pages f
@@ -143,16 +144,32 @@ try-row f row e = go (ℕ-discrete (length row) (s .cap)) (ℕ-discrete (s .p) (
     go (yes d) (yes k) = at-cap d k (sym (cap-shut (f .layout) s (f .area) (length row) Open (sym e) refl d k))
     go (yes d) (no k) = below d k (sym (pages-decide (f .layout) s (f .area) (length row) Open (sym e) refl (imageGate (f .layout) s (f .area)) refl d k))
 
--- there is room for the records of an image where the pages can take all that stand on them
-abbrev pub takesAll : Layout → State → List ℕ → Type 0
-takesAll form s area =
-    let held = cat (heldFrom form area (s .cap) 0) [] in
-    taken (homeFor (homes (grown s))) (slotsOf form) held (s .cap) ≡ length held
+-- what a shrinking finds of P
+pub data Starts (f : File) : Type 0 where
+  at-start : f .state .p ≡ firstPages (f .state .params) → shrinkGate (f .layout) (f .state) (f .area) ≡ Shut AtStart → Starts f
+  above : (f .state .p ≡ firstPages (f .state .params) → ⊥) → shrinkGate (f .layout) (f .state) (f .area) ≡ imageGate (f .layout) (f .state) (f .area) → Starts f
 
-pub room-of : (form : Layout) (s : State) (area : List ℕ) (w : ImageOfR form s area) → takesAll form s area ↔ Room key (homes (grown s)) (slotsOf form) (s .cap) (w .records)
-room-of form s area w =
-    let h = homeFor (homes (grown s)) in
+pub try-start : (f : File) → gateOf (f .layout) (f .state) (length (f .area)) ≡ Open → Starts f
+try-start f e = go (ℕ-discrete (s .p) (firstPages (s .params)))
+  where
+    s : State
+    s = f .state
+
+    go : Dec (s .p ≡ firstPages (s .params)) → Starts f
+    go (yes k) = at-start k (sym (start-shut (f .layout) s (f .area) Open (sym e) refl k))
+    go (no k) = above k (sym (pages-decide-shrink (f .layout) s (f .area) Open (sym e) refl (imageGate (f .layout) s (f .area)) refl k))
+
+-- there is room for the records of an image in the file of a state where the pages can take all that
+-- stand on them
+abbrev pub takesAll : Layout → (s next : State) → List ℕ → Type 0
+takesAll form s next area =
+    let held = cat (heldFrom form area (s .cap) 0) [] in
+    taken (homeFor (homes next)) (slotsOf form) held (s .cap) ≡ length held
+
+pub room-of : (form : Layout) (s next : State) (area : List ℕ) (w : ImageOfR form s area) → takesAll form s next area ↔ Room key (homes next) (slotsOf form) (s .cap) (w .records)
+room-of form s next area w =
+    let h = homeFor (homes next) in
     let ps = w .is .pages in
     let p = w .is .image .arranged .holds in
-    let t = room-taken key (homes (grown s)) (slotsOf form) (s .cap) (w .records) (w .set) in
+    let t = room-taken key (homes next) (slotsOf form) (s .cap) (w .records) (w .set) in
     rw (read-held form (homes s) area (s .cap) 0 ps (w .is .pass), taken-cong h (slotsOf form) (cat ps []) (w .records) (λ j. perm-upTo h j p) (s .cap), perm-length p) (t .1, t .0)

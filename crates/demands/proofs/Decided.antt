@@ -1,41 +1,28 @@
--- Format, check and grow on any bytes: each way out with its numbers, and with the causes that hold
--- there.
+-- Format and check on any bytes: each way out with its numbers, and with the causes that hold there.
 use mathlib.Core.Path.{_≡_, refl, _∙_}
 use mathlib.Core.Bool.{true, false}
 use mathlib.Core.Logic.{_↔_, inl, inr}
 use mathlib.Core.List.{List, [], _∷_}
 use Prim.Native.Nat.{ℕ, suc}
-use native.Mathlib.Decide.{ℕ-discrete}
 use native.Mathlib.Omega.{arith}
 use lib.ListN.{length, replicate}
-use borrow.Author.Tests.{eq-eqb, ne-eqb}
-use Rattle.layouts.specs.Layout.{slotsOf}
 use Rattle.homes.specs.declared.Params.{Params}
 use Rattle.state.specs.Promises.{Ranged}
 use Rattle.numbers.specs.Little.{Bytes}
-use Rattle.placing.specs.Image.{cat}
-use Rattle.placing.specs.Lay.{taken}
-use Rattle.placing.specs.Rows.{strayed}
-use Rattle.pages.specs.Page.{key, homeFor}
-use Rattle.pages.specs.Area.{areaFrom, heldFrom}
-use Rattle.rebuild.specs.Relaid.{relaid}
+use Rattle.pages.specs.Area.{areaFrom}
 use Rattle.state.specs.declared.State.{State}
 use Rattle.state.specs.declared.Done.{Done}
 use Rattle.state.specs.declared.Numbers.{Numbers}
-use Rattle.state.specs.declared.Answer.{Answer}
 use Rattle.state.specs.declared.Answer.the-variants.{Accepted}
-use Rattle.state.specs.State.{homes, fresh, grown}
+use Rattle.state.specs.State.{fresh}
 use Rattle.state.specs.Answer.{told, numbers}
-use Rattle.gates.specs.declared.Gate.{Gate}
-use Rattle.gates.specs.declared.Gate.the-variants.{Open, Shut}
-use Rattle.gates.specs.Gates.{onGate, gateOf, imageGate, growGate}
+use Rattle.gates.specs.Gates.{onGate, gateOf, imageGate}
 use Rattle.register.specs.OneImage.{ImageOfR}
 use Rattle.changes.specs.Changes.{done}
-use Rattle.register.specs.Calls.{grownFile}
-use Rattle.register.specs.Files.{Call, format, grow, check, File, left}
-use Rattle.demands.specs.Refusals.{RightArea, SomeBroken, LowestBroken, RoomToGrow, order, OneOf, gives, tells, AcceptedTells, Judges}
+use Rattle.register.specs.Files.{Call, format, check, File, left}
+use Rattle.demands.specs.Refusals.{RightArea, LowestBroken, order, OneOf, gives, tells, AcceptedTells, Judges}
 use Rattle.demands.proofs.InOrder.{listed, one-of, none-of, Comes}
-use Rattle.demands.proofs.Causes.{Enters, out, other, entered, enter, Pages, sick, strange, whole, judge, Rows, other-row, at-cap, below, try-row, takesAll, room-of}
+use Rattle.demands.proofs.Causes.{Enters, out, other, entered, enter, Pages, sick, strange, whole, judge}
 use Rattle.demands.proofs.CallNumbers.{Known, refuses, gated, looks}
 
 -- of a call that is accepted exactly where A holds, and that judges all pages or none
@@ -59,14 +46,14 @@ module _ (f : File) (c : Call) {A : Type 0} where
         }
 
     -- before a page is looked at, or after all were
-    early : listed k (9 ∷ 7 ∷ []) ≡ false → Decided f c A (told k 0 0 0 0)
+    pub early : listed k (9 ∷ 7 ∷ []) ≡ false → Decided f c A (told k 0 0 0 0)
     early e = decides 0 (λ v. absurd (none-of k (9 ∷ 7 ∷ []) e v))
 
-    late : Decided f c A (told k 0 0 (f .state .cap) 0)
+    pub late : Decided f c A (told k 0 0 (f .state .cap) 0)
     late = decides (f .state .cap) (λ v. refl)
 
   -- 4, with the lowest broken page
-  sickly : listed 4 (gives c) ≡ true → (A → ⊥) → Comes 4 (order f c) (order f c) → (a : ℕ) → LowestBroken f a → Decided f c A (told 4 a 0 (suc a) 0)
+  pub sickly : listed 4 (gives c) ≡ true → (A → ⊥) → Comes 4 (order f c) (order f c) → (a : ℕ) → LowestBroken f a → Decided f c A (told 4 a 0 (suc a) 0)
   sickly g n w a l =
       record {
         known = record { comes = w; gives = one-of 4 (gives c) g; accepted = λ e. absurd (omega arith); broken = λ e. l .broken };
@@ -74,7 +61,7 @@ module _ (f : File) (c : Call) {A : Type 0} where
         judges = record { lowest = λ e. l; up-to = λ e. omega arith; all = λ v. absurd (none-of 4 (9 ∷ 7 ∷ []) refl v) };
       }
 
-  accepts : listed 0 (gives c) ≡ true → A → Comes 0 (order f c) (order f c) → (read moved : ℕ) → AcceptedTells f c (told 0 0 0 read moved)
+  pub accepts : listed 0 (gives c) ≡ true → A → Comes 0 (order f c) (order f c) → (read moved : ℕ) → AcceptedTells f c (told 0 0 0 read moved)
       → Decided f c A (told 0 0 0 read moved)
   accepts g a w read moved t =
       record {
@@ -133,67 +120,3 @@ module _ (f : File) where
         go (out r g) = rw g (early f check 1 refl refl (λ a. r (a .0)) (inl (r, refl)) refl)
         go (other r l g) = rw g (early f check 2 refl refl (λ a. l (a .1)) (inr (r, inl (l, refl))) refl)
         go (entered r l g) = rw g (pages r l (judge f b r l))
-
-  -- Grow
-  module _ (row : List ℕ) where
-    abbrev GoodToGrow : Type 0
-    GoodToGrow = Ranged (f .layout) s × RightArea s area × (length row ≡ s .cap) × (s .p ≡ s .cap → ⊥) × RoomToGrow f
-
-    -- where the pages are an image
-    abbrev regrown : Numbers
-    regrown = numbers (grownFile (f .layout) s area .done .answer)
-
-    abbrev strays : ℕ
-    strays = strayed key (heldFrom (f .layout) area (s .cap) 0) (relaid (slotsOf (f .layout)) (homes (grown s)) (s .cap) (heldFrom (f .layout) area (s .cap) 0))
-
-    grown-room : takesAll (f .layout) s area → regrown ≡ told 0 0 0 (s .cap) strays
-    unfolding grownFile
-    grown-room e = rw (eq-eqb _ _ e)
-
-    grown-full : (takesAll (f .layout) s area → ⊥) → regrown ≡ told 7 0 0 (s .cap) 0
-    unfolding grownFile
-    grown-full n = rw (ne-eqb _ _ n)
-
-    grow-tells : tells f (grow row) ≡ onGate (growGate (f .layout) s area (length row)) numbers regrown
-    unfolding left
-    grow-tells = go (growGate (f .layout) s area (length row))
-      where
-        go : (g : Gate) → numbers (onGate g (λ why. record { done = done s why; area = area; row = row }) (grownFile (f .layout) s area) .done .answer) ≡ onGate g numbers regrown
-        go Open = refl
-        go (Shut why) = refl
-
-    -- what is refused at the entry of any call
-    shut-grow : (why : Answer) → gateOf (f .layout) s (length area) ≡ Shut why → growGate (f .layout) s area (length row) ≡ Shut why
-    unfolding growGate
-    shut-grow why e = rw e
-
-    module _ (b : Bytes area) where
-      pub grow-decided : Decided f (grow row) GoodToGrow (tells f (grow row))
-      grow-decided = rw grow-tells (go (enter (f .layout) s area))
-        where
-          room : (r : Ranged (f .layout) s) (l : RightArea s area) (d : length row ≡ s .cap) (k : s .p ≡ s .cap → ⊥) (w : SomeBroken f → ⊥) (m : ImageOfR (f .layout) s area) → Dec (takesAll (f .layout) s area) → Decided f (grow row) GoodToGrow regrown
-          room r l d k w m (yes t) =
-              let q : RoomToGrow f = record { is = m; room = room-of (f .layout) s area m .0 t } in
-              rw (grown-room t) (accepts f (grow row) refl (r, l, d, k, q)
-              (inr (r, inr (l, inr (d, inr (k, inr (w, inr (m, inr (q, none-of 0 (1 ∷ 2 ∷ 3 ∷ 8 ∷ 4 ∷ 9 ∷ 7 ∷ []) refl))))))))
-              (s .cap) strays (refl, refl))
-          room r l d k w m (no t) =
-              let q : RoomToGrow f → ⊥ = λ v. t (room-of (f .layout) s area (v .is) .1 (v .room)) in
-              rw (grown-full t) (late f (grow row) 7 refl refl (λ v. q (v .4)) (inr (r, inr (l, inr (d, inr (k, inr (w, inr (m, inl (q, refl)))))))))
-
-          pages : (r : Ranged (f .layout) s) (l : RightArea s area) (d : length row ≡ s .cap) (k : s .p ≡ s .cap → ⊥) → Pages f → Decided f (grow row) GoodToGrow (onGate (imageGate (f .layout) s area) numbers regrown)
-          pages r l d k (sick a w n i) = rw i (sickly f (grow row) refl (λ v. n (v .4 .is)) (inr (r, inr (l, inr (d, inr (k, inl ((a, w .broken), refl)))))) a w)
-          pages r l d k (strange w n i) = rw i (late f (grow row) 9 refl refl (λ v. n (v .4 .is)) (inr (r, inr (l, inr (d, inr (k, inr (w, inl (n, refl))))))))
-          pages r l d k (whole w m i) =
-              let held = cat (heldFrom (f .layout) area (s .cap) 0) [] in
-              rw i (room r l d k w m (ℕ-discrete (taken (homeFor (homes (grown s))) (slotsOf (f .layout)) held (s .cap)) (length held)))
-
-          tries : (r : Ranged (f .layout) s) (l : RightArea s area) → Rows f row → Decided f (grow row) GoodToGrow (onGate (growGate (f .layout) s area (length row)) numbers regrown)
-          tries r l (other-row d g) = rw g (early f (grow row) 3 refl refl (λ a. d (a .2)) (inr (r, inr (l, inl (d, refl)))) refl)
-          tries r l (at-cap d k g) = rw g (early f (grow row) 8 refl refl (λ a. a .3 k) (inr (r, inr (l, inr (d, inl (k, refl))))) refl)
-          tries r l (below d k g) = rw g (pages r l d k (judge f b r l))
-
-          go : Enters (f .layout) s area → Decided f (grow row) GoodToGrow (onGate (growGate (f .layout) s area (length row)) numbers regrown)
-          go (out r g) = rw (shut-grow _ g) (early f (grow row) 1 refl refl (λ a. r (a .0)) (inl (r, refl)) refl)
-          go (other r l g) = rw (shut-grow _ g) (early f (grow row) 2 refl refl (λ a. l (a .1)) (inr (r, inl (l, refl))) refl)
-          go (entered r l g) = tries r l (try-row f row g)

@@ -5,6 +5,7 @@ use mathlib.Core.Option.{Option, none, some}
 use mathlib.Core.List.{List, [], _∷_}
 use Prim.Native.Nat.{ℕ}
 use native.Mathlib.Omega.{arith}
+use Rattle.numbers.specs.Little.{Bytes}
 use Rattle.layouts.specs.Layout.{slotsOf}
 use Rattle.placing.specs.Image.{Image}
 use Rattle.placing.specs.Rows.{counts}
@@ -12,20 +13,23 @@ use Rattle.placing.proofs.Images.{one-image}
 use Rattle.placing.proofs.Perms.{perm-length}
 use Rattle.placing.proofs.Seek.{clash}
 use Rattle.pages.specs.Page.{Record, key, value, homeFor}
-use Rattle.state.specs.State.{homes, grown}
-use Rattle.register.specs.Files.{Call, find, put, remove, grow, due, File, Left, left, numbersOf}
+use Rattle.state.specs.State.{homes, grown, shrunk}
+use Rattle.register.specs.Files.{Call, find, put, remove, grow, shrink, due, File, Left, left, numbersOf}
 use Rattle.demands.specs.Histories.{refusal, Kept, stateOf, commitOf}
-use Rattle.demands.specs.Demands.{Fresh, Tells, Row, Found, PutTold, Retried, Removed, Sound, TheImage, RoomPut, RoomGrow, Counted, Agree, AfterFresh, Demands}
+use Rattle.demands.specs.Demands.{Fresh, Tells, Row, Found, PutTold, Retried, Removed, Sound, TheImage, RoomPut, RoomGrow, RoomShrink, TakenBack, Counted, Agree, AfterFresh, Demands}
 use Rattle.demands.specs.Refusals.{OneOf}
 use Rattle.demands.specs.ReadMoved.{ReadHeld, ReadAbsent, ReadWithin, Moved}
 use Rattle.demands.proofs.InOrder.{none-of}
 use Rattle.walks.proofs.Clean.{clean-pass}
 use Rattle.register.proofs.OnImage.{on-clean}
 use Rattle.register.proofs.ImageCalls.{room-told}
-use Rattle.register.proofs.GrownImage.{check-yes, grow-no-room, grow-with-room}
+use Rattle.register.proofs.RemadeImage.{check-yes, grow-no-room, grow-with-room, shrink-no-room, shrink-with-room}
+use Rattle.register.proofs.RoundTrips as trips
 use Rattle.demands.proofs.Sets.{set-put, same-records}
 use Rattle.demands.proofs.Standing.{Stands, fileOf, find-held, find-absent, remove-absent, remove-held, put-full, put-new}
 use Rattle.demands.proofs.Unchanged.{total}
+use Rattle.state.proofs.Ranges.{in-range}
+use Rattle.demands.proofs.Refusals.{refusals}
 use Rattle.demands.proofs.Steps.{Step, refused, accepted, said, plain-number, Puts, repeats, clashes, turned-away, joined, Grows, other-row, at-cap, crowded, larger, put-comes, grow-comes, due-stands, step, history}
 use Rattle.demands.proofs.ReadMoved.{read-held-stands, read-absent-stands, read-within-stands, moved-stands}
 
@@ -139,6 +143,13 @@ module _ (m : Kept) (ps : List (List Record)) (s : Stands m ps) where
       (λ r. number (grow-with-room s row l low r .left))
       (λ n. number (grow-no-room s row l low n))
 
+  room-shrink-stands : RoomShrink m f
+  room-shrink-stands more =
+      either (refusal f shrink) 7 0 (λ z. omega arith)
+      (room-told (slotsOf (m .layout)) (homes (shrunk (stateOf m))) (m .cap) (m .held) (s .set))
+      (λ r. number (shrink-with-room s more r .left))
+      (λ n. number (shrink-no-room s more n))
+
   row-stands : Row m f
   row-stands row q = go (grow-comes s row)
     where
@@ -170,6 +181,22 @@ same a b g h v w e =
     let t = stands b h w in
     s .1 .0 ∙ same-stands a b (s .0) (t .0) e (s .1 .1) (t .1 .1) ∙ sym (t .1 .0)
 
+-- a page more or less, taken back: a call that is accepted has found an image
+taken-back : (f : File) → Bytes (f .area) → TakenBack f
+taken-back f b =
+    record {
+      grow-shrink = λ row e.
+          let a = refusals f b .grows row .0 e in
+          let w = a .4 .is in
+          let k = trips.grow-shrink (trips.image-stands (f .layout) (f .state) (f .area) b (a .1) (in-range (f .layout) (f .state) (a .0)) w) row (a .2) (omega (arith, a .3, a .0 .p-high)) (a .4 .room) in
+          rw (← w .is .bytes) at k;
+      shrink-grow = λ row e l.
+          let a = refusals f b .shrinks .0 e in
+          let w = a .3 .is in
+          let k = trips.shrink-grow (trips.image-stands (f .layout) (f .state) (f .area) b (a .1) (in-range (f .layout) (f .state) (a .0)) w) row l (omega (arith, a .2, a .0 .p-low)) (a .3 .room) in
+          rw (← w .is .bytes) at k;
+    }
+
 pub demands : Demands
 demands =
     record {
@@ -183,6 +210,8 @@ demands =
       same = same;
       room-put = after-fresh RoomPut room-put-stands;
       room-grow = after-fresh RoomGrow room-grow-stands;
+      room-shrink = after-fresh RoomShrink room-shrink-stands;
+      taken-back = taken-back;
       counted = after-fresh Counted counted-stands;
       read-held = after-fresh (λ m. ReadHeld) read-held-stands;
       read-absent = after-fresh (λ m. ReadAbsent) read-absent-stands;

@@ -12,6 +12,7 @@ pub mod Causes
 pub mod WalkNumbers
 pub mod CallNumbers
 pub mod Decided
+pub mod DecidedAnew
 pub mod WalkCalls
 pub mod Retries
 pub mod Refusals

@@ -5,7 +5,7 @@ use Prim.Native.Nat.{_+_}
 use native.Mathlib.Omega.{arith}
 use Rattle.placing.proofs.Strays.{strayed-none}
 use Rattle.pages.specs.Page.{Record, key}
-use Rattle.register.specs.Files.{Call, format, find, put, remove, grow, check, due, Left, left, numbersOf}
+use Rattle.register.specs.Files.{Call, format, find, put, remove, grow, shrink, check, due, Left, left, numbersOf}
 use Rattle.demands.specs.Histories.{Kept}
 use Rattle.demands.specs.ReadMoved.{moved, readTo, ReadHeld, ReadAbsent, ReadWithin, pagesOf, differ, Moved}
 use Rattle.walks.proofs.Clean.{clean-held}
@@ -21,6 +21,7 @@ none-differ (find k) ps = refl
 none-differ (put x) ps = strayed-none key ps
 none-differ (remove k) ps = strayed-none key ps
 none-differ (grow row) ps = strayed-none key ps
+none-differ shrink ps = strayed-none key ps
 none-differ check ps = refl
 none-differ due ps = refl
 

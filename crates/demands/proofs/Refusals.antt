@@ -10,31 +10,32 @@ use Rattle.state.specs.Promises.{Ranged}
 use Rattle.state.proofs.Promises.{state-promises}
 use Rattle.numbers.specs.Little.{Bytes}
 use Rattle.state.specs.declared.Answer.{Answer}
-use Rattle.state.specs.declared.Answer.the-variants.{Accepted, OutOfRange, WrongArea, WrongRow, Broken, Absent, Held, NoRoom, AtCap, NotImage, Clash}
+use Rattle.state.specs.declared.Answer.the-variants.{Accepted, OutOfRange, WrongArea, WrongRow, Broken, Absent, Held, NoRoom, AtCap, NotImage, Clash, AtStart}
 use Rattle.state.specs.Answer.{told, numbers}
 use Rattle.state.specs.State.{isDue}
-use Rattle.register.specs.Files.{Call, format, find, put, remove, grow, check, due, File, Said, answers, says, left, numbersOf}
+use Rattle.register.specs.Files.{Call, format, find, put, remove, grow, shrink, check, due, File, Said, answers, says, left, numbersOf}
 use Rattle.demands.specs.Refusals.{order, tells, Plain, Refusals}
 use Rattle.demands.proofs.InOrder.{ranks, differ, listed, one-of, none-of, in-order}
 use Rattle.demands.proofs.CallNumbers.{Known}
-use Rattle.demands.proofs.Decided.{format-decided, check-decided, grow-decided}
+use Rattle.demands.proofs.Decided.{format-decided, check-decided}
+use Rattle.demands.proofs.DecidedAnew.{grow-decided, shrink-decided}
 use Rattle.demands.proofs.WalkCalls.{find-known, put-settled, remove-settled}
 use Rattle.demands.proofs.Retries.{repeat-told, clash-told}
 
 -- what stands beside a refusal's number
 module _ (k : ℕ) where
   -- a refusal that reads pages
-  looked : (read : ℕ) → listed k (1 ∷ 2 ∷ 3 ∷ 8 ∷ []) ≡ false → Plain (told k 0 0 read 0)
-  looked read d = record { page = λ e. refl; value = λ z e. refl; moved = λ z. refl; read = λ w. absurd (none-of k (1 ∷ 2 ∷ 3 ∷ 8 ∷ []) d w) }
+  looked : (read : ℕ) → listed k (1 ∷ 2 ∷ 3 ∷ 8 ∷ 14 ∷ []) ≡ false → Plain (told k 0 0 read 0)
+  looked read d = record { page = λ e. refl; value = λ z e. refl; moved = λ z. refl; read = λ w. absurd (none-of k (1 ∷ 2 ∷ 3 ∷ 8 ∷ 14 ∷ []) d w) }
 
   -- one that tells the value held
-  telling : (value read : ℕ) → listed k (6 ∷ 13 ∷ []) ≡ true → listed k (1 ∷ 2 ∷ 3 ∷ 8 ∷ []) ≡ false → Plain (told k 0 value read 0)
+  telling : (value read : ℕ) → listed k (6 ∷ 13 ∷ []) ≡ true → listed k (1 ∷ 2 ∷ 3 ∷ 8 ∷ 14 ∷ []) ≡ false → Plain (told k 0 value read 0)
   telling value read g d =
       record {
         page = λ e. refl;
         value = λ z e. absurd (e (one-of k (6 ∷ 13 ∷ []) g));
         moved = λ z. refl;
-        read = λ w. absurd (none-of k (1 ∷ 2 ∷ 3 ∷ 8 ∷ []) d w);
+        read = λ w. absurd (none-of k (1 ∷ 2 ∷ 3 ∷ 8 ∷ 14 ∷ []) d w);
       }
 
   -- one that reads none
@@ -43,18 +44,19 @@ module _ (k : ℕ) where
 
 plain-answer : (a : Answer) → Plain (numbers a)
 plain-answer (Accepted value read moved) =
-    record { page = λ e. refl; value = λ z e. absurd (z refl); moved = λ z. absurd (z refl); read = λ w. absurd (none-of 0 (1 ∷ 2 ∷ 3 ∷ 8 ∷ []) refl w) }
+    record { page = λ e. refl; value = λ z e. absurd (z refl); moved = λ z. absurd (z refl); read = λ w. absurd (none-of 0 (1 ∷ 2 ∷ 3 ∷ 8 ∷ 14 ∷ []) refl w) }
 plain-answer OutOfRange = unread 1
 plain-answer WrongArea = unread 2
 plain-answer WrongRow = unread 3
 plain-answer (Broken page read) =
-    record { page = λ e. absurd (e refl); value = λ z e. refl; moved = λ z. refl; read = λ w. absurd (none-of 4 (1 ∷ 2 ∷ 3 ∷ 8 ∷ []) refl w) }
+    record { page = λ e. absurd (e refl); value = λ z e. refl; moved = λ z. refl; read = λ w. absurd (none-of 4 (1 ∷ 2 ∷ 3 ∷ 8 ∷ 14 ∷ []) refl w) }
 plain-answer (Absent read) = looked 5 read refl
 plain-answer (Held value read) = telling 6 value read refl refl
 plain-answer (NoRoom read) = looked 7 read refl
 plain-answer AtCap = unread 8
 plain-answer (NotImage read) = looked 9 read refl
 plain-answer (Clash value read) = telling 13 value read refl refl
+plain-answer AtStart = unread 14
 
 plain-said : (t : Said) → Plain (numbersOf t)
 plain-said (answers a) = plain-answer a
@@ -67,6 +69,7 @@ order-differs f (find k) = refl
 order-differs f (put x) = refl
 order-differs f (remove k) = refl
 order-differs f (grow row) = refl
+order-differs f shrink = refl
 order-differs f check = refl
 order-differs f due = refl
 
@@ -80,6 +83,7 @@ known f b (find k) = find-known f k
 known f b (put x) = put-settled f x .known
 known f b (remove k) = remove-settled f k .known
 known f b (grow row) = grow-decided f row b .known
+known f b shrink = shrink-decided f b .known
 known f b check = check-decided f b .known
 known f b due = due-known f
 
@@ -104,8 +108,10 @@ refusals f b =
       formats = λ q cap. format-decided f q cap .accepts;
       checks = check-decided f b .accepts;
       grows = λ row. grow-decided f row b .accepts;
+      shrinks = shrink-decided f b .accepts;
       check-judges = check-decided f b .judges;
       grow-judges = λ row. grow-decided f row b .judges;
+      shrink-judges = shrink-decided f b .judges;
       broken = λ c. known f b c .broken;
       repeat = repeat-told f;
       clash = clash-told f;

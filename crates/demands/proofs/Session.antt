@@ -16,30 +16,30 @@ use Rattle.state.specs.State.{all, inRange}
 use Rattle.walks.specs.Walks.{walk, putWalk, removeWalk}
 use Rattle.survey.specs.Survey.{isImage, surveyed}
 use Rattle.rebuild.specs.Relaid.{relaid}
-use Rattle.gates.specs.Gates.{gateOf, imageGate, growGate}
-use Rattle.register.specs.Calls.{grownFile}
-use Rattle.register.specs.Files.{Call, format, find, put, remove, grow, check, due, File, left, after}
+use Rattle.gates.specs.Gates.{gateOf, imageGate, growGate, shrinkGate}
+use Rattle.register.specs.Calls.{remade}
+use Rattle.register.specs.Files.{Call, format, find, put, remove, grow, shrink, check, due, File, left, after}
 use Rattle.demands.specs.Histories.{Kept, without, kept}
 use Rattle.demands.specs.Demands.{Fresh}
 
 abbrev start : File
 start = record { layout = inUse; state = record { params = params 0 0 0 0; p = 0; cap = 0; r = 0 }; area = replicate 512 255 }
 
--- 01's whole session first; then a repeat and a clash, a record more, a removal and one page more
+-- 01's whole session first; then a repeat and a clash, a record more, a removal, one page more, one less and one more
 abbrev calls : List Call
-calls = format (params 1 1 1 1) 2 ∷ put (recordWith 5 9 0) ∷ find 5 ∷ put (recordWith 5 9 0) ∷ put (recordWith 5 8 0) ∷ put (recordWith 7 1 0) ∷ remove 5 ∷ grow (0 ∷ 0 ∷ []) ∷ check ∷ due ∷ []
+calls = format (params 1 1 1 1) 2 ∷ put (recordWith 5 9 0) ∷ find 5 ∷ put (recordWith 5 9 0) ∷ put (recordWith 5 8 0) ∷ put (recordWith 7 1 0) ∷ remove 5 ∷ grow (0 ∷ 0 ∷ []) ∷ shrink ∷ grow (0 ∷ 0 ∷ []) ∷ check ∷ due ∷ []
 
 -- it keeps one record, on two pages
 abbrev outcome : Kept
 outcome = record { layout = inUse; params = params 1 1 1 1; cap = 2; p = 2; held = recordWith 7 1 0 ∷ [] }
 
 pub session : Fresh outcome (after start calls)
-unfolding draw mover swept movedTo nextGroups steps home little bytesOf numberAt written encode pageBytes recordsIn wellFormed readPage partAt closed all inRange walk putWalk removeWalk isImage surveyed gateOf imageGate growGate relaid grownFile left after without kept
+unfolding draw mover swept movedTo nextGroups steps home little bytesOf numberAt written encode pageBytes recordsIn wellFormed readPage partAt closed all inRange walk putWalk removeWalk isImage surveyed gateOf imageGate growGate shrinkGate relaid remade left after without kept
 session =
     record {
       start = start;
       calls = calls;
-      fits = (tt, ((omega arith, omega arith, refl), (omega arith, ((omega arith, omega arith, refl), ((omega arith, omega arith, refl), ((omega arith, omega arith, refl), (omega arith, (tt, (tt, (tt, tt))))))))));
+      fits = (tt, ((omega arith, omega arith, refl), (omega arith, ((omega arith, omega arith, refl), ((omega arith, omega arith, refl), ((omega arith, omega arith, refl), (omega arith, (tt, (tt, (tt, (tt, (tt, tt))))))))))));
       keeps = refl;
       leaves = refl;
     }

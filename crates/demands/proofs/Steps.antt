@@ -12,22 +12,23 @@ use lib.ListN.{length, replicate}
 use borrow.Author.Tests.{ne-eqb}
 use Rattle.layouts.specs.Layout.{Layout, slotsOn, slotsOf}
 use Rattle.homes.specs.declared.Params.{Params}
+use Rattle.homes.specs.Homes.{firstPages}
 use Rattle.placing.specs.Image.{All, Room}
 use Rattle.pages.specs.Page.{Record, key, value}
 use Rattle.pages.specs.Area.{areaFrom}
 use Rattle.state.specs.declared.Answer.{Answer}
-use Rattle.state.specs.declared.Answer.the-variants.{Accepted, OutOfRange, WrongArea, WrongRow, Absent, Held, NoRoom, AtCap, Clash}
-use Rattle.state.specs.State.{homes, grown}
+use Rattle.state.specs.declared.Answer.the-variants.{Accepted, OutOfRange, WrongArea, WrongRow, Absent, Held, NoRoom, AtCap, Clash, AtStart}
+use Rattle.state.specs.State.{homes, grown, shrunk}
 use Rattle.state.specs.Answer.{numbers, again}
 use Rattle.state.proofs.Ranges.{ranged}
 use Rattle.state.proofs.Answers.{again-same, again-other}
 use Rattle.changes.specs.Changes.{done}
-use Rattle.register.specs.Files.{Call, format, find, put, remove, grow, check, due, File, says, Left, leaves, left, numbersOf, after}
-use Rattle.demands.specs.Histories.{Fits, refusal, Kept, stateOf, without, commitOf, begun, holding, paged, makes, kept}
+use Rattle.register.specs.Files.{Call, format, find, put, remove, grow, shrink, check, due, File, says, Left, leaves, left, numbersOf, after}
+use Rattle.demands.specs.Histories.{Fits, refusal, Kept, stateOf, without, commitOf, begun, holding, paged, unpaged, makes, kept}
 use Rattle.register.proofs.After.{same-layout}
 use Rattle.register.proofs.FormatImage.{Begins, began, outside, elsewhere, format-begins}
 use Rattle.register.proofs.ImageCalls.{room-told}
-use Rattle.register.proofs.GrownImage.{grownRow, check-yes, grow-other-row, grow-no-page, grow-no-room, grow-with-room}
+use Rattle.register.proofs.RemadeImage.{grownRow, check-yes, grow-other-row, grow-no-page, grow-no-room, grow-with-room, shrink-no-page, shrink-no-room, shrink-with-room}
 use Rattle.demands.proofs.Standing.{Stands, fileOf, Refused, Accepts, find-held, find-absent, remove-absent, remove-held, put-held, put-full, put-new}
 use Rattle.demands.proofs.InOrder.{listed, none-of}
 use Rattle.demands.proofs.Sets.{set-put}
@@ -84,6 +85,15 @@ module _ {m : Kept} {ps : List (List Record)} (s : Stands m ps) where
   grow-step row (crowded a) = refused (NoRoom (m .cap)) (grownRow (stateOf m) (m .held)) (refl, refl) a
   grow-step row (larger a) = accepted (paged m) 0 (grownRow (stateOf m) (m .held)) refl refl a
 
+  -- a shrinking, by the pages that it could give up and what there is room for
+  shrink-step : Step m ps shrink
+  shrink-step = go (decLt (firstPages (m .params)) (m .p)) (room-told (slotsOf (m .layout)) (homes (shrunk (stateOf m))) (m .cap) (m .held) (s .set))
+    where
+      go : Dec (firstPages (m .params) < m .p) → Dec (Room key (homes (shrunk (stateOf m))) (slotsOf (m .layout)) (m .cap) (m .held)) → Step m ps shrink
+      go (no f) r = refused AtStart [] (refl, refl) (shrink-no-page s (omega (arith, ranged (m .layout) (stateOf m) (s .range) .p-low)))
+      go (yes more) (no f) = refused (NoRoom (m .cap)) [] (refl, refl) (shrink-no-room s more f)
+      go (yes more) (yes r) = accepted (unpaged m) 0 [] refl refl (shrink-with-room s more r)
+
   find-step : (k : ℕ) → k < 2 ^ 64 → Step m ps (find k)
   find-step k l = go (commitOf k (m .held)) refl
     where
@@ -135,6 +145,7 @@ module _ {m : Kept} {ps : List (List Record)} (s : Stands m ps) where
   step (put x) f = put-step x (put-comes x f)
   step (remove k) f = remove-step k f
   step (grow row) f = grow-step row (grow-comes row)
+  step shrink f = shrink-step
   step check f = accepted m 0 [] refl refl (check-yes s)
   step due f = said (ltb (4 * slotsOn (m .layout) (m .p)) (5 * length (m .held))) refl due-stands
 
@@ -178,6 +189,7 @@ none-next f (find k) = still (left f (find k))
 none-next f (put x) = still (left f (put x))
 none-next f (remove k) = still (left f (remove k))
 none-next f (grow row) = still (left f (grow row))
+none-next f shrink = still (left f shrink)
 none-next f check = still (left f check)
 none-next f due = still (left f due)
 

@@ -14,7 +14,8 @@ use Rattle.register.proofs.put as Put
 use Rattle.register.proofs.remove as Remove
 use Rattle.register.proofs.check as Check
 use Rattle.register.proofs.grow as Grow
-use Rattle.register.specs.Files.{format, find, put, remove, grow, check, due, fileIn, fileOf, says, leaves, left}
+use Rattle.register.proofs.shrink as Shrink
+use Rattle.register.specs.Files.{format, find, put, remove, grow, shrink, check, due, fileIn, fileOf, says, leaves, left}
 
 module _ (T : Ended) where
   -- what a call is given, what it returns, and what it leaves of that which was lent to be changed
@@ -58,6 +59,9 @@ pub record Answers : Type 0 where
   pub grow : Settled Grow.ended Grow.Reads.Asked Grow.Reads.Learnt
       (λ κs a. left (fileOf (a .0) (now (a .1 .0))) (grow (now (a .1 .1 .0))))
       (λ κs a y v. leaves inUse y (v .1 .0) (v .1 .1 .0))
+  pub shrink : Settled Shrink.ended Shrink.Reads.Asked Shrink.Reads.Learnt
+      (λ κs a. left (fileOf (a .0) (now (a .1 .0))) shrink)
+      (λ κs a y v. leaves inUse y (v .1 .0) [])
   pub check : Settled Check.ended Check.Reads.Asked Check.Reads.Learnt
       (λ κs a. left (fileOf (a .0) (now (a .1 .0))) check)
       (λ κs a y v. leaves inUse y (now (a .1 .0)) [])

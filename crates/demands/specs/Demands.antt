@@ -7,13 +7,15 @@ use mathlib.Core.Option.{none, some}
 use mathlib.Core.List.{List, [], _∷_}
 use lib.ListN.{length}
 use lib.Dec.{ltb}
+use Rattle.numbers.specs.Little.{Bytes}
 use Rattle.layouts.specs.Layout.{slotsOf, slotsOn}
+use Rattle.homes.specs.Homes.{firstPages}
 use Rattle.placing.specs.Image.{All, RecordSet, Room}
 use Rattle.placing.specs.Rows.{counts}
 use Rattle.pages.specs.Page.{Record, key, value, homeFor}
-use Rattle.state.specs.State.{homes, grown}
+use Rattle.state.specs.State.{homes, grown, shrunk}
 use Rattle.register.specs.OneImage.{AreaImage}
-use Rattle.register.specs.Files.{Call, format, find, put, remove, grow, check, due, File, says, left, numbersOf, after}
+use Rattle.register.specs.Files.{Call, format, find, put, remove, grow, shrink, check, due, File, says, left, numbersOf, after}
 use Rattle.demands.specs.Histories.{Fits, refusal, Kept, stateOf, recordOf, commitOf, kept}
 use Rattle.demands.specs.ReadMoved.{ReadHeld, ReadAbsent, ReadWithin, Moved}
 
@@ -37,6 +39,7 @@ lent (find k) = []
 lent (put x) = []
 lent (remove k) = []
 lent (grow row) = row
+lent shrink = []
 lent check = []
 lent due = []
 
@@ -95,12 +98,26 @@ module _ (m : Kept) (f : File) where
   RoomGrow = (row : List ℕ) → m .p < m .cap → length row ≡ m .cap
       → let room = Room key (homes (grown (stateOf m))) (slotsOf (m .layout)) (m .cap) (m .held) in ((refusal f (grow row) ≡ 7) ↔ (room → ⊥)) × ((refusal f (grow row) ≡ 0) ↔ room)
 
+  -- 02, request 5: a shrinking "takes grow's answers over, 7 included": of a file with more pages than
+  -- at the start, 7 exactly when there is no arrangement with one page less, and otherwise it is
+  -- accepted
+  abbrev pub RoomShrink : Type 0
+  RoomShrink = firstPages (m .params) < m .p
+      → let room = Room key (homes (shrunk (stateOf m))) (slotsOf (m .layout)) (m .cap) (m .held) in ((refusal f shrink ≡ 7) ↔ (room → ⊥)) × ((refusal f shrink ≡ 0) ↔ room)
+
   -- the state tells the parameters, the lent size, the pages grown to and the number of records
   -- held; 01: "Growth is due exactly when 5r > 48P", which is four times the slots of P pages
   pub record Counted : Type 0 where
     pub state : f .state ≡ stateOf m
     pub layout : f .layout ≡ m .layout
     pub due : left f due .said ≡ says (ltb (4 * slotsOn (m .layout) (m .p)) (5 * length (m .held)))
+
+-- 02, request 5: "An accepted growth followed at once by a shrink gives back the same bytes and
+-- state."; and so does an accepted shrinking followed by a growth with a row of the right length. Each
+-- second call is accepted. Of any file.
+pub record TakenBack (f : File) : Type 0 where
+  pub grow-shrink : (row : List ℕ) → refusal f (grow row) ≡ 0 → let g = left f (grow row) .file in (refusal g shrink ≡ 0) × (left g shrink .file ≡ f)
+  pub shrink-grow : (row : List ℕ) → refusal f shrink ≡ 0 → length row ≡ f .state .cap → let g = left f shrink .file in (refusal g (grow row) ≡ 0) × (left g (grow row) .file ≡ f)
 
 -- Two files of one page layout agree in "parameters, lent size, pages grown to and records held":
 -- the record of each request, in whatever order that came about. The edition is a parameter; 02,
@@ -129,6 +146,8 @@ pub record Demands : Type 0 where
   pub same : (a b : Kept) → (f g : File) → Fresh a f → Fresh b g → Agree a b → f ≡ g
   pub room-put : AfterFresh RoomPut
   pub room-grow : AfterFresh RoomGrow
+  pub room-shrink : AfterFresh RoomShrink
+  pub taken-back : (f : File) → Bytes (f .area) → TakenBack f
   pub counted : AfterFresh Counted
   pub read-held : AfterFresh (λ m. ReadHeld)
   pub read-absent : AfterFresh (λ m. ReadAbsent)

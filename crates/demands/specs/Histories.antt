@@ -1,7 +1,7 @@
 -- Histories of calls: "From a fresh file, each call given the pages and state that the last one
 -- left" (demands 2 and 3), and what the accepted calls make of a file. What is quoted is the
 -- demands', or 01's where it says so.
-use Prim.Native.Nat.{ℕ, _+_, _^_, _<_}
+use Prim.Native.Nat.{ℕ, _+_, _-_, _^_, _<_}
 use mathlib.Core.Bool.{cond}
 use mathlib.Core.Option.{Option, none, some, Option·map}
 use mathlib.Core.List.{List, [], _∷_}
@@ -13,7 +13,7 @@ use Rattle.homes.specs.Homes.{firstPages}
 use Rattle.pages.specs.Page.{Record, key, value}
 use Rattle.pages.specs.Small.{Small}
 use Rattle.state.specs.declared.State.{State}
-use Rattle.register.specs.Files.{Call, format, find, put, remove, grow, check, due, File, left, numbersOf}
+use Rattle.register.specs.Files.{Call, format, find, put, remove, grow, shrink, check, due, File, left, numbersOf}
 
 -- a record is one that the page layout takes (`Small`), and a key "any 64-bit value" (01); all other
 -- numbers may be any
@@ -23,6 +23,7 @@ Fits l (find k) = k < 2 ^ 64
 Fits l (put x) = Small l x
 Fits l (remove k) = k < 2 ^ 64
 Fits l (grow row) = Unit {0}
+Fits l shrink = Unit {0}
 Fits l check = Unit {0}
 Fits l due = Unit {0}
 
@@ -70,6 +71,10 @@ holding m rs = record { layout = m .layout; params = m .params; cap = m .cap; p 
 abbrev pub paged : Kept → Kept
 paged m = record { layout = m .layout; params = m .params; cap = m .cap; p = m .p + 1; held = m .held }
 
+-- with one page less
+abbrev pub unpaged : Kept → Kept
+unpaged m = record { layout = m .layout; params = m .params; cap = m .cap; p = m .p - 1; held = m .held }
+
 -- what an accepted call on a file of a layout makes of it. 01: an accepted format "begins a fresh
 -- file, and what was held before no longer counts"
 abbrev pub makes : Layout → Option Kept → Call → Option Kept
@@ -78,11 +83,12 @@ makes l o (find k) = o
 makes l o (put x) = Option·map (λ m. holding m (x ∷ m .held)) o
 makes l o (remove k) = Option·map (λ m. holding m (without k (m .held))) o
 makes l o (grow row) = Option·map paged o
+makes l o shrink = Option·map unpaged o
 makes l o check = o
 makes l o due = o
 
--- what "the accepted puts and removals leave", and the accepted growths: none before the first
--- accepted format
+-- what "the accepted puts and removals leave", and the accepted growths and shrinkings: none before
+-- the first accepted format
 unfoldable pub kept : Option Kept → File → List Call → Option Kept
 kept o f [] = o
 kept o f (c ∷ cs) = kept (cond (eqb (refusal f c) 0) (makes (f .layout) o c) o) (left f c .file) cs

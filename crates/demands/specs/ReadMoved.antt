@@ -8,7 +8,7 @@ use Rattle.placing.specs.Rows.{strayed}
 use Rattle.pages.specs.Page.{Record, key, recordsIn}
 use Rattle.pages.specs.Area.{partAt, heldFrom}
 use Rattle.state.specs.State.{homes}
-use Rattle.register.specs.Files.{Call, format, find, put, remove, grow, check, due, File, left, numbersOf}
+use Rattle.register.specs.Files.{Call, format, find, put, remove, grow, shrink, check, due, File, left, numbersOf}
 use Rattle.demands.specs.Histories.{Fits, refusal, commitOf}
 
 -- the two counts of a call
@@ -46,13 +46,14 @@ pagesOf f = heldFrom (f .layout) (f .area) (f .state .cap) 0
 
 -- "for put and remove, the number of times a held record went to a neighbouring page; for grow, the
 -- number of records whose page differs; otherwise 0": a record that a put adds, or a removal takes
--- out, is none of them
+-- out, is none of them. 02, request 5: for shrink "counted the same way" as for grow
 abbrev pub differ : Call → (before after : List (List Record)) → ℕ
 differ (format q cap) before after = 0
 differ (find k) before after = 0
 differ (put x) before after = strayed key after before
 differ (remove k) before after = strayed key before after
 differ (grow row) before after = strayed key before after
+differ shrink before after = strayed key before after
 differ check before after = 0
 differ due before after = 0
 

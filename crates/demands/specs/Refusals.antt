@@ -11,16 +11,17 @@ use lib.ListN.{length}
 use Rattle.numbers.specs.Little.{Bytes}
 use Rattle.layouts.specs.Layout.{Layout, slotsOf, slotsOn}
 use Rattle.homes.specs.declared.Params.{Params}
+use Rattle.homes.specs.Homes.{firstPages}
 use Rattle.placing.specs.Image.{Room}
 use Rattle.pages.specs.Page.{Record, key, value, readPage}
 use Rattle.pages.specs.Area.{partAt}
 use Rattle.state.specs.declared.State.{State}
 use Rattle.state.specs.declared.Numbers.{Numbers}
-use Rattle.state.specs.State.{homes, fresh, grown}
+use Rattle.state.specs.State.{homes, fresh, grown, shrunk}
 use Rattle.state.specs.Promises.{Ranged}
 use Rattle.state.specs.Answer.{told}
 use Rattle.register.specs.OneImage.{ImageOfR}
-use Rattle.register.specs.Files.{Call, format, find, put, remove, grow, check, due, File, says, left, numbersOf}
+use Rattle.register.specs.Files.{Call, format, find, put, remove, grow, shrink, check, due, File, says, left, numbersOf}
 use Rattle.demands.specs.Histories.{refusal}
 
 -- the area is "256 x cap bytes"
@@ -41,10 +42,17 @@ module _ (f : File) where
     pub broken : BrokenAt a
     pub lowest : (b : ℕ) → b < a → BrokenAt b → ⊥
 
-  -- the area is the image of r records, and they have room with one page more
-  pub record RoomToGrow : Type 0 where
+  -- the area is the image of r records, and they have room in the file of a state
+  pub record RoomIn (next : State) : Type 0 where
     pub is : ImageOfR (f .layout) (f .state) (f .area)
-    pub room : Room key (homes (grown (f .state))) (slotsOf (f .layout)) (f .state .cap) (is .records)
+    pub room : Room key (homes next) (slotsOf (f .layout)) (f .state .cap) (is .records)
+
+  -- with one page more, and with one less
+  abbrev pub RoomToGrow : Type 0
+  RoomToGrow = RoomIn (grown (f .state))
+
+  abbrev pub RoomToShrink : Type 0
+  RoomToShrink = RoomIn (shrunk (f .state))
 
 -- the cause of a number: that something holds, or that it doesn't
 pub data Cause : Type 1 where
@@ -76,8 +84,9 @@ entry l s area = unless 1 (Ranged l s) ∷ unless 2 (RightArea s area) ∷ []
 
 -- "Order: format 1, 2 (judged on the numbers it is asked for, not on the state before it). Find 1,
 -- 2, then the walk. Put and remove 1, 2, the walk (4, 5, 6 or 7 as met), then 9. Grow 1, 2, 3, 8,
--- 4, 9, 7. Check 1, 2, 4, 9." 02, request 1: 13 "stands where 6 stood in the walk". Due gives none.
--- What a walk meets is its definition's to say.
+-- 4, 9, 7. Check 1, 2, 4, 9." 02, request 1: 13 "stands where 6 stood in the walk"; request 5: "14
+-- when P = n0 x N; order 1, 2, 14, 4, 9, 7". Due gives none. What a walk meets is its definition's to
+-- say.
 abbrev pub order : File → Call → List Cause
 order f (format q cap) = entry (f .layout) (fresh q cap) (f .area)
 order f (find k) = entry (f .layout) (f .state) (f .area)
@@ -87,6 +96,9 @@ order f (grow row) =
     unless 1 (Ranged (f .layout) (f .state)) ∷ unless 2 (RightArea (f .state) (f .area))
     ∷ unless 3 (length row ≡ f .state .cap) ∷ when 8 (f .state .p ≡ f .state .cap)
     ∷ when 4 (SomeBroken f) ∷ unless 9 (ImageOfR (f .layout) (f .state) (f .area)) ∷ unless 7 (RoomToGrow f) ∷ []
+order f shrink =
+    unless 1 (Ranged (f .layout) (f .state)) ∷ unless 2 (RightArea (f .state) (f .area)) ∷ when 14 (f .state .p ≡ firstPages (f .state .params))
+    ∷ when 4 (SomeBroken f) ∷ unless 9 (ImageOfR (f .layout) (f .state) (f .area)) ∷ unless 7 (RoomToShrink f) ∷ []
 order f check = unless 1 (Ranged (f .layout) (f .state)) ∷ unless 2 (RightArea (f .state) (f .area)) ∷ when 4 (SomeBroken f) ∷ unless 9 (ImageOfR (f .layout) (f .state) (f .area)) ∷ []
 order f due = []
 
@@ -95,13 +107,15 @@ abbrev pub OneOf : (n : ℕ) → List ℕ → Type 0
 OneOf n [] = ⊥
 OneOf n (k ∷ ks) = (n ≡ k) ⊎ OneOf n ks
 
--- the column "Given by", call by call, with 13 by put (02, request 1); "refusal 0 means accepted"
+-- the column "Given by", call by call, with 13 by put (02, request 1) and those of shrink (request
+-- 5); "refusal 0 means accepted"
 abbrev pub gives : Call → List ℕ
 gives (format q cap) = 0 ∷ 1 ∷ 2 ∷ []
 gives (find k) = 0 ∷ 1 ∷ 2 ∷ 4 ∷ 5 ∷ []
 gives (put x) = 0 ∷ 1 ∷ 2 ∷ 4 ∷ 6 ∷ 7 ∷ 9 ∷ 13 ∷ []
 gives (remove k) = 0 ∷ 1 ∷ 2 ∷ 4 ∷ 5 ∷ 9 ∷ []
 gives (grow row) = 0 ∷ 1 ∷ 2 ∷ 3 ∷ 4 ∷ 7 ∷ 8 ∷ 9 ∷ []
+gives shrink = 0 ∷ 1 ∷ 2 ∷ 4 ∷ 7 ∷ 9 ∷ 14 ∷ []
 gives check = 0 ∷ 1 ∷ 2 ∷ 4 ∷ 9 ∷ []
 gives due = 0 ∷ []
 
@@ -117,23 +131,24 @@ pub record Plain (n : Numbers) : Type 0 where
   pub value : (n .refusal ≡ 0 → ⊥) → (OneOf (n .refusal) (6 ∷ 13 ∷ []) → ⊥) → n .value ≡ 0
   -- of a refusal "moved 0"
   pub moved : (n .refusal ≡ 0 → ⊥) → n .moved ≡ 0
-  -- "refusals 1, 2, 3, 8 .. read 0"
-  pub read : OneOf (n .refusal) (1 ∷ 2 ∷ 3 ∷ 8 ∷ []) → n .read ≡ 0
+  -- "refusals 1, 2, 3, 8 .. read 0", and so does 14, which comes before any page
+  pub read : OneOf (n .refusal) (1 ∷ 2 ∷ 3 ∷ 8 ∷ 14 ∷ []) → n .read ≡ 0
 
 -- what an accepted call tells: "value is 0 for all but find", "format .. read 0", and moved is 0
--- but for put, remove and grow; check and grow have judged all pages
+-- but for put, remove, grow and shrink; check, grow and shrink have judged all pages
 abbrev pub AcceptedTells : File → Call → Numbers → Type 0
 AcceptedTells f (format q cap) n = n ≡ told 0 0 0 0 0
 AcceptedTells f (find k) n = n .moved ≡ 0
 AcceptedTells f (put x) n = n .value ≡ 0
 AcceptedTells f (remove k) n = n .value ≡ 0
 AcceptedTells f (grow row) n = (n .value ≡ 0) × (n .read ≡ f .state .cap)
+AcceptedTells f shrink n = (n .value ≡ 0) × (n .read ≡ f .state .cap)
 AcceptedTells f check n = n ≡ told 0 0 0 (f .state .cap) 0
 AcceptedTells f due n = n ≡ told 0 0 0 0 0
 
--- "Check and grow judge pages from 0 upward and stop at the first broken one.": 4 tells "the lowest
--- broken page", and the pages read are those up to it ("a broken one included"); 9 and 7 come after
--- all pages
+-- "Check and grow judge pages from 0 upward and stop at the first broken one.", and so does shrink: 4
+-- tells "the lowest broken page", and the pages read are those up to it ("a broken one included"); 9
+-- and 7 come after all pages
 pub record Judges (f : File) (n : Numbers) : Type 0 where
   pub lowest : n .refusal ≡ 4 → LowestBroken f (n .page)
   pub up-to : n .refusal ≡ 4 → n .read ≡ n .page + 1
@@ -155,9 +170,13 @@ pub record RefusalsOf (f : File) : Type 0 where
   -- grow is accepted where none of its seven is given
   pub grows : (row : List ℕ) → (refusal f (grow row) ≡ 0)
       ↔ (Ranged (f .layout) (f .state) × RightArea (f .state) (f .area) × (length row ≡ f .state .cap) × (f .state .p ≡ f .state .cap → ⊥) × RoomToGrow f)
+  -- and shrink where none of its six is
+  pub shrinks : (refusal f shrink ≡ 0)
+      ↔ (Ranged (f .layout) (f .state) × RightArea (f .state) (f .area) × (f .state .p ≡ firstPages (f .state .params) → ⊥) × RoomToShrink f)
   -- which page 4 tells, and how many pages are read
   pub check-judges : Judges f (tells f check)
   pub grow-judges : (row : List ℕ) → Judges f (tells f (grow row))
+  pub shrink-judges : Judges f (tells f shrink)
   -- of every call: "4 a page looked at is broken; its address"
   pub broken : (c : Call) → refusal f c ≡ 4 → BrokenAt f (tells f c .page)
   -- 02, request 1, of any bytes: "A put with the same value is a repeat and keeps 6. A put with

@@ -5,7 +5,7 @@ use native.Mathlib.Omega.{arith}
 use Rattle.numbers.specs.Fields.{Field}
 use Rattle.numbers.proofs.Records.{Fit}
 use Rattle.records.specs.declared.Command.{Command}
-use Rattle.records.specs.declared.Command.the-variants.{Format, Put, Find, Remove, Grow, Check}
+use Rattle.records.specs.declared.Command.the-variants.{Format, Put, Find, Remove, Grow, Check, Shrink}
 use Rattle.records.specs.Records.{IsRecord}
 use Rattle.records.specs.Promises.{Sized, RecordPromises}
 use Rattle.records.proofs.ToTheByte.{reads, read-only}
@@ -20,6 +20,7 @@ sized-fit (Find k) w h is = rw is (omega arith, (omega arith, (h, tt)))
 sized-fit (Remove k) w h is = rw is (omega arith, (omega arith, (h, tt)))
 sized-fit Grow w h is = rw is (omega arith, (omega arith, tt))
 sized-fit Check w h is = rw is (omega arith, (omega arith, tt))
+sized-fit Shrink w h is = rw is (omega arith, (omega arith, tt))
 
 pub record-promises : RecordPromises
 record-promises = record { reads = λ c w rest h is. reads c w rest (sized-fit c w h is) is; read-only = read-only }

@@ -28,6 +28,7 @@ numberOf kind.Find = 259
 numberOf kind.Remove = 260
 numberOf kind.Grow = 261
 numberOf kind.Check = 262
+numberOf kind.Shrink = 263
 
 -- the length that is told chooses between the records of a format, and no others
 abbrev pub Chosen : ℕ → Kind → Type 0
@@ -38,6 +39,7 @@ Chosen told kind.Find = Unit {0}
 Chosen told kind.Remove = Unit {0}
 Chosen told kind.Grow = Unit {0}
 Chosen told kind.Check = Unit {0}
+Chosen told kind.Shrink = Unit {0}
 
 -- so does the length of a kind's record
 pub chosen : (k : Kind) (told : ℕ) → told ≡ lengthOf k → Chosen told k
@@ -48,6 +50,7 @@ chosen kind.Find told e = tt
 chosen kind.Remove told e = tt
 chosen kind.Grow told e = tt
 chosen kind.Check told e = tt
+chosen kind.Shrink told e = tt
 
 -- a kind's number has the kind's form
 pub known-form : (k : Kind) (told n : ℕ) → n ≡ numberOf k → Chosen told k → known k ≡ formOf told n
@@ -59,6 +62,7 @@ known-form kind.Find told n e h = rw e
 known-form kind.Remove told n e h = rw e
 known-form kind.Grow told n e h = rw e
 known-form kind.Check told n e h = rw e
+known-form kind.Shrink told n e h = rw e
 
 -- a format's has that of the length that is told
 pub format-form : (told n : ℕ) → n ≡ 257 → known (formatFor told) ≡ formOf told n
@@ -71,12 +75,12 @@ format-formed told f e = rw e refl
 
 -- any other number has none
 pub other-form : (told n : ℕ)
-    → ((((((Unit {0} × (n ≡ 257 → ⊥)) × (n ≡ 258 → ⊥)) × (n ≡ 259 → ⊥)) × (n ≡ 260 → ⊥)) × (n ≡ 261 → ⊥)) × (n ≡ 262 → ⊥))
+    → (((((((Unit {0} × (n ≡ 257 → ⊥)) × (n ≡ 258 → ⊥)) × (n ≡ 259 → ⊥)) × (n ≡ 260 → ⊥)) × (n ≡ 261 → ⊥)) × (n ≡ 262 → ⊥)) × (n ≡ 263 → ⊥))
     → form.Unknown ≡ formOf told n
 unfolding formOf
 other-form told n h =
     rw
-    (ne-eqb n 257 (h .0 .0 .0 .0 .0 .1), ne-eqb n 258 (h .0 .0 .0 .0 .1), ne-eqb n 259 (h .0 .0 .0 .1), ne-eqb n 260 (h .0 .0 .1), ne-eqb n 261 (h .0 .1), ne-eqb n 262 (h .1))
+    (ne-eqb n 257 (h .0 .0 .0 .0 .0 .0 .1), ne-eqb n 258 (h .0 .0 .0 .0 .0 .1), ne-eqb n 259 (h .0 .0 .0 .0 .1), ne-eqb n 260 (h .0 .0 .0 .1), ne-eqb n 261 (h .0 .0 .1), ne-eqb n 262 (h .0 .1), ne-eqb n 263 (h .1))
 
 -- a record has a head at least
 pub head-low : (k : Kind) → 4 ≤ lengthOf k
@@ -87,6 +91,7 @@ head-low kind.Find = omega arith
 head-low kind.Remove = omega arith
 head-low kind.Grow = omega arith
 head-low kind.Check = omega arith
+head-low kind.Shrink = omega arith
 
 -- a known form has the kind of a number, and the kind's length
 abbrev pub Of : ℕ → Form → Type 0
@@ -115,7 +120,8 @@ of-number told x =
     of-test x 257 (formatFor told) _ (format-number told)
     (of-test x 258 kind.Put _ refl
     (of-test x 259 kind.Find _ refl
-    (of-test x 260 kind.Remove _ refl (of-test x 261 kind.Grow _ refl (of-test x 262 kind.Check form.Unknown refl (λ k n q. (cc, cc)))))))
+    (of-test x 260 kind.Remove _ refl
+    (of-test x 261 kind.Grow _ refl (of-test x 262 kind.Check _ refl (of-test x 263 kind.Shrink form.Unknown refl (λ k n q. (cc, cc))))))))
 
 -- there is a whole record of a kind, and so of the kind that it turns out to be
 pub long : (n : ℕ) (j k : Kind) → lengthOf j ≤ n → j ≡ k → lengthOf k ≤ n

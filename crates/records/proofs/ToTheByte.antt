@@ -18,7 +18,7 @@ use Rattle.records.specs.declared.Kind.the-variants as kind
 use Rattle.records.specs.declared.Form.{Form}
 use Rattle.records.specs.declared.Form.the-variants as form
 use Rattle.records.specs.declared.Command.{Command}
-use Rattle.records.specs.declared.Command.the-variants.{Format, Put, Find, Remove, Grow, Check}
+use Rattle.records.specs.declared.Command.the-variants.{Format, Put, Find, Remove, Grow, Check, Shrink}
 use Rattle.records.specs.declared.Item.{Item}
 use Rattle.records.specs.declared.Item.the-variants.{Asks, Unknown, Cut}
 use Rattle.records.specs.Records.{lengthOf, formOf, recordIn, commandOf, formed, firstOf, asksPut, isPut, layoutOf, shortOf, IsRecord}
@@ -81,6 +81,9 @@ tells l Grow w is u =
 tells l Check w is u =
     let t : Says l 0 (layoutOf Check) = rw is at u in
     (record { what = kind.Check; first = t .0; second = t .1 .0; body = refl }, rw is)
+tells l Shrink w is u =
+    let t : Says l 0 (layoutOf Shrink) = rw is at u in
+    (record { what = kind.Shrink; first = t .0; second = t .1 .0; body = refl }, rw is)
 
 -- the record of a kind that bytes have
 abbrev recordAs : Kind → List ℕ → List Field
@@ -92,6 +95,7 @@ recordAs kind.Find l = layoutOf (commandOf kind.Find l)
 recordAs kind.Remove l = layoutOf (commandOf kind.Remove l)
 recordAs kind.Grow l = layoutOf (commandOf kind.Grow l)
 recordAs kind.Check l = layoutOf (commandOf kind.Check l)
+recordAs kind.Shrink l = layoutOf (commandOf kind.Shrink l)
 
 -- is one of the command that is read with the kind,
 kind-record : (k : Kind) (l : List ℕ) (c : Command) → c ≡ commandOf k l → IsRecord c (recordAs k l)
@@ -102,6 +106,7 @@ kind-record kind.Find l c e = rw e refl
 kind-record kind.Remove l c e = rw e refl
 kind-record kind.Grow l c e = rw e refl
 kind-record kind.Check l c e = rw e refl
+kind-record kind.Shrink l c e = rw e refl
 
 -- they say its fields, where they have the kind's length and number,
 kind-says : (k : Kind) (l : List ℕ) → numberAt 2 l 0 ≡ lengthOf k → numberAt 2 l 2 ≡ numberOf k → Says l 0 (recordAs k l)
@@ -112,6 +117,7 @@ kind-says kind.Find l f s = (f, (s, (refl, tt)))
 kind-says kind.Remove l f s = (f, (s, (refl, tt)))
 kind-says kind.Grow l f s = (f, (s, tt))
 kind-says kind.Check l f s = (f, (s, tt))
+kind-says kind.Shrink l f s = (f, (s, tt))
 
 -- and it takes as many bytes as the kind's length says
 kind-width : (k : Kind) (l : List ℕ) → width (recordAs k l) ≡ lengthOf k
@@ -122,6 +128,7 @@ kind-width kind.Find l = refl
 kind-width kind.Remove l = refl
 kind-width kind.Grow l = refl
 kind-width kind.Check l = refl
+kind-width kind.Shrink l = refl
 
 -- a command's record at the start of an input is read as the command
 pub reads : (c : Command) (w : List Field) (rest : List ℕ) → Fit w → IsRecord c w → firstOf (encode w ++ rest) ≡ Asks c (width w)
@@ -180,6 +187,7 @@ put-told l c kind.Find e u = absurd (false-true (rw e at u))
 put-told l c kind.Remove e u = absurd (false-true (rw e at u))
 put-told l c kind.Grow e u = absurd (false-true (rw e at u))
 put-told l c kind.Check e u = absurd (false-true (rw e at u))
+put-told l c kind.Shrink e u = absurd (false-true (rw e at u))
 
 -- an input that begins with a whole put record asks for its put
 pub put-first : (l : List ℕ) → isPut (firstOf l) ≡ true → (firstOf l ≡ Asks (Put (recordIn l)) 20) × (20 ≤ length l)

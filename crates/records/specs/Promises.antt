@@ -9,7 +9,7 @@ use Rattle.numbers.specs.Fields.{Field, width, encode}
 use Rattle.layouts.specs.Layout.{inUse}
 use Rattle.pages.specs.Small.{Small}
 use Rattle.records.specs.declared.Command.{Command}
-use Rattle.records.specs.declared.Command.the-variants.{Format, Put, Find, Remove, Grow, Check}
+use Rattle.records.specs.declared.Command.the-variants.{Format, Put, Find, Remove, Grow, Check, Shrink}
 use Rattle.records.specs.declared.Item.the-variants.{Asks}
 use Rattle.records.specs.Records.{firstOf, IsRecord}
 
@@ -22,6 +22,7 @@ Sized (Find k) = k < 2 ^ 64
 Sized (Remove k) = k < 2 ^ 64
 Sized Grow = Unit {0}
 Sized Check = Unit {0}
+Sized Shrink = Unit {0}
 
 -- What is promised, and proved as `record-promises` (proofs/Promises.antt)
 pub record RecordPromises : Type 0 where
@@ -29,7 +30,7 @@ pub record RecordPromises : Type 0 where
   -- and 260 remove: key, length 12. 261 grow and 262 check: length 4.": these bytes, whatever is
   -- behind them, are read as that command. "Length covers the whole record." 02, request 4: "a
   -- format command of length 14 carries" the edition "as a last two-byte number, and length 12
-  -- still means edition 1"
+  -- still means edition 1"; request 5: "command kind 263, length 4"
   pub reads : (c : Command) (w : List Field) (rest : List ℕ) → Sized c → IsRecord c w → firstOf (encode w ++ rest) ≡ Asks c (width w)
   -- "all others are unknown": what is read as a command are the bytes of one of its records, and no
   -- others

@@ -1,4 +1,5 @@
--- The log's records to the byte (01, 'The log program'; 02, request 4: a format with its edition).
+-- The log's records to the byte (01, 'The log program'; 02, request 4: a format with its edition;
+-- request 5: shrink).
 -- What is quoted is 01's, or 02's where that is said.
 use Prim.Native.Nat.{ℕ}
 use mathlib.Core.Path.{_≡_}
@@ -23,14 +24,14 @@ use Rattle.records.specs.declared.Kind.the-variants as kind
 use Rattle.records.specs.declared.Form.{Form}
 use Rattle.records.specs.declared.Form.the-variants as form
 use Rattle.records.specs.declared.Command.{Command}
-use Rattle.records.specs.declared.Command.the-variants.{Format, Put, Find, Remove, Grow, Check}
+use Rattle.records.specs.declared.Command.the-variants.{Format, Put, Find, Remove, Grow, Check, Shrink}
 use Rattle.records.specs.declared.Item.{Item}
 use Rattle.records.specs.declared.Item.the-variants.{Asks, Unknown, Cut}
 use Rattle.records.specs.declared.Told.{Told}
 
 -- "257 format: n0, N, s, cap (2 bytes each), length 12. 258 put: key, value, length 20. 259 find
 -- and 260 remove: key, length 12. 261 grow and 262 check: length 4." 02, request 4: "a format command
--- of length 14"
+-- of length 14"; request 5: shrink is "kind 263, length 4"
 abbrev pub lengthOf : Kind → ℕ
 lengthOf kind.Format = 12
 lengthOf kind.FormatEdition = 14
@@ -39,6 +40,7 @@ lengthOf kind.Find = 12
 lengthOf kind.Remove = 12
 lengthOf kind.Grow = 4
 lengthOf kind.Check = 4
+lengthOf kind.Shrink = 4
 
 abbrev pub known : Kind → Form
 known k = form.Known k (lengthOf k)
@@ -48,7 +50,7 @@ abbrev pub formatFor : (length : ℕ) → Kind
 formatFor n = cond (eqb n 14) kind.FormatEdition kind.Format
 
 -- "Kinds 257 to 262 are commands, 513 is a reply, all others are unknown; a reply is unknown as
--- input." What a kind stands for, in a record that tells this length.
+-- input.", with 263 (02, request 5). What a kind stands for, in a record that tells this length.
 unfoldable pub formOf : (length kind : ℕ) → Form
 formOf n k =
     cond (eqb k 257) (known (formatFor n))
@@ -56,7 +58,8 @@ formOf n k =
     (cond (eqb k 259) (known kind.Find)
     (cond (eqb k 260) (known kind.Remove)
     (cond (eqb k 261) (known kind.Grow)
-    (cond (eqb k 262) (known kind.Check) form.Unknown)))))
+    (cond (eqb k 262) (known kind.Check)
+    (cond (eqb k 263) (known kind.Shrink) form.Unknown))))))
 
 -- the request and the commit of a put record, whose body follows four bytes of length and kind; it
 -- names no run
@@ -77,6 +80,7 @@ commandOf kind.Find l = Find (numberAt 8 l 4)
 commandOf kind.Remove l = Remove (numberAt 8 l 4)
 commandOf kind.Grow l = Grow
 commandOf kind.Check l = Check
+commandOf kind.Shrink l = Shrink
 
 -- "then 10, then the body (11)": 10 is "unknown kind, or length wrong for it"
 abbrev pub formed : List ℕ → Form → Item
@@ -96,6 +100,7 @@ asksPut (Find k) = false
 asksPut (Remove k) = false
 asksPut Grow = false
 asksPut Check = false
+asksPut Shrink = false
 
 abbrev pub isPut : Item → Bool
 isPut (Asks c n) = asksPut c
@@ -114,6 +119,7 @@ layoutOf (Find k) = (2, 12) ∷ (2, 259) ∷ (8, k) ∷ []
 layoutOf (Remove k) = (2, 12) ∷ (2, 260) ∷ (8, k) ∷ []
 layoutOf Grow = (2, 4) ∷ (2, 261) ∷ []
 layoutOf Check = (2, 4) ∷ (2, 262) ∷ []
+layoutOf Shrink = (2, 4) ∷ (2, 263) ∷ []
 
 -- and of the shorter record that a format of edition 1 has too
 abbrev pub shortOf : Params → (cap : ℕ) → List Field
@@ -128,6 +134,7 @@ IsRecord (Find k) w = w ≡ layoutOf (Find k)
 IsRecord (Remove k) w = w ≡ layoutOf (Remove k)
 IsRecord Grow w = w ≡ layoutOf Grow
 IsRecord Check w = w ≡ layoutOf Check
+IsRecord Shrink w = w ≡ layoutOf Shrink
 
 abbrev pub bit : Bool → ℕ
 bit u = cond u 1 0

@@ -23,6 +23,7 @@ pub enum Kind {
     Remove,
     Grow,
     Check,
+    Shrink,
 }
 
 // A kind's command, and the length of its record.
@@ -39,6 +40,7 @@ pub enum Command {
     Remove { key: u64 },
     Grow,
     Check,
+    Shrink,
 }
 
 // The first record of an input: a command and how many bytes it takes, no command, or cut off.
@@ -98,7 +100,11 @@ fn form_of(told: u16, kind: u16) -> Form
             kind: Kind::Check,
             length: 4,
         },
-        263..=65535 => Form::Unknown,
+        263 => Form::Known {
+            kind: Kind::Shrink,
+            length: 4,
+        },
+        264..=65535 => Form::Unknown,
     }
 }
 
@@ -150,6 +156,7 @@ fn command_of(kind: Kind, input: &[u8]) -> Command
         },
         Kind::Grow => Command::Grow,
         Kind::Check => Command::Check,
+        Kind::Shrink => Command::Shrink,
     }
 }
 
@@ -191,6 +198,7 @@ fn asks_put(command: Command) -> bool
         Command::Remove { key } => false,
         Command::Grow => false,
         Command::Check => false,
+        Command::Shrink => false,
     }
 }
 

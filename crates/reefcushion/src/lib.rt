@@ -12,7 +12,7 @@ ghost use lib.ListN.{length};
 ghost use Rattle.homes.specs.Homes.{params};
 ghost use Rattle.pages.specs.Page.{recordWith};
 ghost use Rattle.state.specs.Answer.{numbers};
-ghost use Rattle.register.specs.Files.{format, find, put, remove, grow, check};
+ghost use Rattle.register.specs.Files.{format, find, put, remove, grow, shrink, check};
 ghost use Rattle.reefcushion.specs.Slip.{renumbered, stateIn, slipOf, served, servedRow, servedRun, servedRoom, dueOn};
 
 // The bytes of a slip.
@@ -155,6 +155,18 @@ pub extern "C" fn reefcushion_grow(slip: &mut [u8], area: &mut [u8], row: &mut [
     }
     let state = state_in(&slip[..]);
     let done = register::grow(state, area, row);
+    tell(slip, done)
+}
+
+#[no_mangle]
+pub extern "C" fn reefcushion_shrink(slip: &mut [u8], area: &mut [u8]) -> u32
+    ensures { λ r. let o = served (now (slip .entry)) (now (area .entry)) shrink in ⌜ (r ≡ o .returned) × ((now (slip .exit) ≡ o .slip) × ((now (area .exit) ≡ o .file .area) × (stateIn (now (slip .exit)) ≡ o .file .state))) ⌝ }
+{
+    if slip.len() != SLIP {
+        return NO_SLIP;
+    }
+    let state = state_in(&slip[..]);
+    let done = register::shrink(state, area);
     tell(slip, done)
 }
 

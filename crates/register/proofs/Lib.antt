@@ -8,4 +8,5 @@ pub mod Promises
 pub mod OnImage
 pub mod FormatImage
 pub mod RemadeImage
+pub mod RoundTrips
 pub mod ImageCalls

@@ -4,7 +4,7 @@ use mathlib.Core.Path.{refl, sym, _∙⁻¹_}
 use denote.Ref.{now}
 use Rattle.homes.specs.Homes.{params}
 use Rattle.pages.specs.Page.{recordWith}
-use Rattle.register.specs.Files.{format, find, put, remove, grow, check}
+use Rattle.register.specs.Files.{format, find, put, remove, grow, shrink, check}
 use Rattle.slip_demands.specs.SlipAnswers.{SlipAnswers}
 use Rattle.slip_demands.proofs.Looking.{find-area, check-area, call-layout, run-layout}
 
@@ -45,6 +45,11 @@ slip-answers =
         asks-nothing = λ κs a. tt;
         one = λ κs a y z v w p q. (p .0 ∙⁻¹ q .0, λ i. ((p .1 .0 ∙⁻¹ q .1 .0) i, ((p .1 .1 .0 ∙⁻¹ q .1 .1 .0) i, ((p .1 .1 .1 .0 ∙⁻¹ q .1 .1 .1 .0) i, tt))));
         does = λ κs a y v p i. (record { returned = p .0 i; slip = p .1 .0 i; file = record { layout = sym (call-layout (now (a .0)) (now (a .1 .0)) (grow (now (a .1 .1 .0)))) i; state = p .1 .1 .1 .1 i; area = p .1 .1 .0 i } }, p .1 .1 .1 .0 i);
+      };
+      shrink = record {
+        asks-nothing = λ κs a. tt;
+        one = λ κs a y z v w p q. (p .0 ∙⁻¹ q .0, λ i. ((p .1 .0 ∙⁻¹ q .1 .0) i, ((p .1 .1 .0 ∙⁻¹ q .1 .1 .0) i, tt)));
+        does = λ κs a y v p i. record { returned = p .0 i; slip = p .1 .0 i; file = record { layout = sym (call-layout (now (a .0)) (now (a .1 .0)) shrink) i; state = p .1 .1 .1 i; area = p .1 .1 .0 i } };
       };
       check = record {
         asks-nothing = λ κs a. tt;

@@ -5,7 +5,7 @@ use mathlib.Core.List.{List}
 use denote.Ref.{now}
 use Rattle.homes.specs.Homes.{params}
 use Rattle.pages.specs.Page.{recordWith}
-use Rattle.register.specs.Files.{format, find, put, remove, grow, check}
+use Rattle.register.specs.Files.{format, find, put, remove, grow, shrink, check}
 use Rattle.demands.specs.Answers.{Settled}
 use Rattle.reefcushion.proofs.reefcushion_format as Format
 use Rattle.reefcushion.proofs.reefcushion_format_edition as FormatEdition
@@ -14,6 +14,7 @@ use Rattle.reefcushion.proofs.reefcushion_put as Put
 use Rattle.reefcushion.proofs.reefcushion_put_run as PutRun
 use Rattle.reefcushion.proofs.reefcushion_remove as Remove
 use Rattle.reefcushion.proofs.reefcushion_grow as Grow
+use Rattle.reefcushion.proofs.reefcushion_shrink as Shrink
 use Rattle.reefcushion.proofs.reefcushion_check as Check
 use Rattle.reefcushion.proofs.reefcushion_due as Due
 use Rattle.reefcushion.specs.Slip.{Served, fileIn, served, servedRow, servedRun, servedRoom, dueOn}
@@ -48,6 +49,9 @@ pub record SlipAnswers : Type 0 where
   pub grow : Settled Grow.ended {O = Served × List ℕ} Grow.Reads.Asked Grow.Reads.Learnt
       (λ κs a. (served (now (a .0)) (now (a .1 .0)) (grow (now (a .1 .1 .0))), servedRow (now (a .0)) (now (a .1 .0)) (now (a .1 .1 .0))))
       (λ κs a y v. (came y (v .0) (v .1 .0), v .1 .1 .0))
+  pub shrink : Settled Shrink.ended Shrink.Reads.Asked Shrink.Reads.Learnt
+      (λ κs a. served (now (a .0)) (now (a .1 .0)) shrink)
+      (λ κs a y v. came y (v .0) (v .1 .0))
   pub check : Settled Check.ended Check.Reads.Asked Check.Reads.Learnt
       (λ κs a. served (now (a .0)) (now (a .1 .0)) check)
       (λ κs a y v. came y (v .0) (now (a .1 .0)))

@@ -62,10 +62,12 @@ command-of-spec =
     get-u64-requires-2
     (λ c. search needs)
     (λ c. search needs)
+    (λ c. search needs)
     returns
     returns-2
     returns-3
     (λ c. cc)
     (λ c. cc)
+    (λ c. search needs)
     (λ c. search needs)
     (λ c. search needs))

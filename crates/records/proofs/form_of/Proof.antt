@@ -1,4 +1,4 @@
--- `records::form_of` meets its contract: each of the six numbers has its kind's form, and any other
+-- `records::form_of` meets its contract: each of the seven numbers has its kind's form, and any other
 -- has none.
 use mathlib.Core.Path.{refl, _∙_}
 use borrow.Author.Needs.{needs}
@@ -27,6 +27,9 @@ returns-5 c = (known-form kind.Grow _ _ (c .match .keys5) tt, refl)
 returns-6 : tie.Need-returns-6
 returns-6 c = (known-form kind.Check _ _ (c .match .keys6) tt, refl)
 
+returns-7 : tie.Need-returns-7
+returns-7 c = (known-form kind.Shrink _ _ (c .match .keys7) tt, refl)
+
 pub form-of-spec : {M : Type 1} → statement M
 form-of-spec =
     tie.close
@@ -38,5 +41,6 @@ form-of-spec =
     returns-4
     returns-5
     returns-6
+    returns-7
     (λ c. (other-form _ _ (c .before .match .rest), tt))
     (λ c. (other-form _ _ (c .before .match .rest), tt)))

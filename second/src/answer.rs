@@ -17,6 +17,8 @@ pub const CUT_OFF: u16 = 11;
 pub const TOO_MANY_PAGES: u16 = 12;
 /// A put of a held key with another value.
 pub const CLASH: u16 = 13;
+/// A shrink of a file that has the pages it started with: P = n0 x N.
+pub const NOT_GROWN: u16 = 14;
 /// A room that isn't as long as what is to be written there.
 pub const WRONG_ROOM: u16 = 15;
 

@@ -1,4 +1,4 @@
-//! The seven calls, with the refusals that come before any page is judged.
+//! The eight calls, with the refusals that come before any page is judged.
 
 use crate::answer::{Answer, ABSENT, OUT_OF_RANGE, WRONG_AREA};
 use crate::page::{write, Page, Record};
@@ -29,6 +29,7 @@ pub enum Call {
     },
     Grow,
     Check,
+    Shrink,
 }
 
 /// Makes a call. Only an accepted one changes the area, and only grow the row.
@@ -65,8 +66,9 @@ fn on_a_file(call: Call, state: State, area: &mut [u8], row: &mut [u32]) -> Answ
         Call::Put { key, value } => crate::put::put(state, area, Record { key, value }),
         Call::Find { key } => find(state, area, key),
         Call::Remove { key } => crate::remove::remove(state, area, key),
-        Call::Grow => crate::grow::grow(state, area, row),
-        Call::Check => crate::grow::check(state, area),
+        Call::Grow => crate::resize::grow(state, area, row),
+        Call::Check => crate::check::check(state, area),
+        Call::Shrink => crate::resize::shrink(state, area),
         Call::Due | Call::Format { .. } => Answer::accepted(state, 0),
     }
 }

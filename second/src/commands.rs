@@ -19,7 +19,7 @@ pub fn lengths_of(kind: u16) -> &'static [usize] {
         FORMAT_KIND => &[12, 14],
         PUT_KIND => &[PUT_BYTES],
         259..=260 => &[12],
-        261..=262 => &[4],
+        261..=263 => &[4],
         _ => &[],
     }
 }
@@ -53,7 +53,8 @@ pub fn parse(kind: u16, body: &[u8]) -> Call {
             key: eight(body, 0),
         },
         261 => Call::Grow,
-        _ => Call::Check,
+        262 => Call::Check,
+        _ => Call::Shrink,
     }
 }
 
@@ -98,7 +99,8 @@ mod tests {
     fn only_right_heads_are_read() {
         assert_eq!(read_head(&hex("1400 0201")), Some((258, 20)));
         assert_eq!(read_head(&hex("0400 0601")), Some((262, 4)));
-        for wrong in ["1500 0201", "0014 0201", "1400 0102", "0400 0701"] {
+        assert_eq!(read_head(&hex("0400 0701")), Some((263, 4)));
+        for wrong in ["1500 0201", "0014 0201", "1400 0102", "0400 0801"] {
             assert_eq!(read_head(&hex(wrong)), None, "{wrong}");
         }
     }
@@ -113,12 +115,19 @@ mod tests {
         };
         assert_eq!(right(257), [12, 14]);
         assert_eq!(
-            [258, 259, 260, 261, 262].map(right),
-            [[20], [12], [12], [4], [4]]
+            [258, 259, 260, 261, 262, 263].map(right),
+            [[20], [12], [12], [4], [4], [4]]
         );
-        for kind in [0, 256, 263, 264, 513, 65535] {
+        for kind in [0, 256, 264, 265, 513, 65535] {
             assert_eq!(right(kind), [], "{kind}");
         }
+    }
+
+    /// The kinds without a body, each with its own call.
+    #[test]
+    fn a_head_alone_tells_the_call() {
+        let calls = [261, 262, 263].map(|kind| parse(kind, &[]));
+        assert_eq!(calls, [Call::Grow, Call::Check, Call::Shrink]);
     }
 
     #[test]

@@ -1,6 +1,6 @@
 //! What a call on an image has to come to, worked out from its records alone.
 
-use crate::answer::{ABSENT, CLASH, GROWN_OUT, NO_ROOM, REPEAT, WRONG_ROW};
+use crate::answer::{ABSENT, CLASH, GROWN_OUT, NOT_GROWN, NO_ROOM, REPEAT, WRONG_ROW};
 use crate::calls::Call;
 use crate::page::Record;
 use crate::room::fits;
@@ -27,7 +27,7 @@ pub fn expect(
         Call::Put { key, value } => expect_put(state, records, Record { key, value }),
         Call::Find { key } => Ok(expect_find(state, records, key)),
         Call::Remove { key } => Ok(expect_remove(state, records, key)),
-        Call::Grow => expect_grow(state, row_length, records),
+        Call::Grow | Call::Shrink => expect_resized(asked, state, row_length, records),
         _ => Ok(Expected {
             refusal: 0,
             value: 0,
@@ -105,7 +105,23 @@ fn expect_remove(state: State, mut records: Vec<Record>, key: u64) -> Expected {
     }
 }
 
-fn expect_grow(state: State, row_length: usize, records: Vec<Record>) -> Result<Expected, String> {
+/// The refusal that a grow or a shrink gets before any page is judged, whatever
+/// the pages hold. The state is in range and the area has its length.
+pub fn refused_unread(asked: Call, state: State, row_length: usize) -> Option<u16> {
+    match asked {
+        Call::Grow if row_length != usize::from(state.cap) => Some(WRONG_ROW),
+        Call::Grow if state.pages == state.cap => Some(GROWN_OUT),
+        Call::Shrink if state.at_start_pages() => Some(NOT_GROWN),
+        _ => None,
+    }
+}
+
+fn expect_resized(
+    asked: Call,
+    state: State,
+    row_length: usize,
+    records: Vec<Record>,
+) -> Result<Expected, String> {
     let refused = |refusal, records| {
         Ok(Expected {
             refusal,
@@ -114,18 +130,18 @@ fn expect_grow(state: State, row_length: usize, records: Vec<Record>) -> Result<
             records,
         })
     };
-    if row_length != usize::from(state.cap) {
-        return refused(WRONG_ROW, records);
+    if let Some(refusal) = refused_unread(asked, state, row_length) {
+        return refused(refusal, records);
     }
-    if state.pages == state.cap {
-        return refused(GROWN_OUT, records);
-    }
-    let grown = state.one_page_grown();
-    if fits(grown, &keys(&records))? {
+    let other = match asked {
+        Call::Grow => state.one_page_grown(),
+        _ => state.one_page_shrunk(),
+    };
+    if fits(other, &keys(&records))? {
         return Ok(Expected {
             refusal: 0,
             value: 0,
-            state: grown,
+            state: other,
             records,
         });
     }

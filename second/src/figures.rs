@@ -136,12 +136,23 @@ fn twelve_then_grow() -> Result<Vec<String>, String> {
     file.put_up_to(11)?;
     let grown = file.ask(Call::Grow)?;
     let mut lines = vec![format!("cap 2, keys 0 to 11, grow: {}", told(grown))];
-    for page in 0..2 {
-        lines.push(format!("  page {page} then holds {:?}", file.keys_on(page)));
-    }
+    lines.extend(then_holds(&file));
     let refused = file.ask(KEY_TWELVE)?;
     lines.push(format!("  then put of key 12: {}", told(refused)));
+    lines.push(then_shrink(&mut file)?);
+    lines.extend(then_holds(&file));
+    lines.push(then_shrink(&mut file)?);
     Ok(lines)
+}
+
+/// What the first two pages hold after a call.
+fn then_holds(file: &Trial) -> [String; 2] {
+    [0, 1].map(|page| format!("  page {page} then holds {:?}", file.keys_on(page)))
+}
+
+fn then_shrink(file: &mut Trial) -> Result<String, String> {
+    let answer = file.ask(Call::Shrink)?;
+    Ok(format!("  then shrink: {}", told(answer)))
 }
 
 fn thirteen_then_grow() -> Result<Vec<String>, String> {
@@ -172,7 +183,7 @@ fn one_page() -> Result<Vec<String>, String> {
 #[cfg(test)]
 mod tests {
     use super::*;
-    use crate::answer::{CLASH, NO_ROOM, REPEAT};
+    use crate::answer::{CLASH, NOT_GROWN, NO_ROOM, REPEAT};
 
     #[test]
     fn twelve_keys_then_grow() {
@@ -186,6 +197,10 @@ mod tests {
         assert_eq!(file.keys_on(1), (0..12).collect::<Vec<u64>>());
         let refused = file.ask(Call::Put { key: 12, value: 0 });
         assert_eq!(refused.map(|answer| answer.refusal), Ok(NO_ROOM));
+        let mut shrink = || file.ask(Call::Shrink).map(|a| (a.refusal, a.moved));
+        assert_eq!([shrink(), shrink()], [Ok((0, 12)), Ok((NOT_GROWN, 0))]);
+        assert_eq!(file.keys_on(0), (0..12).collect::<Vec<u64>>());
+        assert_eq!(file.keys_on(1), []);
     }
 
     /// In edition 2 draw 11 moves six of the twelve, so key 12 finds room
@@ -201,6 +216,11 @@ mod tests {
         assert_eq!(file.keys_on(0), [1, 3, 4, 6, 9, 11, 12]);
         assert_eq!(file.keys_on(1), [0, 2, 5, 7, 8, 10]);
         assert_eq!(file.state.edition, 2);
+        // Six come back to page 0, so that key 12 has to leave it.
+        let shrunk = file.ask(Call::Shrink);
+        assert_eq!(shrunk.map(|a| (a.refusal, a.moved)), Ok((0, 7)));
+        assert_eq!(file.keys_on(0), (0..12).collect::<Vec<u64>>());
+        assert_eq!(file.keys_on(1), [12]);
     }
 
     #[test]
@@ -249,5 +269,16 @@ n0 2, edition 2: of keys 0 to 42590, 14192 are movers at x 1
 P 4, 38 records: not due
 ";
         assert!(text.contains(together), "{text}");
+        let up_and_down = "cap 2, keys 0 to 11, grow: refusal 0, value 0, moved 12
+  page 0 then holds []
+  page 1 then holds [0, 1, 2, 3, 4, 5, 6, 7, 8, 9, 10, 11]
+  then put of key 12: refusal 7, value 0, moved 0
+  then shrink: refusal 0, value 0, moved 12
+  page 0 then holds [0, 1, 2, 3, 4, 5, 6, 7, 8, 9, 10, 11]
+  page 1 then holds []
+  then shrink: refusal 14, value 0, moved 0
+cap 2, keys 0 to 12, page 0 holds [0, 1, 2, 3, 4, 5, 6, 7, 8, 9, 10, 11]
+";
+        assert!(text.contains(up_and_down), "{text}");
     }
 }

@@ -163,12 +163,25 @@ mod tests {
         assert_eq!(output[2 * REPLY_BYTES..], hex(second));
     }
 
+    /// Key 5 goes to page 1 and comes back; then there is no page to give back.
+    #[test]
+    fn a_growth_and_two_shrinks() {
+        let put = "1400 0201 0500000000000000 0900000000000000";
+        let input = format!("{FORMAT} {put} 0400 0501 0400 0701 0400 0701");
+        let second = "1C00 0102 0000 0000 0000000000000000 02000000 01000000 0200 0000
+            1C00 0102 0000 0000 0000000000000000 02000000 01000000 0100 0000
+            1C00 0102 0E00 0000 0000000000000000 00000000 00000000 0100 0000";
+        assert_eq!(answer_to(&hex(&input))[2 * REPLY_BYTES..], hex(second));
+    }
+
     #[test]
     fn stops_after_ten_and_eleven() {
         assert_eq!(refusals(""), []);
         assert_eq!(refusals("0C"), [11]);
         assert_eq!(refusals(&format!("{FORMAT} 0400 0601 0400 06")), [0, 0, 11]);
-        assert_eq!(refusals(&format!("{FORMAT} 0400 0701 0400 0601")), [0, 10]);
+        assert_eq!(refusals(&format!("{FORMAT} 0400 0801 0400 0601")), [0, 10]);
+        assert_eq!(refusals(&format!("{FORMAT} 0500 0701 0400 0601")), [0, 10]);
+        assert_eq!(refusals("0400 0701 0400 07"), [1, 11]);
         assert_eq!(refusals("1C00 0102 0000"), [10]);
         assert_eq!(refusals("0500 0601 00"), [10]);
         assert_eq!(refusals("1400 0201 05"), [11]);

@@ -101,6 +101,19 @@ impl State {
             ..self
         }
     }
+
+    /// Whether P stands at n0 x N, where there is no page to give back.
+    pub fn at_start_pages(self) -> bool {
+        u64::from(self.pages) == self.start_pages()
+    }
+
+    /// The same file one page smaller.
+    pub fn one_page_shrunk(self) -> State {
+        State {
+            pages: self.pages - 1,
+            ..self
+        }
+    }
 }
 
 #[cfg(test)]
@@ -159,6 +172,15 @@ mod tests {
             change(&mut state);
             assert!(state.in_range(), "{state:?}");
         }
+    }
+
+    /// Four pages are those of the start; the fifth can be given back.
+    #[test]
+    fn a_page_grown_is_given_back() {
+        assert!(GOOD.at_start_pages());
+        let grown = GOOD.one_page_grown();
+        assert!(!grown.at_start_pages());
+        assert_eq!((grown.pages, grown.one_page_shrunk()), (5, GOOD));
     }
 
     /// 39 records are due in either edition and in no other.

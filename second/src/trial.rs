@@ -20,14 +20,20 @@ impl Trial {
 
     /// A fresh file of this edition with n0, N and s all 1.
     pub fn of_edition(edition: u64, cap: u16) -> Result<Trial, String> {
+        Trial::fresh([1, 1, 1], cap, edition)
+    }
+
+    /// A fresh file with this n0, N and s.
+    pub fn fresh(start: [u16; 3], cap: u16, edition: u64) -> Result<Trial, String> {
+        let [n0, groups, sweeps] = start;
         let mut trial = Trial {
             state: State::default(),
             area: vec![0; 256 * usize::from(cap)],
         };
         trial.ask(Call::Format {
-            n0: 1,
-            groups: 1,
-            sweeps: 1,
+            n0,
+            groups,
+            sweeps,
             cap,
             edition,
         })?;
@@ -41,17 +47,18 @@ impl Trial {
         Ok(answer)
     }
 
-    /// Puts the keys from 0 up, each with its tenfold as value, and gives the
-    /// last answer's refusal.
+    /// Puts the keys from 0 up and gives the last answer's refusal.
     pub fn put_up_to(&mut self, last: u64) -> Result<u16, String> {
+        self.put_all(0..=last)
+    }
+
+    /// Puts these keys, each with its tenfold as value, and gives the last
+    /// answer's refusal.
+    pub fn put_all(&mut self, keys: impl IntoIterator<Item = u64>) -> Result<u16, String> {
         let mut refusal = 0;
-        for key in 0..=last {
-            refusal = self
-                .ask(Call::Put {
-                    key,
-                    value: 10 * key,
-                })?
-                .refusal;
+        for key in keys {
+            let value = key.wrapping_mul(10);
+            refusal = self.ask(Call::Put { key, value })?.refusal;
         }
         Ok(refusal)
     }

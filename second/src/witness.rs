@@ -2,7 +2,8 @@
 
 use crate::answer::{Answer, BROKEN, CLASH, NO_ROOM, REPEAT};
 use crate::calls::{call, Call};
-use crate::expected::{expect, Expected};
+use crate::check::check;
+use crate::expected::{expect, refused_unread, Expected};
 use crate::home::home;
 use crate::image::{changed_page, lay_out, records_of, standing};
 use crate::page::Record;
@@ -24,7 +25,9 @@ pub fn witnessed(
     edition_told_rightly(asked, state, &answer).map_err(told)?;
     row_touched_rightly(asked, &answer, &row_before, row, area).map_err(told)?;
     if state.in_range() && before.len() == state.area_bytes() {
+        checked_first(asked, state, &before, row, &answer).map_err(told)?;
         against_the_image(asked, state, &before, area, row, &answer).map_err(told)?;
+        there_and_back(asked, state, &before, area, &answer).map_err(told)?;
     }
     Ok(answer)
 }
@@ -127,6 +130,54 @@ fn row_touched_rightly(
     must(counts == row, "the row holds other counts")
 }
 
+/// On any bytes: grow "first checks the whole file" and shrink has "the same
+/// check of the whole file first". So once nothing is refused before a page is
+/// judged, both are refused with 4 and 9 exactly as a check is, and have read
+/// as many pages in any case.
+fn checked_first(
+    asked: Call,
+    state: State,
+    before: &[u8],
+    row: &[u32],
+    answer: &Answer,
+) -> Result<(), String> {
+    if !matches!(asked, Call::Grow | Call::Shrink) {
+        return Ok(());
+    }
+    let first = match refused_unread(asked, state, row.len()) {
+        Some(refusal) => Answer::refused(state, refusal, 0),
+        None => check(state, before),
+    };
+    if first.refusal != 0 {
+        return must(*answer == first, &format!("should be {first:?}"));
+    }
+    let goes_on = [0, NO_ROOM].contains(&answer.refusal) && answer.read == first.read;
+    must(goes_on, "a check accepts what this refuses")
+}
+
+/// "An accepted growth followed at once by a shrink gives back the same bytes
+/// and state." So does an accepted shrink followed by a growth, which can't be
+/// refused, since the records had room at that size. The same records move, so
+/// nothing but the state is told otherwise.
+fn there_and_back(
+    asked: Call,
+    state: State,
+    before: &[u8],
+    area: &[u8],
+    answer: &Answer,
+) -> Result<(), String> {
+    let back = match (asked, answer.refusal) {
+        (Call::Grow, 0) => Call::Shrink,
+        (Call::Shrink, 0) => Call::Grow,
+        _ => return Ok(()),
+    };
+    let mut again = area.to_vec();
+    let mut row = vec![0; usize::from(state.cap)];
+    let returned = call(back, answer.state, &mut again, &mut row);
+    let returns = returned == Answer { state, ..*answer } && again == before;
+    must(returns, &format!("{back:?} doesn't lead back"))
+}
+
 fn against_the_image(
     asked: Call,
     state: State,
@@ -139,8 +190,8 @@ fn against_the_image(
         return Ok(());
     }
     let Some(records) = records_of(state, before) else {
-        let claims =
-            matches!(asked, Call::Check | Call::Grow) && [0, NO_ROOM].contains(&answer.refusal);
+        let whole = matches!(asked, Call::Check | Call::Grow | Call::Shrink);
+        let claims = whole && [0, NO_ROOM].contains(&answer.refusal);
         return must(!claims, "taken for an image");
     };
     let expected = expect(asked, state, row.len(), records)?;

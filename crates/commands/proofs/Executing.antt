@@ -10,10 +10,10 @@ use Rattle.numbers.proofs.Laws.{written-nil}
 use Rattle.pages.specs.Page.{Record}
 use Rattle.state.specs.declared.State.{State}
 use Rattle.state.specs.declared.Numbers.{Numbers}
-use Rattle.register.specs.Calls.{formatted, found, stored, removed, checked, grew}
+use Rattle.register.specs.Calls.{formatted, found, stored, removed, checked, grew, shrank}
 use Rattle.register.specs.Files.{left}
 use Rattle.records.specs.declared.Command.{Command}
-use Rattle.records.specs.declared.Command.the-variants.{Format, Put, Find, Remove, Grow, Check}
+use Rattle.records.specs.declared.Command.the-variants.{Format, Put, Find, Remove, Grow, Check, Shrink}
 use Rattle.records.specs.declared.Told.{Told}
 use Rattle.records.specs.Records.{refusedBy, tells}
 use Rattle.commands.specs.Execute.{Executed, site, executed, toldOf}
@@ -62,3 +62,8 @@ module _ (s : State) (space row : List ℕ) (c : Command) where
     pub carries-check : c ≡ Check → t ≡ tells (checked inUse s (take (256 * s .cap) space)) → Leaves t space row (executed (site s space row) c)
     unfolding executed left
     carries-check e w = rw e (w, (sym (written-first (256 * s .cap) space), sym (written-nil row 0)))
+
+    -- and a shrinking the row
+    pub carries-shrink : c ≡ Shrink → (new : List ℕ) → Back t space new (shrank inUse s (take (256 * s .cap) space)) → Leaves t new row (executed (site s space row) c)
+    unfolding executed left
+    carries-shrink e new w = rw e (w .0, (w .1, sym (written-nil row 0)))

@@ -38,6 +38,7 @@ command-front kind.Find l m h = rw (number-front 8 l m 4 (omega arith))
 command-front kind.Remove l m h = rw (number-front 8 l m 4 (omega arith))
 command-front kind.Grow l m h = refl
 command-front kind.Check l m h = refl
+command-front kind.Shrink l m h = refl
 
 -- so is what a whole head asks for
 head-front : (l m : List ℕ) → 4 ≤ length l → firstOf (l ++ m) ≡ formed (l ++ m) (formOf (numberAt 2 l 0) (numberAt 2 l 2))

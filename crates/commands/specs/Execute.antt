@@ -7,9 +7,9 @@ use lib.Dec.{ltb}
 use Rattle.numbers.specs.Little.{written}
 use Rattle.state.specs.declared.State.{State}
 use Rattle.state.specs.declared.Numbers.{Numbers}
-use Rattle.register.specs.Files.{Call, format, find, put, remove, grow, check, fileOf, Left, left, numbersOf}
+use Rattle.register.specs.Files.{Call, format, find, put, remove, grow, shrink, check, fileOf, Left, left, numbersOf}
 use Rattle.records.specs.declared.Command.{Command}
-use Rattle.records.specs.declared.Command.the-variants.{Format, Put, Find, Remove, Grow, Check}
+use Rattle.records.specs.declared.Command.the-variants.{Format, Put, Find, Remove, Grow, Check, Shrink}
 use Rattle.records.specs.declared.Told.{Told}
 use Rattle.records.specs.Records.{refusedBy}
 
@@ -40,6 +40,7 @@ lentTo s (Find k) = s .cap
 lentTo s (Remove k) = s .cap
 lentTo s Grow = s .cap
 lentTo s Check = s .cap
+lentTo s Shrink = s .cap
 
 -- the call that a command makes; grow "is lent a row of 32-bit counts, one a page"
 abbrev pub callOf : Command → (row : List ℕ) → Call
@@ -49,6 +50,7 @@ callOf (Find k) row = find k
 callOf (Remove k) row = remove k
 callOf Grow row = grow row
 callOf Check row = check
+callOf Shrink row = shrink
 
 -- what a call left, back in its place
 abbrev pub leaving : Site → Left → Executed
@@ -68,6 +70,7 @@ tooMany (Find k) = false
 tooMany (Remove k) = false
 tooMany Grow = false
 tooMany Check = false
+tooMany Shrink = false
 
 -- "then 12, then the call": a refusal of the log's own has no other number in its reply
 unfoldable pub executed : Site → Command → Executed

@@ -9,7 +9,7 @@ ghost use Prim.Native.Nat.{_*_, _≤_, min};
 ghost use lib.ListN.{length, take};
 ghost use Rattle.layouts.specs.Layout.{inUse};
 ghost use Rattle.numbers.specs.Little.{written};
-ghost use Rattle.register.specs.Calls.{formatted, found, stored, removed, checked, grew};
+ghost use Rattle.register.specs.Calls.{formatted, found, stored, removed, checked, grew, shrank};
 ghost use Rattle.records.specs.Records.{tells};
 ghost use Rattle.commands.specs.Execute.{site, executed, toldOf};
 
@@ -68,6 +68,14 @@ fn grow_lent(state: State, space: &mut [u8], row: &mut [u32]) -> Told
     records::tell(done)
 }
 
+fn shrink_lent(state: State, space: &mut [u8]) -> Told
+    ensures { λ r. let o = shrank inUse state (take (256 * state .cap) (now (space .entry))) in ⌜ (r ≡ tells (o .done)) × (now (space .exit) ≡ written (now (space .entry)) 0 (o .area)) ⌝ }
+{
+    let end = lent(state.cap, &space[..]);
+    let done = register::shrink(state, &mut space[..end]);
+    records::tell(done)
+}
+
 fn check_lent(state: State, space: &[u8]) -> Told
     ensures { λ r. ⌜ r ≡ tells (checked inUse state (take (256 * state .cap) (now (space .entry)))) ⌝ }
 {
@@ -96,5 +104,6 @@ pub fn execute(state: State, space: &mut [u8], row: &mut [u32], command: Command
         Command::Remove { key } => remove_lent(state, space, key),
         Command::Grow => grow_lent(state, space, row),
         Command::Check => check_lent(state, &space[..]),
+        Command::Shrink => shrink_lent(state, space),
     }
 }

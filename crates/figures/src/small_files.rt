@@ -1,4 +1,4 @@
-// Files of one and two pages, n0, N and s all 1: what put and grow answer, and the keys that the
+// Files of one and two pages, n0, N and s all 1: what put, grow and shrink answer, and the keys that the
 // pages then hold.
 use crate::text::print_item;
 use crate::text::say;
@@ -104,6 +104,17 @@ fn print_put_12(state: State, area: &mut [u8]) {
     print_answer(b"  then put of key 12", put);
 }
 
+// One page less, and no page to give up then.
+fn print_shrunk(state: State, area: &mut [u8])
+    requires { ⌜ length (now area) ≡ 512 ⌝ }
+{
+    let shrunk = register::shrink(state, area);
+    print_answer(b"  then shrink", shrunk);
+    print_pages(b"  page ", b" then holds ", &area[..]);
+    let again = register::shrink(shrunk.state, area);
+    print_answer(b"  then shrink", again);
+}
+
 fn print_grown(area: &mut [u8], row: &mut [u32])
     requires { ⌜ length (now area) ≡ 512 ⌝ }
 {
@@ -112,6 +123,7 @@ fn print_grown(area: &mut [u8], row: &mut [u32])
     print_answer(b"cap 2, keys 0 to 11, grow", grown);
     print_pages(b"  page ", b" then holds ", &area[..]);
     print_put_12(grown.state, area);
+    print_shrunk(grown.state, area);
 }
 
 fn print_spilt(area: &mut [u8], row: &mut [u32])

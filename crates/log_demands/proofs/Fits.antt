@@ -43,6 +43,7 @@ kind-fits kind.Find l b h row = number-bound 8 l 4 (omega arith) b
 kind-fits kind.Remove l b h row = number-bound 8 l 4 (omega arith) b
 kind-fits kind.Grow l b h row = tt
 kind-fits kind.Check l b h row = tt
+kind-fits kind.Shrink l b h row = tt
 
 -- so what a head asks for does
 form-fits : (l : List ℕ) → Bytes l → (f : Form) → formOf (numberAt 2 l 0) (numberAt 2 l 2) ≡ f → ItemFits (formed l f)

@@ -10,13 +10,13 @@ use lib.ListN.{length, drop}
 use borrow.Author.Tests.{eqb-true}
 use Rattle.placing.specs.Image.{All}
 use Rattle.state.specs.State.{all, inRange}
-use Rattle.gates.specs.Gates.{gateOf, growGate}
+use Rattle.gates.specs.Gates.{gateOf, growGate, shrinkGate}
 use Rattle.register.specs.Files.{left}
 use Rattle.demands.specs.Histories.{Kept}
 use Rattle.demands.specs.Demands.{Fresh}
 use Rattle.demands.proofs.Demands.{demands}
 use Rattle.records.specs.declared.Command.{Command}
-use Rattle.records.specs.declared.Command.the-variants.{Format, Put, Find, Remove, Grow, Check}
+use Rattle.records.specs.declared.Command.the-variants.{Format, Put, Find, Remove, Grow, Check, Shrink}
 use Rattle.records.specs.declared.Item.{Item}
 use Rattle.records.specs.declared.Item.the-variants.{Asks, Unknown, Cut}
 use Rattle.records.specs.Records.{firstOf}
@@ -75,16 +75,18 @@ called d (Find k) = refl
 called d (Remove k) = refl
 called d Grow = refl
 called d Check = refl
+called d Shrink = refl
 
 -- no call but a format takes a state that is all zero
 before : (space row : List ℕ) (c : Command) → AnswersOne space row c
-unfolding executed left gateOf growGate inRange all
+unfolding executed left gateOf growGate shrinkGate inRange all
 before space row (Format q cap) = tt
 before space row (Put x) = refl
 before space row (Find k) = refl
 before space row (Remove k) = refl
 before space row Grow = refl
 before space row Check = refl
+before space row Shrink = refl
 
 pub log-demands : LogDemands
 unfolding executed

@@ -14,13 +14,13 @@ use Rattle.homes.specs.declared.Params.{Params}
 use Rattle.numbers.specs.Little.{written}
 use Rattle.numbers.proofs.Laws.{written-front, written-length}
 use Rattle.state.specs.declared.State.{State}
-use Rattle.register.specs.Files.{Call, format, find, put, remove, grow, check, File, Left, left, numbersOf}
+use Rattle.register.specs.Files.{Call, format, find, put, remove, grow, shrink, check, File, Left, left, numbersOf}
 use Rattle.register.proofs.After.{same-layout}
-use Rattle.demands.specs.Histories.{Fits, refusal, Kept, without, holding, paged, begun, makes}
+use Rattle.demands.specs.Histories.{Fits, refusal, Kept, without, holding, paged, unpaged, begun, makes}
 use Rattle.demands.specs.Demands.{Fresh}
 use Rattle.demands.proofs.Demands.{demands}
 use Rattle.records.specs.declared.Command.{Command}
-use Rattle.records.specs.declared.Command.the-variants.{Format, Put, Find, Remove, Grow, Check}
+use Rattle.records.specs.declared.Command.the-variants.{Format, Put, Find, Remove, Grow, Check, Shrink}
 use Rattle.records.specs.Records.{refusedBy}
 use Rattle.commands.specs.Execute.{Site, callOf, Executed, carries, calledWith, executed}
 use Rattle.commands.proofs.Lending.{written-first}
@@ -113,3 +113,4 @@ command-keeps o d (Find k) w h = call-keeps (find k) (w []) refl (λ m. (m, refl
 command-keeps o d (Remove k) w h = call-keeps (remove k) (w []) refl (λ m. (holding m (without k (m .held)), refl, refl)) o (d .state) (d .space) h
 command-keeps o d Grow w h = call-keeps (grow (take (d .state .cap) (d .row))) tt refl (λ m. (paged m, refl, refl)) o (d .state) (d .space) h
 command-keeps o d Check w h = call-keeps check tt refl (λ m. (m, refl, refl)) o (d .state) (d .space) h
+command-keeps o d Shrink w h = call-keeps shrink tt refl (λ m. (unpaged m, refl, refl)) o (d .state) (d .space) h

@@ -16,7 +16,7 @@ use Rattle.register.specs.Files.{File, fileOf, left, numbersOf}
 use Rattle.demands.specs.Histories.{Kept, commitOf, makes}
 use Rattle.demands.specs.Demands.{Fresh}
 use Rattle.records.specs.declared.Command.{Command}
-use Rattle.records.specs.declared.Command.the-variants.{Format, Put, Find, Remove, Grow, Check}
+use Rattle.records.specs.declared.Command.the-variants.{Format, Put, Find, Remove, Grow, Check, Shrink}
 use Rattle.records.specs.declared.Item.{Item}
 use Rattle.records.specs.declared.Item.the-variants.{Asks, Unknown, Cut}
 use Rattle.records.specs.Records.{firstOf, refusedBy}
@@ -34,8 +34,8 @@ unfoldable pub asked : (room : ℕ) → List ℕ → List Command
 asked zero l = []
 asked (suc room) l = onFirst (firstOf l) (λ n. asked room (drop n l))
 
--- what the accepted commands leave: "the accepted puts and removals", and the accepted growths,
--- from the last accepted format on
+-- what the accepted commands leave: "the accepted puts and removals", and the accepted growths and
+-- shrinkings, from the last accepted format on
 unfoldable pub keptBy : Option Kept → Site → List Command → Option Kept
 keptBy o d [] = o
 keptBy o d (c ∷ cs) = keptBy (cond (eqb (executed d c .numbers .refusal) 0) (makes inUse o (callOf c [])) o) (executed d c .site) cs
@@ -52,6 +52,7 @@ ButFormat Says (Find k) = Says (Find k)
 ButFormat Says (Remove k) = Says (Remove k)
 ButFormat Says Grow = Says Grow
 ButFormat Says Check = Says Check
+ButFormat Says Shrink = Says Shrink
 
 -- a command is answered as its call on the file at the site, with a count for each of its pages;
 -- only a format is lent other pages

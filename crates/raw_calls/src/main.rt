@@ -56,7 +56,8 @@ fn call(asked: Asked, area: &mut [u8], second: &[u8], row: &mut [u32], room: &mu
         259 => records::tell(register::find(state, &area[..], asked.a)),
         260 => records::tell(register::remove(state, area, asked.a)),
         261 => records::tell(register::grow(state, area, row)),
-        262..=263 => records::tell(register::check(state, &area[..])),
+        262 => records::tell(register::check(state, &area[..])),
+        263 => records::tell(register::shrink(state, area)),
         264..=65535 => pay_runs::put_run(state, area, second, room),
     }
 }

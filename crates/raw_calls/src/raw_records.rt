@@ -72,7 +72,7 @@ pub(crate) fn is_sound(asked: Asked, end: usize) -> bool
     if asked.room != end {
         return false;
     }
-    ((asked.row - asked.second) % 4 == 0) & (256 <= kind) & (kind <= 264) & (kind != 263)
+    ((asked.row - asked.second) % 4 == 0) & (256 <= kind) & (kind <= 264)
 }
 
 pub(crate) fn read_row(bytes: &[u8], row: &mut [u32])

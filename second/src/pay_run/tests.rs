@@ -179,7 +179,13 @@ fn every_byte_of_every_head_counts() {
             }
         }
     }
-    for other in ["0C00 0101", "0C00 0301", "0400 0601", "1C00 0102"] {
+    for other in [
+        "0C00 0101",
+        "0C00 0301",
+        "0400 0601",
+        "0400 0701",
+        "1C00 0102",
+    ] {
         let bytes = [records(&THREE[..2]), hex(other), vec![0; 16]].concat();
         assert_eq!(refused(&bytes, 84), 10, "{other}");
     }

@@ -35,7 +35,7 @@ fn a_record_reads_back() {
     let case = format_case();
     assert_eq!(Case::parse(&case.record()), Some(case.clone()));
     assert_eq!(Case::parse(&case.record()[1..]), None);
-    assert_eq!(Case { kind: 263, ..case }.call(), None);
+    assert_eq!(Case { kind: 265, ..case }.call(), None);
 }
 
 /// A check that finds its area too short, or its edition wrong, byte by byte.
@@ -117,6 +117,31 @@ fn the_numbers_of_an_answer_have_their_places() {
     let grown = next(&mut case, 261, 0);
     assert_eq!((two(&grown, 6), four(&grown, 26)), (0, 12));
     assert_eq!((two(&grown, 42), two(&grown, 52)), (2, 0));
+}
+
+/// Twelve keys go up and come back with the same bytes; the row stays as it
+/// was, though it is as long as grow's. Then a shrink finds nothing to give
+/// back.
+#[test]
+fn a_shrink_tells_what_it_gave_back() {
+    let mut case = formatted(1);
+    for key in 0..12 {
+        next(&mut case, 258, key);
+    }
+    let before = case.clone();
+    case.row = vec![9; 2];
+    next(&mut case, 261, 0);
+    assert_eq!(case.row, [0, 12]);
+    let shrunk = next(&mut case, 263, 0);
+    assert_eq!((two(&shrunk, 6), two(&shrunk, 42)), (0, 1));
+    assert_eq!((four(&shrunk, 22), four(&shrunk, 26)), (2, 12));
+    assert_eq!((two(&shrunk, 8), eight(&shrunk, 10)), (0, 0));
+    assert_eq!((case.row.clone(), case.state), (vec![0, 12], before.state));
+    assert!(case.area == before.area);
+    let refused = next(&mut case, 263, 0);
+    assert_eq!((two(&refused, 6), two(&refused, 42)), (14, 1));
+    assert_eq!((four(&refused, 22), four(&refused, 26)), (0, 0));
+    assert!(case.area == before.area && case.state == before.state);
 }
 
 /// A run of one put on a fresh file of two pages, with something in every
@@ -213,7 +238,7 @@ fn answering_ends_at_what_is_no_record() {
     assert_eq!(replies_around(&[]), 2);
     assert_eq!(replies_around(&case.record()), 3);
     let mut wrong: Vec<Vec<u8>> = Vec::new();
-    for kind in [0, 255, 263, 265, 513, 65535] {
+    for kind in [0, 255, 265, 266, 513, 65535] {
         let unknown = Case {
             kind,
             ..case.clone()

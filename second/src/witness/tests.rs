@@ -1,6 +1,8 @@
 use super::*;
 use crate::answer::NOT_THE_IMAGE;
 
+mod shrinks;
+
 const STATE: State = State {
     n0: 1,
     groups: 1,
@@ -13,7 +15,12 @@ const STATE: State = State {
 
 /// The image of key 3 with value 4.
 fn one_record() -> Vec<u8> {
-    lay_out(STATE, &[Record { key: 3, value: 4 }]).unwrap_or_default()
+    one_record_at(STATE)
+}
+
+/// The same at the size of this state: at two pages it lies on page 1.
+fn one_record_at(state: State) -> Vec<u8> {
+    lay_out(state, &[Record { key: 3, value: 4 }]).unwrap_or_default()
 }
 
 #[test]
@@ -79,6 +86,7 @@ fn the_edition_alone_is_refused() {
         Call::Remove { key },
         Call::Grow,
         Call::Check,
+        Call::Shrink,
     ];
     for edition in [0, 3, 258, 65535] {
         let state = State { edition, ..STATE };

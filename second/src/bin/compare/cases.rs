@@ -8,6 +8,7 @@ use crate::held::held_again;
 use crate::loose::{loosen, scatter, wrong_count};
 use crate::random::Random;
 use crate::runs::{pay_runs, some_run};
+use crate::shrinks::shrinks;
 use crate::sink::Sink;
 use crate::values::offered;
 use crate::wrong::{wrong_asked, wrong_format, wrong_length, wrong_row, wrong_state};
@@ -18,7 +19,7 @@ use second::state::State;
 
 /// Generates one scene: a file and some calls on it.
 pub fn scene(random: &mut Random, sink: &mut Sink) -> Result<(), String> {
-    match random.index(51) {
+    match random.index(54) {
         0..=2 => chain(random, sink),
         3..=8 => {
             let mut file = image(random);
@@ -35,14 +36,16 @@ pub fn scene(random: &mut Random, sink: &mut Sink) -> Result<(), String> {
         40..=42 => held_again(random, sink),
         43..=44 => misread(random, sink),
         45 => wrong_editions(random, sink),
+        46..=48 => shrinks(random, sink),
         _ => pay_runs(random, sink),
     }
 }
 
-/// A call on a file, with a row of the right length for grow.
+/// A call on a file, with a row of the right length for grow; a shrink may have
+/// one like it, though it needs none.
 pub fn some_call(random: &mut Random, file: &mut File) -> Case {
     let kind = random.pick(&[
-        256, 258, 258, 258, 259, 259, 260, 260, 260, 261, 261, 262, RUN_KIND,
+        256, 258, 258, 258, 259, 259, 260, 260, 260, 261, 261, 262, 263, 263, RUN_KIND,
     ]);
     call_of(random, file, kind)
 }
@@ -51,7 +54,7 @@ pub fn call_of(random: &mut Random, file: &mut File, kind: u16) -> Case {
     if kind == RUN_KIND {
         return some_run(random, file);
     }
-    let entries = if kind == 261 {
+    let entries = if kind == 261 || (kind == 263 && random.one_in(3)) {
         usize::from(file.state.cap)
     } else {
         random.index(3)
@@ -143,7 +146,7 @@ fn mismatched(random: &mut Random, sink: &mut Sink) -> Result<(), String> {
     let mut file = image(random);
     for _ in 0..3 {
         wrong_count(random, &mut file.state);
-        let kind = random.pick(&[258, 260, 261, 262]);
+        let kind = random.pick(&[258, 260, 261, 262, 263]);
         let case = call_of(random, &mut file, kind);
         sink.ask(case)?;
         file.state.records = 0;

@@ -21,6 +21,8 @@ enum Mood {
     Grow,
     Empty,
     Mixed,
+    Shrink,
+    UpAndDown,
 }
 
 pub fn chain(random: &mut Random, sink: &mut Sink) -> Result<(), String> {
@@ -47,6 +49,8 @@ pub fn chain(random: &mut Random, sink: &mut Sink) -> Result<(), String> {
             Mood::Grow,
             Mood::Empty,
             Mood::Mixed,
+            Mood::Shrink,
+            Mood::UpAndDown,
         ];
         let mood = random.pick(&moods);
         file.live(random, mood, sink)?;
@@ -72,8 +76,9 @@ impl File {
         Ok(())
     }
 
-    fn call(&mut self, kind: u16, a: u64, b: u64, sink: &mut Sink) -> Result<(), String> {
-        let entries = if kind == 261 {
+    pub fn call(&mut self, kind: u16, a: u64, b: u64, sink: &mut Sink) -> Result<(), String> {
+        // A shrink is lent a row too, which it may not touch.
+        let entries = if [261, 263].contains(&kind) {
             usize::from(self.state.cap)
         } else {
             0
@@ -139,9 +144,13 @@ impl File {
         self.state.pages < self.state.cap
     }
 
+    fn may_shrink(&self) -> bool {
+        !self.state.at_start_pages()
+    }
+
     fn next_kind(&self, random: &mut Random, mood: Mood) -> u16 {
         if random.one_in(12) {
-            return random.pick(&[256, 259, 261, 262]);
+            return random.pick(&[256, 259, 261, 262, 263]);
         }
         match mood {
             Mood::Fill => 258,
@@ -151,7 +160,10 @@ impl File {
             Mood::Grow => random.pick(&[258, 258, 260]),
             Mood::Empty if self.held.is_empty() => random.pick(&[258, 260]),
             Mood::Empty => 260,
-            Mood::Mixed => random.pick(&[258, 258, 259, 260, 260, 261]),
+            Mood::Mixed => random.pick(&[258, 258, 259, 260, 260, 261, 263]),
+            Mood::Shrink if self.may_shrink() => random.pick(&[260, 263]),
+            Mood::Shrink => random.pick(&[258, 260, 261]),
+            Mood::UpAndDown => random.pick(&[258, 260, 261, 263]),
         }
     }
 

@@ -59,7 +59,7 @@ mod tests {
             let came = two(&asked.record, 16);
             let (refusal, left) = (two(&asked.reply, 6), two(&asked.reply, 46));
             assert_eq!(left, came);
-            assert_eq!(refusal, u16::from((257..=262).contains(&asked.kind)));
+            assert_eq!(refusal, u16::from((257..=263).contains(&asked.kind)));
         }
     }
 }

@@ -28,7 +28,7 @@ pub const ASKED: u16 = 1024;
 /// How many of its low bytes spelled a right one.
 pub const LOW: u16 = 1025;
 
-const KINDS: &[u16] = &[DUE_KIND, 257, 258, 259, 260, 261, 262, RUN_KIND];
+const KINDS: &[u16] = &[DUE_KIND, 257, 258, 259, 260, 261, 262, 263, RUN_KIND];
 pub const SOME_WRONG: &[u16] = &[0, 3, 257, 258, 65535];
 const SOME_LOW: &[u16] = &[1, 2, 4];
 

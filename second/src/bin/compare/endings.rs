@@ -43,7 +43,7 @@ fn answer(input: &[u8]) -> Result<Vec<u8>, Stop> {
 fn good(random: &mut Random) -> Case {
     let file = image(random);
     let row = vec![3; random.index(4)];
-    let kind = random.pick(&[256, 259, 262, RUN_KIND]);
+    let kind = random.pick(&[256, 259, 262, 263, RUN_KIND]);
     let mut case = Case {
         kind,
         state: file.state,
@@ -69,7 +69,7 @@ fn around(random: &mut Random, wrong: Vec<u8>) -> Vec<u8> {
 
 fn endings(random: &mut Random) -> Vec<Vec<u8>> {
     let mut inputs = vec![Vec::new()];
-    for kind in [0, 1, 17, 255, 263, 265, 272, 512, 513, 65535] {
+    for kind in [0, 1, 17, 255, 265, 266, 272, 512, 513, 519, 65535] {
         let wrong = Case {
             kind,
             ..good(random)

@@ -93,6 +93,11 @@ fn aim(random: &mut Random, state: State) -> u64 {
 /// An image of a random filling.
 pub fn image(random: &mut Random) -> File {
     let state = parameters(random);
+    filled(random, state)
+}
+
+/// An image of a random filling, with these numbers.
+pub fn filled(random: &mut Random, state: State) -> File {
     let mut file = File::empty(random, state);
     let aim = aim(random, state);
     for _ in 0..aim {
@@ -153,7 +158,8 @@ impl File {
         }
     }
 
-    fn add(&mut self, random: &mut Random, key: u64) {
+    /// Adds a key, where there is room for it.
+    pub fn add(&mut self, random: &mut Random, key: u64) {
         let value = random.value();
         let answer = put(self.state, &mut self.area, Record { key, value });
         self.state = answer.state;

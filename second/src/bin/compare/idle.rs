@@ -10,8 +10,9 @@ const STRINGS: u64 = 6;
 
 /// Fills idle fields of a case; the reply must be the same but for the room.
 pub fn fill(random: &mut Random, case: &mut Case) {
-    // Due, grow, check and a run take no number at all; format and put take two.
-    if [256, 261, 262, RUN_KIND].contains(&case.kind) && random.one_in(NUMBERS) {
+    // Due, grow, check, shrink and a run take no number at all; format and put
+    // take two.
+    if [256, 261, 262, 263, RUN_KIND].contains(&case.kind) && random.one_in(NUMBERS) {
         case.a = number(random);
     }
     if ![257, 258].contains(&case.kind) && random.one_in(NUMBERS) {
@@ -58,7 +59,7 @@ mod tests {
         let mut random = Random::new(3, 0);
         let mut filled = std::collections::BTreeSet::new();
         for round in 0..2000 {
-            let kind = [256, 257, 258, 259, 260, 261, 262, RUN_KIND][round % 8];
+            let kind = [256, 257, 258, 259, 260, 261, 262, 263, RUN_KIND][round % 9];
             let mut file = crate::files::image(&mut random);
             let plain = crate::cases::call_of(&mut random, &mut file, kind);
             let mut idle = plain.clone();
@@ -79,9 +80,9 @@ mod tests {
             }
             assert_eq!(reply(idle), expected, "round {round}");
         }
-        // All five for due, grow and check; a is asked of the others and b of
-        // format and put, and a run is asked both strings.
-        assert_eq!(filled.len(), 8 * 5 - 4 - 2 - 2);
+        // All five for due, grow, check and shrink; a is asked of the others and
+        // b of format and put, and a run is asked both strings.
+        assert_eq!(filled.len(), 9 * 5 - 4 - 2 - 2);
     }
 
     fn reply(mut case: Case) -> Vec<u8> {

@@ -2,7 +2,7 @@
 //! accepted: rows of the table beside those of the commands.
 
 use crate::editions::{accepted_row, wrong_alone, ALONE, FIRST, SECOND};
-use crate::logs::WRONG_FORMAT_LENGTHS;
+use crate::logs::{WRONG_FORMAT_LENGTHS, WRONG_SHRINK_LENGTHS};
 use crate::show::nth_kind;
 use crate::ways::Pair;
 use second::answer::{BAD_RECORD, CUT_OFF, OUT_OF_RANGE};
@@ -20,13 +20,15 @@ pub const LONG_OTHER: u16 = 1043;
 pub const WRONG_LENGTH: u16 = 1044;
 /// How many bytes there were of a format that would have told an edition.
 pub const CUT_FORMAT: u16 = 1045;
+/// Lengths that were wrong for a shrink.
+pub const SHRINK_LENGTH: u16 = 1046;
 
 /// The length of a format that tells its edition.
 const LONG: u16 = 14;
-const COMMANDS: &[u16] = &[257, 258, 259, 260, 261, 262];
+const COMMANDS: &[u16] = &[257, 258, 259, 260, 261, 262, 263];
 
 /// All that has to come of these rows and of those shared with raw calls.
-pub const LOG_WAYS: [(u16, &[u16]); 9] = [
+pub const LOG_WAYS: [(u16, &[u16]); 10] = [
     (FIRST, COMMANDS),
     (SECOND, COMMANDS),
     (ALONE, &[257]),
@@ -36,6 +38,7 @@ pub const LOG_WAYS: [(u16, &[u16]); 9] = [
     (LONG_OTHER, &[1, 12]),
     (WRONG_LENGTH, WRONG_FORMAT_LENGTHS),
     (CUT_FORMAT, &[4, 5, 6, 7, 8, 9, 10, 11, 12, 13]),
+    (SHRINK_LENGTH, WRONG_SHRINK_LENGTHS),
 ];
 
 /// Goes through a log, to know of which edition the file is that each command
@@ -50,7 +53,8 @@ impl Follower {
     /// the log and the refusal that the command got.
     pub fn pairs(&mut self, rest: &[u8], refusal: u16) -> Vec<Pair> {
         match (nth_kind(rest, 0), refusal) {
-            (FORMAT_KIND, BAD_RECORD) => wrong_length(two(rest, 0)),
+            (FORMAT_KIND, BAD_RECORD) => wrong_length(WRONG_LENGTH, rest, WRONG_FORMAT_LENGTHS),
+            (263, BAD_RECORD) => wrong_length(SHRINK_LENGTH, rest, WRONG_SHRINK_LENGTHS),
             (FORMAT_KIND, CUT_OFF) if two(rest, 0) == LONG => {
                 vec![(CUT_FORMAT, rest.len() as u16)]
             }
@@ -88,10 +92,11 @@ impl Follower {
     }
 }
 
-/// Only those lengths are told that have to come.
-fn wrong_length(length: u16) -> Vec<Pair> {
-    let told = WRONG_FORMAT_LENGTHS.contains(&length);
-    told.then_some((WRONG_LENGTH, length)).into_iter().collect()
+/// The wrong length of a command, where it is one of those that have to come.
+fn wrong_length(row: u16, command: &[u8], have_to_come: &[u16]) -> Vec<Pair> {
+    let length = two(command, 0);
+    let told = have_to_come.contains(&length);
+    told.then_some((row, length)).into_iter().collect()
 }
 
 #[cfg(test)]
@@ -135,6 +140,11 @@ mod tests {
         for (length, told) in [(13, true), (15, true), (17, false)] {
             let head = [length, 0, 1, 1, 1, 0];
             let expected = [(WRONG_LENGTH, u16::from(length))];
+            assert_eq!(follower.pairs(&head, 10) == expected, told);
+        }
+        for (length, told) in [(3, true), (12, true), (17, false)] {
+            let head = [length, 0, 7, 1];
+            let expected = [(SHRINK_LENGTH, u16::from(length))];
             assert_eq!(follower.pairs(&head, 10) == expected, told);
         }
         let long = format(&[1, 1, 1, 2, 2]);

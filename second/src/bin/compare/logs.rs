@@ -2,7 +2,7 @@
 
 use crate::keys::extreme;
 use crate::random::Random;
-use crate::session::{command, format, put_again, session};
+use crate::session::{command, format, put_again, session, up_and_down};
 use crate::wrong::wrong_edition;
 use second::commands::HEAD_BYTES;
 
@@ -12,16 +12,27 @@ pub const WRONG_FORMAT_LENGTHS: &[u16] = &[
     0, 1, 3, 4, 8, 10, 11, 13, 15, 16, 18, 20, 26, 268, 270, 3072, 3584, 65535,
 ];
 
-/// Heads of other kinds that it has to refuse with 10: lengths and kinds.
-pub const WRONG_HEADS: [(u16, u16); 35] = [
+/// The same for a shrink, all of them among the heads below.
+pub const WRONG_SHRINK_LENGTHS: &[u16] = &[0, 3, 5, 12, 260, 1024];
+
+/// Heads of other kinds that it has to refuse with 10: lengths and kinds. The
+/// first ones come in every run that is long enough to be judged.
+pub const WRONG_HEADS: [(u16, u16); 42] = [
+    (0, 263),
+    (3, 263),
+    (5, 263),
+    (12, 263),
+    (260, 263),
+    (1024, 263),
+    (4, 7),
+    (4, 519),
+    (4, 1793),
     (0, 4),
     (4, 0),
     (1, 12),
     (12, 1),
     (4, 256),
     (4, 255),
-    (4, 263),
-    (12, 263),
     (4, 264),
     (20, 264),
     (28, 513),
@@ -66,6 +77,7 @@ pub fn log(seed: u64, number: u64) -> Vec<u8> {
         4 => before_a_format(&mut random),
         5 => large(&mut random),
         6 => put_again(&mut random),
+        7 => up_and_down(&mut random),
         8 => cut_format(&mut random, round),
         9 => wrong_format_length(&mut random, round),
         _ => sensible(&mut random),
@@ -79,6 +91,7 @@ fn cut_off(round: usize) -> Vec<u8> {
     whole.extend(command(258, &[5, 9]));
     whole.extend(command(261, &[]));
     whole.extend(command(259, &[5]));
+    whole.extend(command(263, &[]));
     whole.extend(command(262, &[]));
     whole.extend(format(&[1, 1, 1, 129]));
     whole.extend(command(260, &[5]));
@@ -165,12 +178,13 @@ fn odd_formats(random: &mut Random) -> Vec<u8> {
 }
 
 fn some_command(random: &mut Random, key: u64) -> Vec<u8> {
-    match random.index(6) {
+    match random.index(7) {
         0 | 1 => command(258, &[key, random.value()]),
         2 => command(259, &[key]),
         3 => command(260, &[key]),
         4 => command(261, &[]),
-        _ => command(262, &[]),
+        5 => command(262, &[]),
+        _ => command(263, &[]),
     }
 }
 

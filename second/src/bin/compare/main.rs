@@ -5,7 +5,7 @@
 //! answered by the programs `raw_calls` and `register_log` in DIR, started
 //! with the prefix, and compares every byte. `shortest` writes raw calls to
 //! standard output instead, one for each call and refusal and for each way that
-//! a run can take or an edition can count.
+//! a run or a shrink can take or an edition can count.
 
 mod breaks;
 mod cases;
@@ -28,6 +28,8 @@ mod runs;
 mod session;
 mod shortest;
 mod show;
+mod shrink_ways;
+mod shrinks;
 mod sink;
 mod table;
 mod values;

@@ -160,6 +160,7 @@ fn heads(random: &mut Random, sink: &mut Sink) -> Result<(), String> {
             (12, 260),
             (4, 261),
             (4, 262),
+            (4, 263),
         ];
         let (length, kind) = random.pick(&[&WRONG_HEADS[..], &right_for_others].concat());
         let head = [length.to_le_bytes(), kind.to_le_bytes()].concat();

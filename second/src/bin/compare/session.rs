@@ -44,16 +44,11 @@ fn fresh(random: &mut Random, cap: u64) -> (State, Vec<u8>) {
     (state, format(&numbers[..told]))
 }
 
-/// A format and commands after it: phases of filling, growing, emptying and
-/// mixed ones, as many as the number of commands lasts for.
+/// A format and commands after it: phases of filling, growing, emptying,
+/// shrinking and mixed ones, as many as the number of commands lasts for.
 pub fn session(random: &mut Random, cap: u64, commands: u64) -> Vec<u8> {
     let (state, mut bytes) = fresh(random, cap);
-    let mut phase = Phase {
-        keys: Keys::new(random, state),
-        state,
-        put: Vec::new(),
-        weights: [0; 5],
-    };
+    let mut phase = Phase::new(random, state);
     for left in (0..commands).rev() {
         if left == commands - 1 || random.one_in(40) {
             phase.weights = random.pick(&PHASES);
@@ -64,9 +59,9 @@ pub fn session(random: &mut Random, cap: u64, commands: u64) -> Vec<u8> {
 }
 
 /// A file filled with keys of the lowest home, half the time to its last
-/// slot, and asked to grow, which then often finds no room. Its keys are put
-/// again: with their values, with others, and with others once they were
-/// removed.
+/// slot, and asked to grow, which then often finds no room, and to shrink. Its
+/// keys are put again: with their values, with others, and with others once
+/// they were removed.
 pub fn put_again(random: &mut Random) -> Vec<u8> {
     let cap = random.within(1, 5);
     let (state, mut bytes) = fresh(random, cap);
@@ -85,10 +80,11 @@ pub fn put_again(random: &mut Random) -> Vec<u8> {
     for _ in 0..random.within(4, 40) {
         let at = random.index(held.len());
         let (key, value) = held[at];
-        bytes.extend(match random.index(10) {
+        bytes.extend(match random.index(11) {
             0 => command(259, &[key]),
             1 => command(261, &[]),
-            2 => {
+            2 => command(263, &[]),
+            3 => {
                 held[at].1 = other(random, value);
                 [command(260, &[key]), command(258, &[key, held[at].1])].concat()
             }
@@ -98,14 +94,43 @@ pub fn put_again(random: &mut Random) -> Vec<u8> {
     bytes
 }
 
-/// How often, of a hundred, each phase puts, finds, removes, grows, checks.
-const PHASES: [[u64; 5]; 5] = [
-    [88, 4, 2, 4, 2],
-    [70, 5, 3, 20, 2],
-    [8, 4, 82, 2, 4],
-    [40, 15, 30, 10, 5],
-    [40, 2, 2, 54, 2],
+/// A file filled at its first size, then taken up and down over several
+/// expansions, at times a step further than it goes. Between two ways some
+/// commands of all kinds come, and a check.
+pub fn up_and_down(random: &mut Random) -> Vec<u8> {
+    let cap = random.within(2, 24);
+    let (state, mut bytes) = fresh(random, cap);
+    let steps = cap - state.start_pages() + 1;
+    let mut phase = Phase::new(random, state);
+    for _ in 0..random.within(0, 9 * state.start_pages()) {
+        bytes.extend(phase.put(random));
+    }
+    phase.weights = MIXED;
+    for _ in 0..random.within(1, 3) {
+        for kind in [261, 263] {
+            let ways = random.within(1, steps) as usize;
+            bytes.extend(command(kind, &[]).repeat(random.pick(&[ways, steps as usize])));
+            bytes.extend(command(262, &[]));
+            for _ in 0..random.index(4) {
+                bytes.extend(phase.command(random));
+            }
+        }
+    }
+    bytes
+}
+
+/// How often, of a hundred, each phase puts, finds, removes, grows, checks and
+/// shrinks. The last two empty a file page by page and go up and down.
+const PHASES: [[u64; 6]; 7] = [
+    [87, 4, 2, 4, 2, 1],
+    [70, 5, 3, 20, 2, 0],
+    [8, 4, 82, 2, 4, 0],
+    MIXED,
+    [40, 2, 2, 54, 2, 0],
+    [4, 4, 62, 2, 4, 24],
+    [28, 4, 8, 28, 4, 28],
 ];
+const MIXED: [u64; 6] = [40, 15, 28, 8, 5, 4];
 
 struct Phase {
     state: State,
@@ -113,14 +138,24 @@ struct Phase {
     /// The keys that were put and not removed since, each with the value it
     /// was first put with. Some of them found no room.
     put: Vec<(u64, u64)>,
-    weights: [u64; 5],
+    weights: [u64; 6],
 }
 
 impl Phase {
+    /// A phase on a fresh file, with no weights yet.
+    fn new(random: &mut Random, state: State) -> Phase {
+        Phase {
+            keys: Keys::new(random, state),
+            state,
+            put: Vec::new(),
+            weights: [0; 6],
+        }
+    }
+
     fn command(&mut self, random: &mut Random) -> Vec<u8> {
         let mut ticket = random.within(0, 99);
         let mut chosen = 0;
-        while chosen < 4 && ticket >= self.weights[chosen] {
+        while chosen < 5 && ticket >= self.weights[chosen] {
             ticket -= self.weights[chosen];
             chosen += 1;
         }
@@ -129,7 +164,8 @@ impl Phase {
             1 => command(259, &[self.key(random)]),
             2 => command(260, &[self.forget(random)]),
             3 => command(261, &[]),
-            _ => command(262, &[]),
+            4 => command(262, &[]),
+            _ => command(263, &[]),
         }
     }
 
@@ -177,6 +213,40 @@ mod tests {
     use second::bytes::two;
     use second::commands::REPLY_BYTES;
 
+    /// Files that go up and down do so over two full expansions and more, and
+    /// are images at both ends of a way.
+    #[test]
+    fn files_come_down_as_far_as_they_went_up() {
+        let (mut far, mut ends) = (0, Table::default());
+        for piece in 0..60 {
+            let input = up_and_down(&mut Random::new(6, piece));
+            let mut output = Vec::new();
+            assert!(second::log::run(&mut &input[..], &mut output).is_ok());
+            let sizes: Vec<u16> = output
+                .chunks_exact(REPLY_BYTES)
+                .map(|reply| two(reply, 24))
+                .collect();
+            let top = sizes.iter().position(|&pages| pages >= 4 * sizes[0]);
+            far += u32::from(top.is_some_and(|at| sizes[at..].contains(&sizes[0])));
+            tally(&input, &output, &mut ends);
+        }
+        assert!(far >= 10, "{far}");
+        let refusals: [(u16, &[u16]); 3] = [(261, &[0, 8]), (262, &[0]), (263, &[0, 14])];
+        assert_eq!(ends.missing(&refusals), []);
+        let beyond = ends.beyond(&refusals);
+        assert!(beyond.iter().all(|(kind, _)| ![262, 263].contains(kind)));
+    }
+
+    /// Counts the refusals of a log whose commands all have replies.
+    fn tally(input: &[u8], output: &[u8], table: &mut Table) {
+        let mut rest = input;
+        for reply in output.chunks_exact(REPLY_BYTES) {
+            table.count(two(rest, 2), two(reply, 4));
+            rest = &rest[usize::from(two(rest, 0))..];
+        }
+        assert!(rest.is_empty());
+    }
+
     /// Keys put again are told to be held, as repeats and as clashes, and all
     /// others find room.
     #[test]
@@ -186,12 +256,7 @@ mod tests {
             let input = put_again(&mut Random::new(5, piece));
             let mut output = Vec::new();
             assert!(second::log::run(&mut &input[..], &mut output).is_ok());
-            let mut rest = &input[..];
-            for reply in output.chunks_exact(REPLY_BYTES) {
-                table.count(two(rest, 2), two(reply, 4));
-                rest = &rest[usize::from(two(rest, 0))..];
-            }
-            assert!(rest.is_empty());
+            tally(&input, &output, &mut table);
         }
         let put: [(u16, &[u16]); 1] = [(258, &[0, 6, 13])];
         assert_eq!(table.missing(&put), []);

@@ -1,6 +1,6 @@
 //! One raw call for each call and each refusal it can give, and for each way
-//! that a run can take or an edition can count, the shortest of many: a run
-//! small enough to be stored.
+//! that a run or a shrink can take or an edition can count, the shortest of
+//! many: a run small enough to be stored.
 
 use crate::cases::scene;
 use crate::random::Random;

@@ -2,7 +2,9 @@
 
 use crate::editions::{self, EDITION_PAIRS};
 use crate::log_ways::{self, LOG_WAYS};
+use crate::shrink_ways::{self, SHRINK_PAIRS};
 use crate::ways::{self, Pair, RUN_PAIRS};
+use second::answer::NO_ROOM;
 use second::raw::RUN_KIND;
 use std::collections::BTreeMap;
 use std::fmt;
@@ -11,8 +13,9 @@ use std::fmt;
 pub const PROGRAM: u16 = 0;
 
 /// The pairs of call and refusal that the rules make possible for raw calls;
-/// what a run can be like and what the editions do is told beside them.
-pub const CALL_PAIRS: [(u16, &[u16]); 8] = [
+/// what a run or a shrink can be like and what the editions do is told beside
+/// them.
+pub const CALL_PAIRS: [(u16, &[u16]); 9] = [
     (256, &[0]),
     (257, &[0, 1, 2]),
     (258, &[0, 1, 2, 4, 6, 7, 9, 13]),
@@ -20,13 +23,14 @@ pub const CALL_PAIRS: [(u16, &[u16]); 8] = [
     (260, &[0, 1, 2, 4, 5, 9]),
     (261, &[0, 1, 2, 3, 4, 7, 8, 9]),
     (262, &[0, 1, 2, 4, 9]),
+    (263, &[0, 1, 2, 4, 9, 14]),
     (RUN_KIND, &[0, 10, 15]),
 ];
 
 /// Those for logs; what their formats can be like is told beside them. The
 /// program lends an area and a row of the right length and writes images only,
 /// so 2, 3, 4 and 9 can't come.
-const COMMAND_PAIRS: [(u16, &[u16]); 7] = [
+const COMMAND_PAIRS: [(u16, &[u16]); 8] = [
     (PROGRAM, &[10, 11]),
     (257, &[0, 1, 12]),
     (258, &[0, 1, 6, 7, 13]),
@@ -34,11 +38,17 @@ const COMMAND_PAIRS: [(u16, &[u16]); 7] = [
     (260, &[0, 1, 5]),
     (261, &[0, 1, 7, 8]),
     (262, &[0, 1]),
+    (263, &[0, 1, 14]),
 ];
+
+/// What may come and doesn't have to. A shrink "takes grow's answers over, 7
+/// included", but no file can meet it: homes only sink when a file
+/// shrinks, so where each record lay it may still lie.
+const MAY_COME: [(u16, &[u16]); 1] = [(263, &[NO_ROOM])];
 
 /// All pairs that have to come among raw calls, in their order.
 pub fn raw_pairs() -> Vec<(u16, &'static [u16])> {
-    [&CALL_PAIRS[..], &RUN_PAIRS, &EDITION_PAIRS].concat()
+    [&CALL_PAIRS[..], &RUN_PAIRS, &EDITION_PAIRS, &SHRINK_PAIRS].concat()
 }
 
 /// All pairs that have to come among logs.
@@ -65,7 +75,15 @@ pub fn name(kind: u16) -> &'static str {
         260 => "remove",
         261 => "grow",
         262 => "check",
+        263 => "shrink",
         RUN_KIND => "pay run",
+        way => way_name(way),
+    }
+}
+
+/// The rows that tell what calls were like.
+fn way_name(way: u16) -> &'static str {
+    match way {
         ways::ITEM => "put in a run",
         ways::ITEMS => "items from",
         ways::ITEMS_REFUSED => "without room",
@@ -84,12 +102,19 @@ pub fn name(kind: u16) -> &'static str {
         editions::WRONG => "no edition",
         editions::ASKED => "asked bytes",
         editions::LOW => "low bytes",
+        shrink_ways::CAME_DOWN => "came down",
+        shrink_ways::WENT_UP => "went up",
+        shrink_ways::STEP => "page of step",
+        shrink_ways::FILLED => "records",
+        shrink_ways::FIRST_SIZE => "at n0 x N",
+        shrink_ways::ROW => "row lent",
         log_ways::SHORT_FORMAT => "format of 12",
         log_ways::LONG_FIRST => "of 14 with 1",
         log_ways::LONG_SECOND => "of 14 with 2",
         log_ways::LONG_OTHER => "with another",
         log_ways::WRONG_LENGTH => "wrong length",
         log_ways::CUT_FORMAT => "of 14 cut at",
+        log_ways::SHRINK_LENGTH => "shrink of",
         _ => "unknown",
     }
 }
@@ -130,9 +155,8 @@ impl Table {
     /// Pairs that came though the rules don't make them possible.
     pub fn beyond(&self, pairs: &[(u16, &[u16])]) -> Vec<Pair> {
         let possible = |&(kind, refusal): &Pair| {
-            pairs
-                .iter()
-                .any(|(known, refusals)| *known == kind && refusals.contains(&refusal))
+            let mut known = pairs.iter().chain(&MAY_COME);
+            known.any(|(known, refusals)| *known == kind && refusals.contains(&refusal))
         };
         self.counts
             .keys()
@@ -169,5 +193,26 @@ impl fmt::Display for Table {
             out,
             "\nmost pages read in a call: {read}; most records moved: {moved}"
         )
+    }
+}
+
+#[cfg(test)]
+mod tests {
+    use super::*;
+
+    /// A 7 of a shrink isn't waited for, and is let through where it comes; no
+    /// other refusal is.
+    #[test]
+    fn a_shrink_may_find_no_room_but_does_not_have_to() {
+        let mut table = Table::default();
+        for pairs in [raw_pairs(), log_pairs()] {
+            assert!(!table.missing(&pairs).contains(&(263, 7)));
+            assert!(table.missing(&pairs).contains(&(263, 14)));
+        }
+        table.count(263, 7);
+        table.count(263, 8);
+        for pairs in [raw_pairs(), log_pairs()] {
+            assert_eq!(table.beyond(&pairs), [(263, 8)]);
+        }
     }
 }

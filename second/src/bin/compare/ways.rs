@@ -2,6 +2,7 @@
 //! those of the calls.
 
 use crate::editions;
+use crate::shrink_ways;
 use second::answer::BAD_RECORD;
 use second::bytes::two;
 use second::commands::{HEAD_BYTES, PUT_BYTES, REPLY_BYTES};
@@ -75,6 +76,7 @@ pub fn pairs(case: &Case, refusal: u16) -> Vec<Pair> {
         }
     }
     pairs.extend(editions::pairs(case, refusal));
+    pairs.extend(shrink_ways::pairs(case, refusal));
     pairs
 }
 

@@ -2,8 +2,8 @@
 
 use super::*;
 
-/// In edition 2 six of twelve keys move, and the edition comes back with every
-/// reply.
+/// In edition 2 six of twelve keys move, up and down, and the edition comes
+/// back with every reply.
 #[test]
 fn the_second_edition_moves_half_of_twelve() {
     let mut case = formatted(2);
@@ -18,8 +18,15 @@ fn the_second_edition_moves_half_of_twelve() {
     let checked = next(&mut case, 262, 0);
     assert_eq!((two(&checked, 6), two(&checked, 46)), (0, 2));
     case.state.edition = 1;
-    let broken = next(&mut case, 262, 0);
-    assert_eq!((two(&broken, 6), two(&broken, 46)), (4, 1));
+    for kind in [262, 263] {
+        let broken = next(&mut case, kind, 0);
+        assert_eq!((two(&broken, 6), two(&broken, 46)), (4, 1));
+    }
+    case.state.edition = 2;
+    let shrunk = next(&mut case, 263, 0);
+    assert_eq!((two(&shrunk, 6), four(&shrunk, 26)), (0, 6));
+    assert_eq!((two(&shrunk, 42), two(&shrunk, 46)), (1, 2));
+    assert_eq!(case.row, [6, 6]);
 }
 
 /// Refusal and state of a reply: n0, N, s, P, cap, edition, r.
@@ -77,7 +84,7 @@ fn a_format_of_the_second_edition_byte_by_byte() {
 #[test]
 fn a_wrong_edition_is_refused_by_every_call() {
     for edition in [0, 3, 257, 258, 512, 65535] {
-        for kind in [256, 258, 259, 260, 261, 262] {
+        for kind in [256, 258, 259, 260, 261, 262, 263] {
             let mut case = formatted(2);
             (case.state.edition, case.state.records) = (edition, 24);
             let reply = next(&mut case, kind, 5);

@@ -2,7 +2,7 @@
 -- it is lent; a format of more than 128 pages makes none.
 use denote.Ref.{now}
 use borrow.Author.Needs.{needs}
-use Rattle.commands.proofs.Executing.{too-many, carries-format, carries-put, carries-find, carries-remove, carries-grow, carries-check}
+use Rattle.commands.proofs.Executing.{too-many, carries-format, carries-put, carries-find, carries-remove, carries-grow, carries-check, carries-shrink}
 use Rattle.commands.proofs.execute.execute.Statement.{statement}
 use Rattle.commands.proofs.execute.execute.Tie as tie
 
@@ -53,6 +53,13 @@ returns-7 c =
     let a = k .before .before .before .before .args in
     carries-check (a .state) (now (a .space)) (now (a .row)) (a .command) _ (k .enum-told2 .given .1) (c .check-lent .ensures)
 
+returns-8 : tie.Need-returns-8
+returns-8 c =
+    let f = c .before .before in
+    let k = f .before .before in
+    let a = k .before .before .before .before .args in
+    carries-shrink (a .state) (now (a .space)) (now (a .row)) (a .command) _ (k .enum-told3 .given .1) _ (f .shrink-lent .ensures)
+
 pub execute-spec : {M : Type 1} → statement M
 execute-spec =
     tie.close
@@ -60,6 +67,8 @@ execute-spec =
     (λ c. search needs)
     (λ c κs. search needs)
     returns
+    (λ c κs. search needs)
+    (λ c. search needs)
     (λ c κs. search needs)
     (λ c. search needs)
     (λ c κs. search needs)
@@ -83,4 +92,6 @@ execute-spec =
     (λ c. search needs)
     returns-6
     (λ c. search needs)
-    returns-7)
+    returns-7
+    (λ c. search needs)
+    returns-8)

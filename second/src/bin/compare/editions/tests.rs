@@ -40,7 +40,7 @@ fn accepted_calls_count_where_the_edition_does() {
         }
         assert_eq!(pairs(&case(256, edition, 0), 0), [(row, 256)]);
         assert_eq!(pairs(&case(257, edition, 0), 0), [(row, 257)]);
-        for kind in [261, 262] {
+        for kind in [261, 262, 263] {
             let holding = |key| Case {
                 area: second::image::page_bytes(0, &[second::page::Record { key, value: 7 }]),
                 ..case(kind, edition, 0)
@@ -79,7 +79,7 @@ fn a_run_counts_by_its_items() {
 
 #[test]
 fn a_wrong_edition_is_told_where_it_is_alone() {
-    for kind in [258, 259, 260, 261, 262] {
+    for kind in [258, 259, 260, 261, 262, 263] {
         let wrong = [(ALONE, kind), (WRONG, 65535)];
         assert_eq!(pairs(&case(kind, 65535, 1), 1), wrong);
         assert_eq!(pairs(&case(kind, 9, 1), 1), [(ALONE, kind)]);

@@ -49,8 +49,8 @@ struct reefcushion_slip {
     /* the answer */
     uint64_t value;   /* the commit that is held: of an accepted find, and of refusals 6 and 13; else 0 */
     uint32_t read;    /* how many pages were looked at */
-    uint32_t moved;   /* put, remove: how often a held record went to a neighbouring page; grow: records whose page
-                         differs; else 0 */
+    uint32_t moved;   /* put, remove: how often a held record went to a neighbouring page; grow, shrink: records whose
+                         page differs; else 0 */
     uint16_t refusal; /* the number that the call returned */
     uint16_t page;    /* the broken page of refusal 4; else 0 */
     uint32_t zeros;   /* written as 0 */
@@ -84,6 +84,7 @@ enum reefcushion_refusal {
     REEFCUSHION_NOT_IMAGE = 9,    /* the count, or the order of the records on the pages, is wrong */
     REEFCUSHION_NOT_PUTS = 10,    /* a run's bytes aren't whole put records, each with the right length and kind */
     REEFCUSHION_CLASH = 13,       /* a clash: the key is held with another value, which is in `value` */
+    REEFCUSHION_AT_START = 14,    /* the file has the pages that it started with, n0 x N */
     REEFCUSHION_WRONG_ROOM = 15,  /* the room for a run's replies isn't 28 bytes a record */
     REEFCUSHION_NO_SLIP = 100     /* slip_bytes isn't 40: nothing is done, and nothing written, the slip included */
 };
@@ -151,6 +152,14 @@ uint32_t reefcushion_remove(void *slip, size_t slip_bytes, void *area, size_t ar
    home there with one page more. 100, 1, 2, 3, 8, 4, 9, 7. */
 uint32_t reefcushion_grow(void *slip, size_t slip_bytes, void *area, size_t area_bytes, uint32_t *row, size_t row_counts);
 
+/* One page less, after a check of the whole file: the reverse of grow. An accepted growth followed at once by a shrink gives
+   back the same bytes and state, and so does a shrink followed by a growth. The pages lent stay as many as they were.
+
+   Nothing shrinks by itself. A shrink as soon as no growth is due would be undone by the next puts, a check of the whole
+   file each time. So shrink only while 5 x records <= 36 x (pages - 1), that is, while one page less is filled to three
+   fifths at most: the records then have to become a third more before a growth is due again. 100, 1, 2, 14, 4, 9, 7. */
+uint32_t reefcushion_shrink(void *slip, size_t slip_bytes, void *area, size_t area_bytes);
+
 /* Accepted exactly when the area is the one image of `records` records for this state. 100, 1, 2, 4 with the lowest broken
    page, 9. */
 uint32_t reefcushion_check(void *slip, size_t slip_bytes, const void *area, size_t area_bytes);
@@ -185,6 +194,7 @@ uint32_t reefcushion_due(const void *slip, size_t slip_bytes);
        fn reefcushion_remove(slip: *mut Slip, slip_bytes: usize, area: *mut u8, area_bytes: usize, key: u64) -> u32;
        fn reefcushion_grow(slip: *mut Slip, slip_bytes: usize, area: *mut u8, area_bytes: usize,
                            row: *mut u32, row_counts: usize) -> u32;
+       fn reefcushion_shrink(slip: *mut Slip, slip_bytes: usize, area: *mut u8, area_bytes: usize) -> u32;
        fn reefcushion_check(slip: *mut Slip, slip_bytes: usize, area: *const u8, area_bytes: usize) -> u32;
        fn reefcushion_due(slip: *const Slip, slip_bytes: usize) -> u32;
    } */

@@ -22,6 +22,7 @@ uint32_t baseline_put_run(struct reefcushion_slip *slip, uint8_t *area, size_t b
                           size_t records_bytes, uint8_t *replies, size_t replies_bytes);
 uint32_t baseline_remove(struct reefcushion_slip *slip, uint8_t *area, size_t bytes, uint64_t key);
 uint32_t baseline_grow(struct reefcushion_slip *slip, uint8_t *area, size_t bytes, uint32_t *row, size_t counts);
+uint32_t baseline_shrink(struct reefcushion_slip *slip, uint8_t *area, size_t bytes);
 uint32_t baseline_check(struct reefcushion_slip *slip, const uint8_t *area, size_t bytes);
 
 // 1 where growth is due, otherwise 0.

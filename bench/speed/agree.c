@@ -5,13 +5,10 @@
 #include <string.h>
 
 #include "../common/grouped.h"
-#include "../common/home.h"
 #include "../common/random.h"
 #include "agree.h"
 
-enum { POOL = MOST * 14 };
-static uint64_t seed, place, pool[POOL];
-static uint32_t pool_size;
+static uint64_t seed, place;
 static unsigned long files_of[2]; // by edition
 static struct side saved;
 
@@ -25,36 +22,6 @@ uint32_t below(uint32_t bound) {
 
 bool one_in(uint32_t n) {
     return below(n) == 0;
-}
-
-// A key that is a mover at some step of the file by the last draw that makes one, or just isn't: the draws are followed
-// back to the seed. Edition 2 takes its draws ten later.
-static uint64_t key_at_the_edge(void) {
-    const uint64_t modulus = 2147483647, inverse = 1407677000; // of 16807
-    uint64_t draw = modulus / (2 + below(7)) + below(2);
-    for (uint32_t left = 1 + below(16) + 10u * plain.slip.edition_less_1; left; left--)
-        draw = draw * inverse % modulus;
-    return draw - 1 + (modulus - 1) * below(1000);
-}
-
-// Keys to choose from: any; consecutive; alike at the start; around the turns of the seed; at the edge of moving; few
-// and small.
-static uint64_t key_in_style(uint32_t style, uint32_t i, uint32_t start) {
-    switch (style) {
-    case 0: return any();
-    case 1: return i;
-    case 2: return 1 + (uint64_t)start * below(1u << 30);
-    case 3: return 2147483646 * (uint64_t)below(3) + below(99) - 50;
-    case 4: return key_at_the_edge();
-    default: return below(64);
-    }
-}
-
-// Most keys are put with a value of their own, so that a held key is offered its value again, or another, about as
-// often.
-struct reefcushion_put_record any_put(void) {
-    const uint64_t key = pool[below(pool_size)];
-    return put_record(key, one_in(4) ? any() : ~key);
 }
 
 static struct asked right_for_the_file(enum call call) {
@@ -90,7 +57,7 @@ static void begin_file(uint32_t most) {
         asked.n0 = asked.groups = 1;
     while (asked.n0 * asked.groups > (int)most)
         asked.groups = 1 + below(asked.groups);
-    uint32_t start = asked.n0 * asked.groups, style = below(6);
+    const uint32_t start = asked.n0 * asked.groups;
     asked.cap = (uint16_t)(start + below(most - start + 1));
     asked.bytes = page_start(asked.cap);
     for (size_t i = 0; i < sizeof plain.area; i++)
@@ -98,47 +65,19 @@ static void begin_file(uint32_t most) {
     memcpy(ours.area, plain.area, sizeof plain.area);
     ask(asked.edition == 1 ? any_format() : FORMAT_EDITION, &asked);
     files_of[plain.slip.edition_less_1]++;
-    pool_size = 12 * asked.cap * (2 + below(6)) / 6 + 1;
-    for (uint32_t i = 0; i < pool_size; i++)
-        pool[i] = key_in_style(style, i, start);
-}
-
-// Up to so many different keys that may lie on a page, in order; gives how many there are.
-static uint32_t keys_for_page(uint32_t page, uint32_t wanted, uint64_t key[SLOTS]) {
-    uint32_t home[SLOTS], used = 0;
-    for (uint32_t tries = 0; used < wanted && tries < 60; tries++) {
-        uint64_t k = one_in(2) ? pool[below(pool_size)] : any();
-        uint32_t h = home_of(&plain.slip, k), at = used;
-        if (h > page)
-            continue;
-        while (at && (home[at - 1] > h || (home[at - 1] == h && key[at - 1] >= k)))
-            at--;
-        if (at < used && home[at] == h && key[at] == k)
-            continue;
-        memmove(home + at + 1, home + at, sizeof home[0] * (used - at));
-        memmove(key + at + 1, key + at, sizeof key[0] * (used - at));
-        home[at] = h;
-        key[at] = k;
-        used++;
-    }
-    return used;
-}
-
-// A page that keeps the page rules, but whose records need not belong there.
-static void make_page(uint32_t address) {
-    uint64_t key[SLOTS];
-    uint32_t used = keys_for_page(address, one_in(3) ? below(SLOTS + 1) : SLOTS, key);
-    uint8_t *page = plain.area + page_start(address);
-    set_used(page, used);
-    for (uint32_t i = 0; i < used; i++)
-        write_slot(slot_of(page, i), MARK_RECORD, key[i], any());
-    for (uint32_t i = used; i < SLOTS; i++)
-        write_slot(slot_of(page, i), MARK_EMPTY, 0, 0);
+    choose_pool();
 }
 
 static enum call any_call(void) {
-    uint32_t n = below(41);
-    return n < 18 ? PUT : n < 25 ? FIND : n < 32 ? REMOVE : n < 35 ? GROW : n < 38 ? CHECK : n < 40 ? DUE : PUT_RUN;
+    uint32_t n = below(44);
+    return n < 18   ? PUT
+           : n < 25 ? FIND
+           : n < 32 ? REMOVE
+           : n < 35 ? GROW
+           : n < 38 ? SHRINK
+           : n < 41 ? CHECK
+           : n < 43 ? DUE
+                    : PUT_RUN;
 }
 
 // Some calls on a file that is damaged in one way or several, then the file as it was. Runs are asked for more often
@@ -180,29 +119,74 @@ static void ask_with_wrong_numbers(void) {
         ask(any_format(), &format);
         ours = plain = saved;
     }
-    ask(one_in(2) ? GROW : any_call(), &asked);
+    ask(one_in(2) ? GROW : one_in(4) ? SHRINK : any_call(), &asked);
     ours = plain = saved;
     ask_with_wrong_slip(&asked);
 }
 
-// Whether a growth makes sense now: as soon as it is due, as it comes, or late, so that very many records move at once.
-enum pace { EAGER, CASUAL, LATE, PACES };
+// How a file comes to its size: it grows as soon as that is due; or as it comes; or late, so that very many records
+// move at once, and shrinks then too; or it grows and shrinks with the tide, by the rules that the header has.
+enum pace { EAGER, CASUAL, LATE, TIDAL, PACES };
 
 static bool time_to_grow(enum pace pace) {
     const struct reefcushion_slip *slip = &plain.slip;
     return pace == LATE ? slip->records > 7u * slip->cap : slip->records > 6u * slip->pages;
 }
 
-// One file from its format on.
+static bool time_to_shrink(enum pace pace) {
+    const struct reefcushion_slip *slip = &plain.slip;
+    return slip->pages > slip->n0 * slip->groups &&
+           (pace == LATE ? time_to_grow(LATE) : 5 * slip->records <= 36 * (slip->pages - 1u));
+}
+
+// Mostly a call that makes sense now. A growth or a shrink that doesn't gives way to what brings its time nearer, and
+// at ebb records go.
+static enum call call_for(enum pace pace, bool ebb) {
+    enum call call = any_call();
+    if (call == GROW && !time_to_grow(pace) && !one_in(30))
+        call = PUT;
+    if (call == SHRINK && !time_to_shrink(pace) && !one_in(30))
+        call = REMOVE;
+    return ebb && (call == PUT || call == PUT_RUN) ? REMOVE : call;
+}
+
+// Growths and shrinks of a file that is full or nearly, then the file as it was. It is filled on the plain side alone,
+// since puts are compared elsewhere, until so many keys have found no room.
+static void ask_full(void) {
+    struct asked asked = right_for_the_file(SHRINK);
+    saved = plain;
+    for (uint32_t left = 100; left;)
+        left -= baseline_put(&plain.slip, plain.area, asked.bytes, any(), any()) == REEFCUSHION_NO_ROOM;
+    ours = plain;
+    for (uint32_t left = 1 + below(4); left; left--)
+        ask(one_in(3) ? GROW : SHRINK, &asked);
+    ours = plain = saved;
+}
+
+// What the pace of a file asks for beside any call.
+static void keep_pace(enum pace pace, bool ebb) {
+    struct asked asked = right_for_the_file(CHECK);
+    if ((pace == EAGER || (pace == TIDAL && !ebb)) && ask(DUE, &asked))
+        ask(GROW, &asked);
+    if (pace == TIDAL && ebb && time_to_shrink(pace))
+        ask(SHRINK, &asked);
+    if (one_in(40u * plain.slip.cap))
+        ask_full();
+    if (one_in(60)) {
+        enum call there = one_in(2) ? GROW : SHRINK;
+        ask_there_and_back(there, there == GROW ? SHRINK : GROW, &asked);
+    }
+}
+
+// One file from its format on. The tide turns every so many calls.
 static void use_file(uint32_t calls, enum pace pace) {
+    const uint32_t tide = calls / (2 + 2 * below(4));
     for (; calls; calls--) {
-        enum call call = any_call();
-        if (call == GROW && !time_to_grow(pace) && !one_in(30))
-            call = PUT;
+        const bool ebb = pace == TIDAL && calls / tide % 2 == 0;
+        enum call call = call_for(pace, ebb);
         struct asked asked = right_for_the_file(call);
         ask(call, &asked);
-        if (pace == EAGER && ask(DUE, &asked))
-            ask(GROW, &asked);
+        keep_pace(pace, ebb);
         if (one_in(16))
             ask_damaged();
         if (one_in(40))
@@ -228,6 +212,9 @@ int main(int words, char **word) {
          "calls leave them and on damaged ones, with right numbers and with wrong ones. After each call the answers, "
          "the areas, the rows and the rooms for replies have to be the same, byte for byte. Before each call it is "
          "drawn in which of its two ways C works homes out (key by key or in step, see below).\n");
+    printf("Where a growth is followed at once by a shrink, or a shrink by a growth, the file has to be what it was "
+           "before both: so it was, each of the %s times that the first of the two was accepted.\n\n",
+           grouped((double)ways_there_and_back));
     printf("Files of up to %u, %u and %u pages: %lu, %lu and %lu. Files of edition 1 and of edition 2: %lu and %lu. "
            "How often each call gave each answer (0 is accepted, the others are the refusals; for due 1 is yes):\n\n",
            most[0], most[1], most[2], files[0], files[1], files[2], files_of[0], files_of[1]);

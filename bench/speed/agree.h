@@ -7,7 +7,7 @@
 #include "../common/run.h"
 
 enum { MOST = 512, MOST_ITEMS = 400 }; // pages of the largest file here, puts of the longest run
-enum call { FORMAT, FORMAT_EDITION, FIND, PUT, REMOVE, GROW, CHECK, DUE, PUT_RUN, CALLS };
+enum call { FORMAT, FORMAT_EDITION, FIND, PUT, REMOVE, GROW, SHRINK, CHECK, DUE, PUT_RUN, CALLS };
 
 // One side's file and its room for replies, with a page, a count and some replies more than the largest, so that
 // writing past the end is seen.
@@ -18,7 +18,7 @@ struct side {
     uint8_t room[REPLY_BYTES * (MOST_ITEMS + 4)];
 };
 extern struct side ours, plain;
-extern unsigned long calls_made, runs_made, puts_in_runs;
+extern unsigned long calls_made, runs_made, puts_in_runs, ways_there_and_back;
 
 // What a call is asked beside the file itself, and in which of its two ways the plain side works.
 struct asked {
@@ -34,14 +34,22 @@ struct asked {
 // Makes the call to both sides and ends the program where they differ; gives the refusal.
 uint32_t ask(enum call call, const struct asked *asked);
 
+// Makes both calls, a growth and a shrink in either order, and ends the program where both sides agree but the second,
+// after a first one that was accepted, doesn't bring the file back to what it was before.
+void ask_there_and_back(enum call there, enum call back, const struct asked *asked);
+
 // Makes each call with a slip of another length and ends the program where it does anything.
 void ask_with_wrong_slip(const struct asked *asked);
 
 // Prints how often each call gave each refusal; whether all that the calls give were seen, in either way.
 bool tell_what_was_seen(void);
 
-// A put of a key of the file's pool.
+// A pool of keys for a file that has just begun, and a put of one of them.
+void choose_pool(void);
 struct reefcushion_put_record any_put(void);
+
+// A page that keeps the page rules, but whose records need not belong there.
+void make_page(uint32_t address);
 
 // Gives what is asked a run of such puts, of hundreds or some or one or none; and now and then what isn't one.
 void add_run(struct asked *asked);

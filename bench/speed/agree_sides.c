@@ -7,18 +7,20 @@
 #include "agree.h"
 
 // The answers that calls give, by number; 11 and 12 are the log's own.
-enum { ANSWERS = 13, LARGEST = 15 };
-static const uint32_t answers[ANSWERS] = {0, 1, 2, 3, 4, 5, 6, 7, 8, 9, 10, 13, LARGEST};
+enum { ANSWERS = 14, LARGEST = 15 };
+static const uint32_t answers[ANSWERS] = {0, 1, 2, 3, 4, 5, 6, 7, 8, 9, 10, 13, 14, LARGEST};
 struct side ours, plain;
-unsigned long calls_made, runs_made, puts_in_runs;
+unsigned long calls_made, runs_made, puts_in_runs, ways_there_and_back;
 
 // The rows of the table: the calls, and the puts that stand in runs.
 enum { PUT_IN_RUN = CALLS, ROWS };
 static const char *const names[ROWS] = {
-    "format", "format of an edition", "find", "put", "remove", "grow", "check", "due", "pay run", "put in a run"};
+    "format",  "format of an edition", "find", "put", "remove", "grow", "shrink", "check", "due",
+    "pay run", "put in a run"};
 static unsigned long seen[2][ROWS][LARGEST + 1]; // by the way that the plain side worked
 
-// The refusals that each call gives by the documents, as bits; for due its two answers.
+// The refusals that each call gives by the documents, as bits; for due its two answers. No shrink meets refusal 7,
+// since homes only sink.
 enum { OF_FORMAT = 1 << 0 | 1 << 1 | 1 << 2 };
 enum { OF_PUT = 1 << 0 | 1 << 1 | 1 << 2 | 1 << 4 | 1 << 6 | 1 << 7 | 1 << 9 | 1 << 13 };
 static const unsigned expected[ROWS] = {
@@ -28,6 +30,7 @@ static const unsigned expected[ROWS] = {
     OF_PUT,
     1 << 0 | 1 << 1 | 1 << 2 | 1 << 4 | 1 << 5 | 1 << 9,
     1 << 0 | 1 << 1 | 1 << 2 | 1 << 3 | 1 << 4 | 1 << 7 | 1 << 8 | 1 << 9,
+    1 << 0 | 1 << 1 | 1 << 2 | 1 << 4 | 1 << 9 | 1 << 14,
     1 << 0 | 1 << 1 | 1 << 2 | 1 << 4 | 1 << 9,
     1 << 0 | 1 << 1,
     1 << 0 | 1 << 10 | 1 << 15,
@@ -69,6 +72,7 @@ static uint32_t ask_ours(enum call call, const struct asked *ask, struct reefcus
     case PUT: return reefcushion_put(slip, length, ours.area, ask->bytes, ask->key, ask->value);
     case REMOVE: return reefcushion_remove(slip, length, ours.area, ask->bytes, ask->key);
     case GROW: return reefcushion_grow(slip, length, ours.area, ask->bytes, ours.row, ask->counts);
+    case SHRINK: return reefcushion_shrink(slip, length, ours.area, ask->bytes);
     case CHECK: return reefcushion_check(slip, length, ours.area, ask->bytes);
     case PUT_RUN:
         return reefcushion_put_run(slip, length, ours.area, ask->bytes, ask->records, ask->records_bytes,
@@ -90,6 +94,7 @@ static uint32_t ask_plain(enum call call, const struct asked *ask) {
     case PUT: return baseline_put(slip, plain.area, ask->bytes, ask->key, ask->value);
     case REMOVE: return baseline_remove(slip, plain.area, ask->bytes, ask->key);
     case GROW: return baseline_grow(slip, plain.area, ask->bytes, plain.row, ask->counts);
+    case SHRINK: return baseline_shrink(slip, plain.area, ask->bytes);
     case CHECK: return baseline_check(slip, plain.area, ask->bytes);
     case PUT_RUN:
         return baseline_put_run(slip, plain.area, ask->bytes, ask->records, ask->records_bytes, lent_room(&plain, ask),
@@ -137,6 +142,19 @@ uint32_t ask(enum call call, const struct asked *asked) {
     return right;
 }
 
+void ask_there_and_back(enum call there, enum call back, const struct asked *asked) {
+    static struct side before;
+    before = plain;
+    if (ask(there, asked))
+        return;
+    if (ask(back, asked) || memcmp(&before.slip, &plain.slip, offsetof(struct reefcushion_slip, value)) ||
+        memcmp(before.area, plain.area, sizeof plain.area)) {
+        fprintf(stderr, "%s, then %s: the file isn't what it was\n", names[there], names[back]);
+        exit(1);
+    }
+    ways_there_and_back++;
+}
+
 void ask_with_wrong_slip(const struct asked *asked) {
     for (int call = 0; call < CALLS; call++) {
         size_t length = call % 2 ? sizeof ours.slip - 1 : sizeof ours.slip + 1;
@@ -165,8 +183,8 @@ static bool tell_cell(int row, uint32_t refusal) {
 
 bool tell_what_was_seen(void) {
     bool all = true;
-    puts("| call | 0 | 1 | 2 | 3 | 4 | 5 | 6 | 7 | 8 | 9 | 10 | 13 | 15 |");
-    puts("|---|--:|--:|--:|--:|--:|--:|--:|--:|--:|--:|--:|--:|--:|");
+    puts("| call | 0 | 1 | 2 | 3 | 4 | 5 | 6 | 7 | 8 | 9 | 10 | 13 | 14 | 15 |");
+    puts("|---|--:|--:|--:|--:|--:|--:|--:|--:|--:|--:|--:|--:|--:|--:|");
     for (int row = 0; row < ROWS; row++) {
         printf("| %s |", names[row]);
         for (uint32_t i = 0; i < ANSWERS; i++)

@@ -8,7 +8,7 @@
 
 enum { ROUNDS = 60, FEWEST_ROUNDS = 12, LENT = 4096 };
 const char *const style_names[STYLES] = {"random", "consecutive", "consecutive, edition 2"};
-const char *const call_names[CALLS] = {"find (held)", "find (absent)", "put", "remove", "grow", "check"};
+const char *const call_names[CALLS] = {"find (held)", "find (absent)", "put", "remove", "grow", "shrink", "check"};
 static const struct size sizes[SIZES] = {{16, false, true},  {64, true, true},    {256, false, true},
                                          {512, true, false}, {1024, false, true}, {4096, true, true}};
 struct figures figures[FILES];
@@ -26,8 +26,10 @@ static void measure(struct figures *at, unsigned scale) {
     at->cost[FIND_ABSENT] = time_find(&files, false, ROUNDS * scale);
     time_put_and_remove(&files, ROUNDS * scale, &at->cost[PUT], &at->cost[REMOVE]);
     at->cost[CHECK] = time_check(&files, whole_rounds(pages, scale));
-    if (at->size.compared)
+    if (at->size.compared) {
+        at->cost[SHRINK] = time_shrink(&files, whole_rounds(pages, scale), &at->shrink_to_check);
         at->run = time_run(&files, FEWEST_ROUNDS * scale);
+    }
     at->read_by_find = pages_read(&files, false);
     at->read_by_put = pages_read(&files, true);
     at->cap = cap;
@@ -52,14 +54,15 @@ static void print_head(unsigned scale) {
          "new pages at the first step of growth, so pages fill unevenly and walks are longer; edition 2 takes each "
          "step's draw ten later, which spreads them. Files are of edition 1 where edition 2 isn't named.\n");
     printf("A round times one batch of calls by each of the three, on equal files, with the same keys and in changing "
-           "order, and they have to do the same. A figure is the median of the rounds (%s, for pay runs and for check "
-           "and grow of large files %s), and a ratio is the median of the rounds' ratios.\n\n",
+           "order, and they have to do the same. A figure is the median of the rounds (%s, for pay runs and for check, "
+           "grow and shrink of large files %s), and a ratio is the median of the rounds' ratios.\n\n",
            grouped(ROUNDS * scale), grouped(FEWEST_ROUNDS * scale));
 }
 
 static void print_calls(void) {
     puts("### A call, in nanoseconds\n");
-    puts("Where P is the lent size, grow goes from P - 1 to P, otherwise from P to P + 1.\n");
+    puts("Where P is the lent size, grow goes from P - 1 to P, otherwise from P to P + 1; shrink goes from P to P - "
+         "1.\n");
     puts("| keys | P | lent | records | call | ours | C | ours / C | C in step | ours / C in step |");
     puts("|---|--:|--:|--:|---|--:|--:|--:|--:|--:|");
     for (const struct figures *at = figures; at < figures + FILES; at++)
@@ -72,14 +75,17 @@ static void print_calls(void) {
         }
 }
 
-static void print_growth(void) {
-    puts("\n### A growth, in checks of the same file\n");
-    puts("| keys | P | ours | C | C in step |");
-    puts("|---|--:|--:|--:|--:|");
-    for (const struct figures *at = figures; at < figures + FILES; at++)
+static void print_resize(void) {
+    puts("\n### A growth and a shrink, in checks of the same file\n");
+    puts("| keys | P | grow: ours | C | C in step | shrink: ours | C | C in step |");
+    puts("|---|--:|--:|--:|--:|--:|--:|--:|");
+    for (const struct figures *at = figures; at < figures + FILES; at++) {
+        const double *grow = at->grow_to_check.of, *shrink = at->shrink_to_check.of;
         if (at->size.compared)
-            printf("| %s | %s | %.2f | %.2f | %.2f |\n", style_names[at->style], grouped(at->size.pages),
-                   at->grow_to_check.of[OURS], at->grow_to_check.of[C], at->grow_to_check.of[IN_STEP]);
+            printf("| %s | %s | %.2f | %.2f | %.2f | %.2f | %.2f | %.2f |\n", style_names[at->style],
+                   grouped(at->size.pages), grow[OURS], grow[C], grow[IN_STEP], shrink[OURS], shrink[C],
+                   shrink[IN_STEP]);
+    }
 }
 
 static void print_runs(void) {
@@ -109,11 +115,11 @@ static void print_reasons(void) {
          "at P 64 there are four, and what a page costs beside them shows: the seeds and first pages of twelve keys, "
          "which go through memory, the inverse that remainders are found by, which C works out once a call, and the "
          "page itself, which is read into memory as one value. Put and remove judge first and write then, and read "
-         "again what they write. C moves only the records that a growth displaces; ours lays all of them anew, and "
-         "works out again the homes of those that lie off their page. C in step draws from step to step, which takes "
-         "shorter products than a table, and holds a page in place, in loops made for the processor's registers. A "
-         "run of ours works out the homes of twelve puts together and for the rest does for each what a call does; C "
-         "works each home out by itself, and looks at the state once a run.");
+         "again what they write. C moves only the records that a growth or a shrink displaces; ours lays all of them "
+         "anew, and works out again the homes of those that lie off their page. C in step draws from step to step, "
+         "which takes shorter products than a table, and holds a page in place, in loops made for the processor's "
+         "registers. A run of ours works out the homes of twelve puts together and for the rest does for each what a "
+         "call does; C works each home out by itself, and looks at the state once a run.");
 }
 
 // Grow and check look at all pages lent, so theirs is the cost of a lent page.
@@ -147,21 +153,21 @@ static void print_run_in_short(void) {
 static void print_in_short(void) {
     const struct figures *at = &figures[LARGEST];
     const struct cost *find = &at->cost[FIND_HELD], *put = &at->cost[PUT];
-    const double *grow = at->grow_to_check.of;
+    const double *grow = at->grow_to_check.of, *shrink = at->shrink_to_check.of;
     struct verdict to_c = verdict_on(&calls_to_c), in_step = verdict_on(&calls_to_c_in_step),
-                   growth = verdict_on(&growth_to_check);
+                   resize = verdict_on(&resize_to_check);
     printf("\nIn short: in a file of %s pages with %s random keys, a find of a held key takes %s ns: %.2f times what "
            "the same walk in C takes, and %.2f times what C in step takes, an expert's C for vectors. A put takes %s "
            "ns, %.2f and %.2f times what they take.\n",
            grouped(at->size.pages), grouped(at->records), grouped(find->of[OURS]), find->ratio[C], find->ratio[IN_STEP],
            grouped(put->of[OURS]), put->ratio[C], put->ratio[IN_STEP]);
-    printf(
-        "\nIn short: growing that file by a page takes as long as %.2f checks of it (in C %.2f, in C in step %.2f).\n",
-        grow[OURS], grow[C], grow[IN_STEP]);
+    printf("\nIn short: growing that file by a page takes as long as %.2f checks of it (in C %.2f, in C in step %.2f), "
+           "shrinking it by a page as long as %.2f (%.2f, %.2f).\n",
+           grow[OURS], grow[C], grow[IN_STEP], shrink[OURS], shrink[C], shrink[IN_STEP]);
     printf("\nIn short: the target of at most %.1f times C is met by %d of %d figures, that of at most %.1f times C in "
-           "step by %d of %d, and that of a growth of at most %.1f times check by %d of %d.\n",
-           calls_to_c.most, to_c.met, to_c.all, calls_to_c_in_step.most, in_step.met, in_step.all, growth_to_check.most,
-           growth.met, growth.all);
+           "step by %d of %d, and that of a growth or a shrink of at most %.1f times check by %d of %d.\n",
+           calls_to_c.most, to_c.met, to_c.all, calls_to_c_in_step.most, in_step.met, in_step.all, resize_to_check.most,
+           resize.met, resize.all);
 }
 
 int main(int words, char **word) {
@@ -177,8 +183,8 @@ int main(int words, char **word) {
     print_calls();
     print_verdict(&calls_to_c);
     print_verdict(&calls_to_c_in_step);
-    print_growth();
-    print_verdict(&growth_to_check);
+    print_resize();
+    print_verdict(&resize_to_check);
     print_runs();
     print_verdict(&runs_to_single_calls);
     print_reasons();

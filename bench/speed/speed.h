@@ -60,11 +60,12 @@ void next_with_room(struct files *files, uint64_t *key, uint32_t count);
 void take_out(struct files *files, uint64_t *key, uint32_t count);
 void put_back(struct files *files, const uint64_t *key, uint32_t count);
 
-// Nanoseconds a call; for a growth also how many checks it is worth.
+// Nanoseconds a call; for a growth and for a shrink also how many checks it is worth.
 struct cost time_find(struct files *files, bool hit, unsigned rounds);
 void time_put_and_remove(struct files *files, unsigned rounds, struct cost *put, struct cost *remove);
 struct cost time_check(struct files *files, unsigned rounds);
 struct cost time_grow(struct files *files, unsigned rounds, struct cost *to_check);
+struct cost time_shrink(struct files *files, unsigned rounds, struct cost *to_check);
 struct run_cost time_run(struct files *files, unsigned rounds);
 
 // Pages read on average: by a find of a held key, or by a put of one that isn't held.

@@ -2,7 +2,7 @@
 #pragma once
 #include "speed.h"
 
-enum { FIND_HELD, FIND_ABSENT, PUT, REMOVE, GROW, CHECK, CALLS };
+enum { FIND_HELD, FIND_ABSENT, PUT, REMOVE, GROW, SHRINK, CHECK, CALLS };
 extern const char *const style_names[STYLES], *const call_names[CALLS];
 
 // Some sizes are in the tables beside C, some where sizes are followed.
@@ -17,7 +17,7 @@ struct figures {
     struct size size;
     enum style style;
     uint32_t cap, records, longest_run;
-    struct cost cost[CALLS], grow_to_check;
+    struct cost cost[CALLS], grow_to_check, shrink_to_check;
     struct run_cost run; // of the compared files
     double read_by_find, read_by_put;
 };
@@ -35,7 +35,7 @@ struct target {
     const char *const *names;
     int count, places; // how many figures a file has, and decimals a figure
 };
-extern const struct target calls_to_c, calls_to_c_in_step, growth_to_check, runs_to_single_calls;
+extern const struct target calls_to_c, calls_to_c_in_step, resize_to_check, runs_to_single_calls;
 
 // How many of a target's figures meet it, and how many there are.
 struct verdict {

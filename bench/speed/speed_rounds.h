@@ -11,7 +11,8 @@
 
 enum { MOST_ROUNDS = 2048 };
 
-// A batch of calls by one side; gives the sum of the refusals. Check and grow leave the keys alone.
+// A batch of calls by one side; gives the sum of the refusals. Check, grow and shrink leave the keys
+// alone.
 typedef uint32_t batch(struct file *file, const uint64_t *key, uint32_t count);
 
 // The loop stands in each batch, so that no side pays for a call through a pointer.

@@ -12,9 +12,8 @@ static double to_c_in_step(const struct figures *at, int call) {
     return at->cost[call].ratio[IN_STEP];
 }
 
-static double growth(const struct figures *at, int i) {
-    (void)i;
-    return at->grow_to_check.of[OURS];
+static double to_check(const struct figures *at, int i) {
+    return (i ? at->shrink_to_check : at->grow_to_check).of[OURS];
 }
 
 double run_to_single_calls(const struct figures *at, int side) {
@@ -28,7 +27,7 @@ double run_to_run(const struct figures *at, int side) {
 static const char *const run_name = "pay run";
 const struct target calls_to_c = {1.1, "C", to_c, call_names, CALLS, 2};
 const struct target calls_to_c_in_step = {1.1, "C in step", to_c_in_step, call_names, CALLS, 2};
-const struct target growth_to_check = {1.5, "check", growth, &call_names[GROW], 1, 2};
+const struct target resize_to_check = {1.5, "check", to_check, &call_names[GROW], 2, 2}; // grow, and shrink behind it
 const struct target runs_to_single_calls = {1.0, "single calls", run_to_single_calls, &run_name, 1, 3};
 
 static int met_by(const struct target *target, const struct figures *at) {

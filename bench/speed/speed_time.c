@@ -1,4 +1,4 @@
-// The calls that are timed one by one: find, put and remove, check and grow.
+// The calls that are timed one by one: find, put and remove, check, grow and shrink.
 #include "speed_rounds.h"
 
 enum { MOST_BATCH = 64 };
@@ -9,11 +9,13 @@ BATCH(ours_put, reefcushion_put(SLIP, AREA, key[i], ~key[i]))
 BATCH(ours_remove, reefcushion_remove(SLIP, AREA, key[i]))
 BATCH(ours_check, reefcushion_check(SLIP, AREA))
 BATCH(ours_grow, reefcushion_grow(SLIP, AREA, row[OURS], file->slip.cap))
+BATCH(ours_shrink, reefcushion_shrink(SLIP, AREA))
 BATCH(plain_find, baseline_find(&file->slip, AREA, key[i]))
 BATCH(plain_put, baseline_put(&file->slip, AREA, key[i], ~key[i]))
 BATCH(plain_remove, baseline_remove(&file->slip, AREA, key[i]))
 BATCH(plain_check, baseline_check(&file->slip, AREA))
 BATCH(plain_grow, baseline_grow(&file->slip, AREA, row[baseline_in_step ? IN_STEP : C], file->slip.cap))
+BATCH(plain_shrink, baseline_shrink(&file->slip, AREA))
 
 // So few calls a batch that the load of a small file hardly changes.
 static uint32_t batch_size(const struct files *files) {
@@ -75,22 +77,32 @@ static void require_same_rows(uint32_t cap) {
         stop("two rows differ");
 }
 
-// Each round checks the file as it was at first, then grows it; it is restored outside the timed parts.
-struct cost time_grow(struct files *files, unsigned rounds, struct cost *to_check) {
+// Each round checks the file as it was at first, then grows or shrinks it; it is restored outside the timed parts. A
+// shrink leaves the rows alone.
+static struct cost time_resize(struct timing *resize, struct files *files, unsigned rounds, struct cost *to_check) {
     static struct timing check = {.ours = ours_check, .plain = plain_check};
-    static struct timing grow = {.ours = ours_grow, .plain = plain_grow};
-    check.rounds = grow.rounds = 0;
+    check.rounds = resize->rounds = 0;
     for (rounds = held_to(rounds); rounds; rounds--) {
         restore(files);
         time_round(&check, files, NULL, 1, 0);
-        time_round(&grow, files, NULL, 1, 0);
+        time_round(resize, files, NULL, 1, 0);
         require_same_files(files);
         require_same_rows(files->first.slip.cap);
     }
     restore(files);
     for (int side = 0; side < SIDES; side++)
-        to_check->of[side] = median(grow.of[side], check.of[side], grow.rounds);
-    return cost_of(&grow, 1);
+        to_check->of[side] = median(resize->of[side], check.of[side], resize->rounds);
+    return cost_of(resize, 1);
+}
+
+struct cost time_grow(struct files *files, unsigned rounds, struct cost *to_check) {
+    static struct timing grow = {.ours = ours_grow, .plain = plain_grow};
+    return time_resize(&grow, files, rounds, to_check);
+}
+
+struct cost time_shrink(struct files *files, unsigned rounds, struct cost *to_check) {
+    static struct timing shrink = {.ours = ours_shrink, .plain = plain_shrink};
+    return time_resize(&shrink, files, rounds, to_check);
 }
 
 enum { READINGS = 2000 };

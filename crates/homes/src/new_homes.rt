@@ -12,8 +12,8 @@ pub enum Stays {
 }
 
 // The shape that gives the new homes, and where the old ones stay. `apart` says from which home on
-// records stand out of order, as far as known: sorting is right with any number, and quick with a
-// high one that is true.
+// records stand out of order; where no home is so high, the last ones do. Sorting is right with any
+// number, and quick with a high one that is true.
 pub struct NewHomes {
     pub shape: Shape,
     pub stays: Stays,

@@ -159,6 +159,7 @@ pub fn rebuild(area: &mut [u8], cap: usize, new: NewHomes) -> u32
     ensures { λ r. let ps = heldFrom inUse (now (area .entry)) cap 0 in let qs = relaid slots (newHome new) cap ps in ⌜ (r ≡ strayed key ps qs) × (now (area .exit) ≡ areaFrom inUse 0 qs) ⌝ }
 {
     let base = pack(area, cap, new);
-    entries::sort_row(&mut area[base..], new.apart);
+    let apart = (new.apart as u64) < new.shape.p;
+    entries::sort_row(&mut area[base..], new.apart, apart);
     unpack(area, cap, base)
 }

@@ -27,13 +27,13 @@ gathered c =
 
 sort-row-requires : tie.Need-sort-row-requires
 sort-row-requires c κs =
-    let g = gathered (c .before .before .before) in
+    let g = gathered (c .before .before .before .before .before) in
     (part-whole _ _ _ _ _ g, part-distinct _ _ _ _ _ g)
 
 unpack-requires : tie.Need-unpack-requires
 unpack-requires c κs =
     let sorted = c .before .before .before in
-    let packed = sorted .before .before .before .before in
+    let packed = sorted .before .before .before .before .before .before in
     let g = gathered packed in
     let e = sorted .sort-row .ensures in
     let pre = packed .before .before .before .pre in
@@ -43,7 +43,7 @@ returns : tie.Need-returns
 returns c =
     let laid = c .before .before in
     let sorted = laid .before .before .before .before in
-    let g = gathered (sorted .before .before .before .before) in
+    let g = gathered (sorted .before .before .before .before .before .before) in
     let e = sorted .sort-row .ensures in
     (laid .unpack .ensures .0 ∙ back-moved _ _ _ _ _ g _ e, laid .unpack .ensures .1 ∙ back-laid _ _ _ _ _ g _ e)
 
@@ -52,6 +52,7 @@ rebuild-spec =
     tie.close
     (tie.spec
     (λ c κs. search needs)
+    (λ c. search needs)
     (λ c. search needs)
     (λ c. search needs)
     (λ c. search needs)

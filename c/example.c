@@ -1,5 +1,6 @@
-// A register from C: a file is formatted, fed, asked, grown and checked, a pay run is put in one call, and a file of the
-// second edition is made. What it prints stands in example.out.
+// A register from C: a file is formatted, fed, asked, grown and checked, a pay run is put in one call, a file of the
+// second edition is made, and one is shrunk after its leavers. What it prints stands in example.out.
+#include <stdbool.h>
 #include <stdio.h>
 
 #include "reefcushion.h"
@@ -41,6 +42,8 @@ static const char *words(uint32_t refusal) {
         return "these aren't put records end to end";
     case REEFCUSHION_CLASH:
         return "clash";
+    case REEFCUSHION_AT_START:
+        return "the file has the pages that it started with";
     case REEFCUSHION_WRONG_ROOM:
         return "the room isn't a reply a record";
     case REEFCUSHION_NO_SLIP:
@@ -98,6 +101,15 @@ static void find(uint64_t request) {
 static void take_out(uint64_t request) {
     printf("remove %llu", (unsigned long long)request);
     say(&slip, reefcushion_remove(&slip, sizeof slip, area, sizeof area, request));
+}
+
+// Nothing shrinks by itself either. A page is given up only where the rest would be filled to three fifths at most, so
+// that a few new requests don't make the file grow again.
+static void shrink(void) {
+    bool worth_it = 5 * slip.records <= 36 * (slip.pages - 1u);
+    printf("shrink, %s it with %u records on %u of %u pages", worth_it ? "worth" : "not worth", slip.records, slip.pages,
+           slip.cap);
+    say(&slip, reefcushion_shrink(&slip, sizeof slip, area, sizeof area));
 }
 
 // The puts of a run: a repeat, a clash, and more new requests than there is room for.
@@ -205,5 +217,13 @@ int main(void) {
     for (uint64_t i = 1; i <= 10; i++)
         put(i, 800 + i);
     check(&slip);
+
+    printf("Four leave, and the page that was added is given up; there is no other:\n");
+    for (uint64_t i = 1; i <= 4; i++)
+        take_out(2 * i);
+    shrink();
+    check(&slip);
+    find(9);
+    shrink();
     return 0;
 }

@@ -4,7 +4,7 @@ use std::io::{self, BufRead, IsTerminal, Read, Write};
 use std::process::{Child, ChildStdin, ChildStdout, Command, ExitCode, Stdio};
 
 const HELP: &str =
-    "say format N0 N S CAP [EDITION], put KEY VALUE, find KEY, remove KEY, grow, check, or run FILE for a file with a KEY VALUE a line";
+    "say format N0 N S CAP [EDITION], put KEY VALUE, find KEY, remove KEY, grow, shrink, check, or run FILE for a file with a KEY VALUE a line";
 
 // So many puts of a run go out before their replies are fetched: few enough for the pipes to hold both.
 const AT_ONCE: usize = 1000;
@@ -54,6 +54,7 @@ fn parse(words: &[&str]) -> Result<Asked, String> {
         "remove" => (260, 8, 1..=1, u64::MAX),
         "grow" => (261, 0, 0..=0, 0),
         "check" => (262, 0, 0..=0, 0),
+        "shrink" => (263, 0, 0..=0, 0),
         other => return Err(format!("\"{other}\" is no command; {HELP}")),
     };
     let given = words.len() - 1;
@@ -110,6 +111,7 @@ fn refusal(reply: &[u8]) -> String {
         11 => String::from("the input ended within a record"),
         12 => String::from("more than 128 pages asked"),
         13 => format!("clash: commit {} is held", number(reply, 8, 8)),
+        14 => String::from("the file has the pages that it started with"),
         other => format!("an unknown number, {other}"),
     }
 }
@@ -128,7 +130,8 @@ fn accepted(asked: &[u8], reply: &[u8]) -> String {
         259 => format!("commit {}", number(reply, 8, 8)),
         260 => String::from("removed"),
         261 => format!("grown to {}", counted(number(reply, 24, 2), "page")),
-        _ => String::from("the file is whole"),
+        262 => String::from("the file is whole"),
+        _ => format!("shrunk to {}", counted(number(reply, 24, 2), "page")),
     }
 }
 

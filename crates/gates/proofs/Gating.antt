@@ -1,6 +1,6 @@
 -- The gates that need no page: which way out of a call is which refusal.
-use mathlib.Core.Path.{_≡_}
-use mathlib.Core.Bool.{true, false}
+use mathlib.Core.Path.{_≡_, sym, ap}
+use mathlib.Core.Bool.{Bool, true, false, cond}
 use mathlib.Core.List.{List}
 use Prim.Native.Nat.{ℕ, _*_, _<_}
 use native.Mathlib.Omega.{arith}
@@ -92,10 +92,10 @@ module _ (form : Layout) (s : State) (m : ℕ) (g : Gate) (gate : g ≡ gateOf f
   module _ (e : g ≡ Open) where
     -- no page to give up
     pub shrink-start : s .p ≡ firstPages (s .params) → Shut AtStart ≡ shrinkEntry form s m
-    shrink-start k = rw (← gate, e, eq-eqb (s .p) (firstPages (s .params)) k)
+    shrink-start k = rw (← gate, e) (sym (ap (λ (u : Bool). cond u (Shut AtStart) Open) (eq-eqb (s .p) (firstPages (s .params)) k)))
 
     pub shrink-open : (s .p ≡ firstPages (s .params) → ⊥) → Open ≡ shrinkEntry form s m
-    shrink-open k = rw (← gate, e, ne-eqb (s .p) (firstPages (s .params)) k)
+    shrink-open k = rw (← gate, e) (sym (ap (λ (u : Bool). cond u (Shut AtStart) Open) (ne-eqb (s .p) (firstPages (s .params)) k)))
 
 -- what is known past them
 pub past-start : (form : Layout) (s : State) (m : ℕ) → inRange form s ≡ true → m ≡ 256 * s .cap → (s .p ≡ firstPages (s .params) → ⊥) → EnteredToShrink form s m Open

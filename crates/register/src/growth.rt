@@ -22,8 +22,8 @@ fn fill_row(row: &mut [u32], counts: &[u32])
     }
 }
 
-// A growth that is not refused before it looks at a page. The row is filled where the file is an
-// image, whether or not there is room.
+// A growth that is not refused before it looks at a page. Where the file is an image, the row is
+// filled, and decides whether there is room.
 fn grow_counting(state: State, area: &mut [u8], row: &mut [u32], counts: &mut [u32]) -> Done
     requires { ⌜ EnteredToGrow inUse state (length (now area)) (length (now row)) Open × (length (now counts) ≡ state .cap) ⌝ }
     ensures { λ r. let o = grewEntered state (now (area .entry)) (now (row .entry)) in ⌜ (r ≡ o .done) × ((now (area .exit) ≡ o .area) × (now (row .exit) ≡ o .row)) ⌝ }
@@ -35,7 +35,7 @@ fn grow_counting(state: State, area: &mut [u8], row: &mut [u32], counts: &mut [u
         Gate::Shut { why } => Done { state, answer: why },
         Gate::Open => {
             fill_row(row, &counts[..]);
-            remaking::remake(state, next, new, area, &counts[..])
+            remaking::remake(state, next, new, area, &row[..])
         }
     }
 }

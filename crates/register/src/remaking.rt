@@ -1,5 +1,5 @@
 // A file made anew with a page more or less: the whole file is judged while the new homes of its
-// records are counted, the counts decide, and it is made anew in its own area.
+// records are counted, the counts decide whether there is room, and it is made anew in its own area.
 use gates::Gate;
 use homes::new_homes::NewHomes;
 use homes::new_homes::Stays;

@@ -40,7 +40,8 @@ judge-requires c κs =
 
 remake-requires : tie.Need-remake-requires
 remake-requires c κs =
-    let t = c .before .before .before .before .before .before .before in
+    let f = c .before .before .before .before in
+    let t = f .before .before .before in
     let yes = t .enum-told .given .1 in
     let j = t .before .before .before .before in
     let h = j .before .before .before in
@@ -48,7 +49,7 @@ remake-requires c κs =
     let s = b .args .state in
     let n = b .pre .0 in
     let of = h .beside .ensures .shaped in
-    ((n .0, n .1, sym (j .judge .ensures .0) ∙ yes), rehomes h, of, counted s (h .before .grown .result) _ of (now (b .args .area)) _ _ (j .judge .ensures .1) yes)
+    ((n .0, n .1, sym (j .judge .ensures .0) ∙ yes), rehomes h, of, f .fill-row .ensures ∙ counted s (h .before .grown .result) _ of (now (b .args .area)) _ _ (j .judge .ensures .1) yes)
 
 returns : tie.Need-returns
 returns c =

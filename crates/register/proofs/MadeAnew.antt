@@ -15,7 +15,7 @@ use Rattle.layouts.specs.Layout.{Layout, inUse, slotsOf}
 use Rattle.homes.specs.declared.Shape.{Shape}
 use Rattle.homes.specs.declared.new_homes.NewHomes.{NewHomes}
 use Rattle.homes.specs.Homes.{InRange, firstPages, shapeOf, homeIn}
-use Rattle.homes.specs.steps.NewHomes.{newHome, Agrees}
+use Rattle.homes.specs.steps.NewHomes.{newHome, Usable, Agrees}
 use Rattle.homes.proofs.Homes.{home-below}
 use Rattle.homes.proofs.Keeping.{agrees}
 use Rattle.placing.specs.Image.{All, cat, RecordSet, Room}
@@ -35,7 +35,6 @@ use Rattle.survey.proofs.Knowing.{image-known}
 use Rattle.state.specs.declared.State.{State}
 use Rattle.state.specs.declared.Answer.the-variants.{Accepted, NoRoom}
 use Rattle.state.specs.State.{inRange, homes, grown, shrunk}
-use Rattle.state.specs.Promises.{Ranged}
 use Rattle.state.proofs.Ranges.{ranged, in-shape, grown-range, shrunk-range}
 use Rattle.gates.specs.declared.Gate.{Gate}
 use Rattle.gates.specs.declared.Gate.the-variants.{Open, Shut}
@@ -43,7 +42,7 @@ use Rattle.gates.specs.Gates.{imageOf, imageGate}
 use Rattle.gates.proofs.Judging.{open-counted, GoodFile, open-good}
 use Rattle.changes.specs.Changes.{done}
 use Rattle.changes.proofs.Settling.{Comes}
-use Rattle.register.specs.steps.Past.{Besides, Rehomes, CountedIf}
+use Rattle.register.specs.steps.Past.{besides, Rehomes, CountedIf}
 use Rattle.register.specs.Calls.{homeCounts, remade}
 
 -- the records of an area that is an image are a set
@@ -71,33 +70,22 @@ module _ (s next : State) (e : next ≡ grown s) (range : inRange inUse s ≡ tr
   grown-more = rw e (omega (arith, ranged inUse s range .p-low))
 
   -- and its homes may follow those of the file as it was
-  pub grown-rehomes : {new : NewHomes} → Besides next next new → Rehomes s new
-  grown-rehomes {new} b =
+  pub grown-rehomes : {new : NewHomes} → new ≡ besides next next → Usable new → Rehomes s new
+  grown-rehomes {new} b u =
       let p : next .p ≡ s .p + 1 = rw e in
-      let q : new .shape .p ≡ s .p + 1 = rw (b .shaped) p in
       let a : next .p - 1 + 1 ≡ next .p = omega arith in
-      record {
-        usable = b .usable;
-        follows = rw (b .beside) (rw (b .shaped, e), rw (a, e), inl (omega arith, omega arith));
-        low = omega arith;
-      }
+      record { usable = u; follows = rw b (rw e, rw (a, e), inl (omega arith, omega arith)); low = rw b (omega arith) }
 
 -- a file of one page less
 module _ (s next : State) (e : next ≡ shrunk s) (range : inRange inUse s ≡ true) (more : firstPages (s .params) < s .p) where
   pub shrunk-in : inRange inUse next ≡ true
   shrunk-in = rw e (shrunk-range inUse s range more)
 
-  pub shrunk-rehomes : {new : NewHomes} → Besides next s new → Rehomes s new
-  shrunk-rehomes {new} b =
-      let r : Ranged inUse s = ranged inUse s range in
+  pub shrunk-rehomes : {new : NewHomes} → new ≡ besides next s → Usable new → Rehomes s new
+  shrunk-rehomes {new} b u =
       let p : next .p ≡ s .p - 1 = rw e in
-      let q : new .shape .p ≡ s .p - 1 = rw (b .shaped) p in
       let a : s .p - 1 + 1 ≡ s .p = omega arith in
-      record {
-        usable = b .usable;
-        follows = rw (b .beside) (rw (b .shaped, e), rw a, inr (omega arith, omega arith));
-        low = omega (arith, r .p-high);
-      }
+      record { usable = u; follows = rw b (rw e, rw a, inr (omega arith, omega arith)); low = rw b (omega (arith, ranged inUse s range .p-high)) }
 
 -- new homes of a file's records
 module _ (s : State) (range : inRange inUse s ≡ true) {new : NewHomes} (m : Rehomes s new) where

@@ -1,8 +1,8 @@
 -- What check, grow and shrink do on a file that is the image of its records.
 use mathlib.Core.Path.{_≡_, refl, sym}
-use mathlib.Core.Bool.{cond}
+use mathlib.Core.Bool.{true, cond}
 use mathlib.Core.List.{List, [], _∷_, Permᴰ·symm}
-use Prim.Native.Nat.{ℕ, suc, _<_}
+use Prim.Native.Nat.{ℕ, suc, _+_, _-_, _<_}
 use native.Mathlib.Omega.{arith}
 use lib.Dec.{eqb}
 use lib.ListN.{length}
@@ -26,13 +26,13 @@ use Rattle.pages.proofs.Write.{page-bytes}
 use Rattle.rebuild.specs.Relaid.{relaid}
 use Rattle.state.specs.declared.State.{State}
 use Rattle.state.specs.declared.Answer.the-variants.{Accepted, WrongRow, NoRoom, AtCap, AtStart}
-use Rattle.state.specs.State.{homes, grown, shrunk}
+use Rattle.state.specs.State.{inRange, homes, grown, shrunk}
 use Rattle.state.proofs.Ranges.{grown-range, shrunk-range}
 use Rattle.gates.specs.declared.Gate.the-variants.{Open}
 use Rattle.gates.specs.Gates.{imageGate}
 use Rattle.changes.specs.Changes.{done, refused}
 use Rattle.register.specs.Calls.{homeCounts, remade, withRow}
-use Rattle.register.specs.Files.{grow, shrink, check, fileIn, ofOutcome, ofGrowth, left}
+use Rattle.register.specs.Files.{Call, grow, shrink, check, fileIn, ofOutcome, ofGrowth, leaves, left}
 use Rattle.gates.proofs.Gating.{row-shut, cap-shut, pages-decide, start-shut, pages-decide-shrink}
 use Rattle.gates.proofs.Judging.{good-open}
 use Rattle.register.proofs.CheckImage.{image-good}
@@ -96,6 +96,28 @@ module _ {form : Layout} {s : State} {rs : List Record} {ps : List (List Record)
     pub remade-full : (Room key (homes next) (slotsOf form) (s .cap) rs → ⊥) → remade form s next (areaFrom form 0 ps) ≡ refused s (areaFrom form 0 ps) (NoRoom (s .cap))
     remade-full n = rw (decides, ne-eqb _ _ (λ e. n (room-taken key (homes next) (slotsOf form) (s .cap) rs (w .set) .1 e)))
 
+  -- a call that makes the file anew for q pages, with some row: it is accepted where there is room
+  module _ (q : ℕ) (c : Call) (row : List ℕ) where
+    abbrev sized : State
+    sized = record { params = s .params; p = q; cap = s .cap; r = s .r }
+
+    abbrev Makes : Type 0
+    Makes = let o = remade form s sized (areaFrom form 0 ps) in left (fileIn form s (areaFrom form 0 ps)) c ≡ leaves form (o .done) (o .area) row
+
+    anew-room : Makes → inRange form sized ≡ true → Room key (homes sized) (slotsOf form) (s .cap) rs → Accepts form s ps c 0 row sized rs (λ qs. strayed key ps qs)
+    anew-room m range r =
+        record {
+          read = s .cap;
+          moved = strayed key ps (remadePages form s sized ps);
+          pages = remadePages form s sized ps;
+          left = rw (m, remade-room sized r);
+          stands = record { range = range; set = w .set; formed = w .formed; count = w .count; image = remade-image sized r };
+          moves = refl;
+        }
+
+    anew-full : Makes → (Room key (homes sized) (slotsOf form) (s .cap) rs → ⊥) → Refused form s ps c (NoRoom (s .cap)) row
+    anew-full m n = rw (m, remade-full sized n)
+
   -- the counts of the pages are those of the records
   row-told : homeCounts form s (grown s) (areaFrom form 0 ps) ≡ grownRow s rs
   row-told = rw (clean-held (on-clean w)) (counts-perm (homeFor (homes (grown s))) (w .image .arranged .holds) (s .cap) 0)
@@ -119,18 +141,10 @@ module _ {form : Layout} {s : State} {rs : List Record} {ps : List (List Record)
         grows = rw (← (pages-decide form) s (areaFrom form 0 ps) (length row) Open (on-gate w) refl Open (sym image-open) fits (λ e. omega arith), row-told)
 
         pub grow-with-room : Room key (homes (grown s)) (slotsOf form) (s .cap) rs → Accepts form s ps (grow row) 0 (grownRow s rs) (grown s) rs (λ qs. strayed key ps qs)
-        grow-with-room r =
-            record {
-              read = s .cap;
-              moved = strayed key ps (remadePages form s (grown s) ps);
-              pages = remadePages form s (grown s) ps;
-              left = rw (grows, remade-room (grown s) r);
-              stands = record { range = grown-range form s (w .range) low; set = w .set; formed = w .formed; count = w .count; image = remade-image (grown s) r };
-              moves = refl;
-            }
+        grow-with-room r = anew-room (s .p + 1) (grow row) (grownRow s rs) grows (grown-range form s (w .range) low) r
 
         pub grow-no-room : (Room key (homes (grown s)) (slotsOf form) (s .cap) rs → ⊥) → Refused form s ps (grow row) (NoRoom (s .cap)) (grownRow s rs)
-        grow-no-room n = rw (grows, remade-full (grown s) n)
+        grow-no-room n = anew-full (s .p + 1) (grow row) (grownRow s rs) grows n
 
   -- a shrinking is refused with no page to give up
   pub shrink-no-page : s .p ≡ firstPages (s .params) → Refused form s ps shrink AtStart []
@@ -144,15 +158,7 @@ module _ {form : Layout} {s : State} {rs : List Record} {ps : List (List Record)
     shrinks = rw (← (pages-decide-shrink form) s (areaFrom form 0 ps) Open (on-gate w) refl Open (sym image-open) (λ e. omega arith))
 
     pub shrink-with-room : Room key (homes (shrunk s)) (slotsOf form) (s .cap) rs → Accepts form s ps shrink 0 [] (shrunk s) rs (λ qs. strayed key ps qs)
-    shrink-with-room r =
-        record {
-          read = s .cap;
-          moved = strayed key ps (remadePages form s (shrunk s) ps);
-          pages = remadePages form s (shrunk s) ps;
-          left = rw (shrinks, remade-room (shrunk s) r);
-          stands = record { range = shrunk-range form s (w .range) more; set = w .set; formed = w .formed; count = w .count; image = remade-image (shrunk s) r };
-          moves = refl;
-        }
+    shrink-with-room r = anew-room (s .p - 1) shrink [] shrinks (shrunk-range form s (w .range) more) r
 
     pub shrink-no-room : (Room key (homes (shrunk s)) (slotsOf form) (s .cap) rs → ⊥) → Refused form s ps shrink (NoRoom (s .cap)) []
-    shrink-no-room n = rw (shrinks, remade-full (shrunk s) n)
+    shrink-no-room n = anew-full (s .p - 1) shrink [] shrinks n

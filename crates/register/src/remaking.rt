@@ -10,14 +10,14 @@ use state::State;
 use survey::Count;
 ghost use mathlib.Core.Path.{_≡_};
 ghost use mathlib.Core.Bool.{true};
-ghost use Prim.Native.Nat.{_*_, _<_};
+ghost use Prim.Native.Nat.{_<_};
 ghost use lib.ListN.{length};
 ghost use Rattle.layouts.specs.Layout.{inUse};
 ghost use Rattle.homes.specs.Homes.{firstPages, shapeOf};
+ghost use Rattle.homes.specs.steps.NewHomes.{Usable};
 ghost use Rattle.state.specs.State.{inRange};
-ghost use Rattle.gates.specs.declared.Gate.the-variants.{Open};
 ghost use Rattle.gates.specs.Gates.{imageGate};
-ghost use Rattle.register.specs.steps.Past.{Judgeable, Besides, Rehomes, CountedIf, OpenImage};
+ghost use Rattle.register.specs.steps.Past.{Judgeable, besides, Rehomes, CountedIf, OpenImage};
 ghost use Rattle.register.specs.Calls.{remade, homeCounts};
 
 // The homes in the file `next`, which has a page more or less: `larger` is the one of the two with
@@ -25,7 +25,8 @@ ghost use Rattle.register.specs.Calls.{remade, homeCounts};
 // it stand apart, and those that leave it stand last.
 pub(crate) fn beside(next: State, larger: State) -> NewHomes
     requires { ⌜ (inRange inUse next ≡ true) × (inRange inUse larger ≡ true) × (firstPages (larger .params) < larger .p) ⌝ }
-    ensures { λ r. ⌜ Besides next larger r ⌝ }
+    ensures { λ r. ⌜ r ≡ besides next larger ⌝ }
+    ensures usable { λ r. ⌜ Usable r ⌝ }
 {
     let shape = next.shape();
     let whole = larger.shape();

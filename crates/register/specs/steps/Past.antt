@@ -31,10 +31,9 @@ abbrev pub OpenImage : State → List ℕ → Type 0
 OpenImage s area = (inRange inUse s ≡ true) × (length area ≡ 256 * s .cap) × (imageGate inUse s area ≡ Open)
 
 -- the homes in the file `next`, where `larger` is the one of two files with a page more
-pub record Besides (next larger : State) (new : NewHomes) : Type 0 where
-  pub usable : Usable new
-  pub shaped : new .shape ≡ shapeOf (next .params) (next .p)
-  pub beside : new .stays ≡ Beside (lastStep (shapeOf (larger .params) (larger .p))) (larger .p - 1)
+abbrev pub besides : (next larger : State) → NewHomes
+besides next larger =
+    record { shape = shapeOf (next .params) (next .p); stays = Beside (lastStep (shapeOf (larger .params) (larger .p))) (larger .p - 1); apart = larger .p - 1 }
 
 -- new homes for the records of a file
 pub record Rehomes (s : State) (new : NewHomes) : Type 0 where

@@ -1,11 +1,13 @@
 -- `register::growth::grow_counting` meets its contract: what judging tells decides, and the counts
 -- fill the row.
-use mathlib.Core.Path.{sym, _∙_}
+use mathlib.Core.Path.{_≡_, sym, ap, _∙_}
 use native.Mathlib.Omega.{arith}
 use denote.Ref.{now}
 use borrow.Author.Needs.{needs}
 use Rattle.layouts.specs.Layout.{inUse}
 use Rattle.state.proofs.Ranges.{ranged}
+use Rattle.homes.specs.declared.new_homes.NewHomes.{NewHomes}
+use Rattle.homes.specs.Homes.{shapeOf}
 use Rattle.register.specs.steps.Past.{Rehomes}
 use Rattle.register.proofs.MadeAnew.{grown-in, grown-more, grown-rehomes, counted}
 use Rattle.register.proofs.Answers.{entered-shut, entered-open}
@@ -29,7 +31,11 @@ rehomes : (c : tie.After-beside) → Rehomes (c .before .before .before .before 
 rehomes c =
     let b = c .before .before .before .before .before in
     let n = b .pre .0 in
-    grown-rehomes (b .args .state) _ (c .before .grown .ensures) (n .0) (n .3) (c .beside .ensures)
+    grown-rehomes (b .args .state) _ (c .before .grown .ensures) (n .0) (n .3) (c .beside .ensures .0) (c .beside .ensures .1)
+
+-- and have the shape of the file to be
+shaped : (c : tie.After-beside) → c .beside .result .shape ≡ shapeOf (c .before .grown .result .params) (c .before .grown .result .p)
+shaped c = ap (λ (n : NewHomes). n .shape) (c .beside .ensures .0)
 
 judge-requires : tie.Need-judge-requires
 judge-requires c κs =
@@ -48,7 +54,7 @@ remake-requires c κs =
     let b = h .before .before .before .before .before in
     let s = b .args .state in
     let n = b .pre .0 in
-    let of = h .beside .ensures .shaped in
+    let of = shaped h in
     ((n .0, n .1, sym (j .judge .ensures .0) ∙ yes), rehomes h, of, f .fill-row .ensures ∙ counted s (h .before .grown .result) _ of (now (b .args .area)) _ _ (j .judge .ensures .1) yes)
 
 returns : tie.Need-returns
@@ -66,7 +72,7 @@ returns-2 c =
     let j = t .before .before .before .before in
     let h = j .before .before .before in
     let a = h .before .before .before .before .before .args in
-    let full = counted (a .state) (h .before .grown .result) _ (h .beside .ensures .shaped) (now (a .area)) _ _ (j .judge .ensures .1) yes in
+    let full = counted (a .state) (h .before .grown .result) _ (shaped h) (now (a .area)) _ _ (j .judge .ensures .1) yes in
     entered-open (a .state) (now (a .area)) (now (a .row)) _ (j .judge .ensures .0) yes _ (h .before .grown .ensures) _ _ _ (m .remake .ensures) (f .fill-row .ensures ∙ full)
 
 pub grow-counting-spec : {M : Type 1} → statement M

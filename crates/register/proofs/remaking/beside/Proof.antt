@@ -19,7 +19,7 @@ returns c =
     let l = c .before in
     let w = l .before in
     let s = w .before .shape .ensures in
-    record { usable = record { ready = s .1; step = l .last-step .ensures .1 }; shaped = s .0; beside = rw (l .last-step .ensures .0, w .shape2 .ensures .0) }
+    (rw (s .0, l .last-step .ensures .0, w .shape2 .ensures .0), record { ready = s .1; step = l .last-step .ensures .1 })
 
 pub beside-spec : {M : Type 1} → statement M
 beside-spec = tie.close (tie.spec shape-requires shape-requires-2 last-step-requires (λ c. search needs) (λ c. search needs) returns)

@@ -1,7 +1,9 @@
 -- `register::shrinking::shrink_counting` meets its contract: what judging tells decides.
-use mathlib.Core.Path.{sym, _∙_}
+use mathlib.Core.Path.{_≡_, sym, ap, _∙_}
 use denote.Ref.{now}
 use borrow.Author.Needs.{needs}
+use Rattle.homes.specs.declared.new_homes.NewHomes.{NewHomes}
+use Rattle.homes.specs.Homes.{shapeOf}
 use Rattle.register.specs.steps.Past.{Rehomes}
 use Rattle.register.proofs.MadeAnew.{shrunk-in, shrunk-rehomes, counted}
 use Rattle.register.proofs.Answers.{shrinks-shut, shrinks-open}
@@ -19,7 +21,11 @@ rehomes : (c : tie.After-beside) → Rehomes (c .before .before .before .before 
 rehomes c =
     let b = c .before .before .before .before in
     let n = b .pre .0 in
-    shrunk-rehomes (b .args .state) _ (c .before .shrunk .ensures) (n .0) (n .2) (c .beside .ensures)
+    shrunk-rehomes (b .args .state) _ (c .before .shrunk .ensures) (n .0) (n .2) (c .beside .ensures .0) (c .beside .ensures .1)
+
+-- and have the shape of the file to be
+shaped : (c : tie.After-beside) → c .beside .result .shape ≡ shapeOf (c .before .shrunk .result .params) (c .before .shrunk .result .p)
+shaped c = ap (λ (n : NewHomes). n .shape) (c .beside .ensures .0)
 
 judge-requires : tie.Need-judge-requires
 judge-requires c κs =
@@ -37,7 +43,7 @@ remake-requires c κs =
     let b = h .before .before .before .before in
     let s = b .args .state in
     let n = b .pre .0 in
-    let of = h .beside .ensures .shaped in
+    let of = shaped h in
     ((n .0, n .1, sym (j .judge .ensures .0) ∙ yes), rehomes h, of, counted s (h .before .shrunk .result) _ of (now (b .args .area)) _ _ (j .judge .ensures .1) yes)
 
 returns : tie.Need-returns

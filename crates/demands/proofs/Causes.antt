@@ -2,7 +2,6 @@
 -- length, a broken page, no image.
 use mathlib.Core.Path.{_≡_, refl, sym, _∙_}
 use mathlib.Core.Bool.{Bool, true, false, cond, _&&_, false≢true}
-use mathlib.Core.Logic.{_↔_}
 use mathlib.Core.Option.{Option, none, some}
 use mathlib.Core.List.{List, [], _∷_}
 use Prim.Native.Nat.{ℕ, zero, suc, _+_, _*_, _≤_, _<_}
@@ -11,15 +10,11 @@ use native.Mathlib.Omega.{arith}
 use lib.Dec.{eqb}
 use lib.ListN.{length}
 use Rattle.numbers.specs.Little.{Bytes}
-use Rattle.layouts.specs.Layout.{Layout, slotsOf}
+use Rattle.layouts.specs.Layout.{Layout}
 use Rattle.homes.specs.Homes.{firstPages}
-use Rattle.placing.specs.Image.{cat, Room}
-use Rattle.placing.specs.Lay.{taken}
-use Rattle.placing.proofs.Images.{room-taken}
-use Rattle.placing.proofs.Perms.{perm-length, perm-upTo}
-use Rattle.placing.proofs.Taken.{taken-cong}
+use Rattle.placing.specs.Image.{cat}
 use Rattle.placing.proofs.Seek.{clash}
-use Rattle.pages.specs.Page.{Record, key, homeFor, readPage}
+use Rattle.pages.specs.Page.{Record, readPage}
 use Rattle.pages.specs.Area.{partAt, pagesFrom, heldFrom}
 use Rattle.survey.specs.declared.Verdict.the-variants.{Whole}
 use Rattle.survey.specs.Survey.{lowestBroken, isImage, onBroken, surveyed}
@@ -37,7 +32,6 @@ use Rattle.gates.proofs.Gating.{range-shut, area-shut, gate-open, row-shut, cap
 use Rattle.gates.proofs.Judging.{good-open}
 use Rattle.register.proofs.CheckImage.{image-good, check-image}
 use Rattle.demands.specs.Refusals.{RightArea, SomeBroken, LowestBroken}
-use Rattle.walks.proofs.Clean.{read-held}
 
 -- what every call that has a gate finds first
 pub data Enters (form : Layout) (s : State) (area : List ℕ) : Type 0 where
@@ -158,18 +152,3 @@ try-start f e = go (ℕ-discrete (s .p) (firstPages (s .params)))
     go : Dec (s .p ≡ firstPages (s .params)) → Starts f
     go (yes k) = at-start k (sym (start-shut (f .layout) s (f .area) Open (sym e) refl k))
     go (no k) = above k (sym (pages-decide-shrink (f .layout) s (f .area) Open (sym e) refl (imageGate (f .layout) s (f .area)) refl k))
-
--- there is room for the records of an image in the file of a state where the pages can take all that
--- stand on them
-abbrev pub takesAll : Layout → (s next : State) → List ℕ → Type 0
-takesAll form s next area =
-    let held = cat (heldFrom form area (s .cap) 0) [] in
-    taken (homeFor (homes next)) (slotsOf form) held (s .cap) ≡ length held
-
-pub room-of : (form : Layout) (s next : State) (area : List ℕ) (w : ImageOfR form s area) → takesAll form s next area ↔ Room key (homes next) (slotsOf form) (s .cap) (w .records)
-room-of form s next area w =
-    let h = homeFor (homes next) in
-    let ps = w .is .pages in
-    let p = w .is .image .arranged .holds in
-    let t = room-taken key (homes next) (slotsOf form) (s .cap) (w .records) (w .set) in
-    rw (read-held form (homes s) area (s .cap) 0 ps (w .is .pass), taken-cong h (slotsOf form) (cat ps []) (w .records) (λ j. perm-upTo h j p) (s .cap), perm-length p) (t .1, t .0)

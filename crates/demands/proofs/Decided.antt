@@ -20,7 +20,7 @@ use Rattle.gates.specs.Gates.{onGate, gateOf, imageGate}
 use Rattle.register.specs.OneImage.{ImageOfR}
 use Rattle.changes.specs.Changes.{done}
 use Rattle.register.specs.Files.{Call, format, check, File, left}
-use Rattle.demands.specs.Refusals.{RightArea, LowestBroken, order, OneOf, gives, tells, AcceptedTells, Judges}
+use Rattle.demands.specs.Refusals.{Cause, when, unless, RightArea, SomeBroken, LowestBroken, order, OneOf, gives, tells, AcceptedTells, Judges}
 use Rattle.demands.proofs.InOrder.{listed, one-of, none-of, Comes}
 use Rattle.demands.proofs.Causes.{Enters, out, other, entered, enter, Pages, sick, strange, whole, judge}
 use Rattle.demands.proofs.CallNumbers.{Known, refuses, gated, looks}
@@ -70,6 +70,16 @@ module _ (f : File) (c : Call) {A : Type 0} where
         judges = record { lowest = λ e. absurd (omega arith); up-to = λ e. absurd (omega arith); all = λ v. absurd (none-of 0 (9 ∷ 7 ∷ []) refl v) };
       }
 
+  -- past what is refused before any page: 4 and 9, and then what is made of an image
+  pub onPages : (n : Numbers) (more : List Cause)
+      → ((k : ℕ) → Comes k (order f c) (when 4 (SomeBroken f) ∷ unless 9 (ImageOfR (f .layout) (f .state) (f .area)) ∷ more) → Comes k (order f c) (order f c))
+      → (listed 4 (gives c) ≡ true) × (listed 9 (gives c) ≡ true) → (A → ImageOfR (f .layout) (f .state) (f .area))
+      → ((SomeBroken f → ⊥) → ImageOfR (f .layout) (f .state) (f .area) → Decided f c A n)
+      → Pages f → Decided f c A (onGate (imageGate (f .layout) (f .state) (f .area)) numbers n)
+  onPages n more past given image on (sick a w z i) = rw i (sickly (given .0) (λ v. z (image v)) (past 4 (inl ((a, w .broken), refl))) a w)
+  onPages n more past given image on (strange w z i) = rw i (late 9 refl (given .1) (λ v. z (image v)) (past 9 (inr (w, inl (z, refl)))))
+  onPages n more past given image on (whole w m i) = rw i (on w m)
+
 module _ (f : File) where
   abbrev s : State
   s = f .state
@@ -112,9 +122,9 @@ module _ (f : File) where
     check-decided = rw check-tells (go (enter (f .layout) s area))
       where
         pages : Ranged (f .layout) s → RightArea s area → Pages f → Decided f check Good (onGate (imageGate (f .layout) s area) numbers (told 0 0 0 (s .cap) 0))
-        pages r l (sick a w n i) = rw i (sickly f check refl (λ v. n (v .2)) (inr (r, inr (l, inl ((a, w .broken), refl)))) a w)
-        pages r l (strange w n i) = rw i (late f check 9 refl refl (λ v. n (v .2)) (inr (r, inr (l, inr (w, inl (n, refl))))))
-        pages r l (whole w m i) = rw i (accepts f check refl (r, l, m) (inr (r, inr (l, inr (w, inr (m, none-of 0 (1 ∷ 2 ∷ 4 ∷ 9 ∷ []) refl))))) (s .cap) 0 refl)
+        pages r l =
+            onPages f check (told 0 0 0 (s .cap) 0) [] (λ k w. inr (r, inr (l, w))) (refl, refl) (λ v. v .2)
+            (λ w m. accepts f check refl (r, l, m) (inr (r, inr (l, inr (w, inr (m, none-of 0 (1 ∷ 2 ∷ 4 ∷ 9 ∷ []) refl))))) (s .cap) 0 refl)
 
         go : Enters (f .layout) s area → Decided f check Good (onGate (gateOf (f .layout) s (length area)) numbers (onGate (imageGate (f .layout) s area) numbers (told 0 0 0 (s .cap) 0)))
         go (out r g) = rw g (early f check 1 refl refl (λ a. r (a .0)) (inl (r, refl)) refl)

@@ -3,32 +3,34 @@ use mathlib.Core.Path.{_≡_, refl, sym, ap, _∙_}
 use mathlib.Core.Logic.{_↔_, _⊎_, inl, inr, ⊎-elim}
 use mathlib.Core.Option.{Option, none, some}
 use mathlib.Core.List.{List, [], _∷_}
-use Prim.Native.Nat.{ℕ}
+use Prim.Native.Nat.{ℕ, _<_}
+use native.Mathlib.Decide.{decLt}
 use native.Mathlib.Omega.{arith}
 use Rattle.numbers.specs.Little.{Bytes}
 use Rattle.layouts.specs.Layout.{slotsOf}
+use Rattle.homes.specs.Homes.{firstPages}
 use Rattle.placing.specs.Image.{Image}
 use Rattle.placing.specs.Rows.{counts}
 use Rattle.placing.proofs.Images.{one-image}
 use Rattle.placing.proofs.Perms.{perm-length}
 use Rattle.placing.proofs.Seek.{clash}
 use Rattle.pages.specs.Page.{Record, key, value, homeFor}
-use Rattle.state.specs.State.{homes, grown, shrunk}
+use Rattle.state.specs.State.{homes, grown}
 use Rattle.register.specs.Files.{Call, find, put, remove, grow, shrink, due, File, Left, left, numbersOf}
 use Rattle.demands.specs.Histories.{refusal, Kept, stateOf, commitOf}
-use Rattle.demands.specs.Demands.{Fresh, Tells, Row, Found, PutTold, Retried, Removed, Sound, TheImage, RoomPut, RoomGrow, RoomShrink, TakenBack, Counted, Agree, AfterFresh, Demands}
+use Rattle.demands.specs.Demands.{Fresh, Tells, Row, Found, PutTold, Retried, Removed, Sound, TheImage, RoomPut, RoomGrow, Shrinks, TakenBack, Counted, Agree, AfterFresh, Demands}
 use Rattle.demands.specs.Refusals.{OneOf}
 use Rattle.demands.specs.ReadMoved.{ReadHeld, ReadAbsent, ReadWithin, Moved}
 use Rattle.demands.proofs.InOrder.{none-of}
 use Rattle.walks.proofs.Clean.{clean-pass}
 use Rattle.register.proofs.OnImage.{on-clean}
 use Rattle.register.proofs.ImageCalls.{room-told}
-use Rattle.register.proofs.RemadeImage.{check-yes, grow-no-room, grow-with-room, shrink-no-room, shrink-with-room}
+use Rattle.register.proofs.RemadeImage.{check-yes, grow-no-room, grow-with-room, shrink-no-page, shrink-yes}
 use Rattle.register.proofs.RoundTrips as trips
 use Rattle.demands.proofs.Sets.{set-put, same-records}
 use Rattle.demands.proofs.Standing.{Stands, fileOf, find-held, find-absent, remove-absent, remove-held, put-full, put-new}
 use Rattle.demands.proofs.Unchanged.{total}
-use Rattle.state.proofs.Ranges.{in-range}
+use Rattle.state.proofs.Ranges.{ranged, in-range}
 use Rattle.demands.proofs.Refusals.{refusals}
 use Rattle.demands.proofs.Steps.{Step, refused, accepted, said, plain-number, Puts, repeats, clashes, turned-away, joined, Grows, other-row, at-cap, crowded, larger, put-comes, grow-comes, due-stands, step, history}
 use Rattle.demands.proofs.ReadMoved.{read-held-stands, read-absent-stands, read-within-stands, moved-stands}
@@ -143,12 +145,17 @@ module _ (m : Kept) (ps : List (List Record)) (s : Stands m ps) where
       (λ r. number (grow-with-room s row l low r .left))
       (λ n. number (grow-no-room s row l low n))
 
-  room-shrink-stands : RoomShrink m f
-  room-shrink-stands more =
-      either (refusal f shrink) 7 0 (λ z. omega arith)
-      (room-told (slotsOf (m .layout)) (homes (shrunk (stateOf m))) (m .cap) (m .held) (s .set))
-      (λ r. number (shrink-with-room s more r .left))
-      (λ n. number (shrink-no-room s more n))
+  shrinks-stands : Shrinks m f
+  shrinks-stands = go (decLt (firstPages (m .params)) (m .p))
+    where
+      go : Dec (firstPages (m .params) < m .p) → Shrinks m f
+      go (yes more) =
+          let n : refusal f shrink ≡ 0 = number (shrink-yes s more .left) in
+          ((λ e. more, λ l. n), (λ e. absurd (omega arith), λ e. absurd (omega arith)))
+      go (no less) =
+          let e : m .p ≡ firstPages (m .params) = omega (arith, ranged (m .layout) (stateOf m) (s .range) .p-low) in
+          let n : refusal f shrink ≡ 14 = number (shrink-no-page s e) in
+          ((λ z. absurd (omega arith), λ l. absurd (less l)), (λ z. e, λ z. n))
 
   row-stands : Row m f
   row-stands row q = go (grow-comes s row)
@@ -191,9 +198,10 @@ taken-back f b =
           let k = trips.grow-shrink (trips.image-stands (f .layout) (f .state) (f .area) b (a .1) (in-range (f .layout) (f .state) (a .0)) w) row (a .2) (omega (arith, a .3, a .0 .p-high)) (a .4 .room) in
           rw (← w .is .bytes) at k;
       shrink-grow = λ row e l.
-          let a = refusals f b .shrinks .0 e in
-          let w = a .3 .is in
-          let k = trips.shrink-grow (trips.image-stands (f .layout) (f .state) (f .area) b (a .1) (in-range (f .layout) (f .state) (a .0)) w) row l (omega (arith, a .2, a .0 .p-low)) (a .3 .room) in
+          let p = refusals f b .shrinks .0 e in
+          let a = refusals f b .checks .0 (p .0) in
+          let w = a .2 in
+          let k = trips.shrink-grow (trips.image-stands (f .layout) (f .state) (f .area) b (a .1) (in-range (f .layout) (f .state) (a .0)) w) row l (omega (arith, p .1, a .0 .p-low)) in
           rw (← w .is .bytes) at k;
     }
 
@@ -210,7 +218,7 @@ demands =
       same = same;
       room-put = after-fresh RoomPut room-put-stands;
       room-grow = after-fresh RoomGrow room-grow-stands;
-      room-shrink = after-fresh RoomShrink room-shrink-stands;
+      shrinks = after-fresh Shrinks shrinks-stands;
       taken-back = taken-back;
       counted = after-fresh Counted counted-stands;
       read-held = after-fresh (λ m. ReadHeld) read-held-stands;

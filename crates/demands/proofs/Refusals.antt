@@ -6,7 +6,9 @@ use mathlib.Core.List.{[], _∷_}
 use Prim.Native.Nat.{ℕ, _*_, _<_}
 use native.Mathlib.Omega.{arith}
 use Rattle.layouts.specs.Layout.{slotsOn}
+use Rattle.homes.specs.Homes.{firstPages}
 use Rattle.state.specs.Promises.{Ranged}
+use Rattle.state.proofs.Ranges.{in-range}
 use Rattle.state.proofs.Promises.{state-promises}
 use Rattle.numbers.specs.Little.{Bytes}
 use Rattle.state.specs.declared.Answer.{Answer}
@@ -14,7 +16,9 @@ use Rattle.state.specs.declared.Answer.the-variants.{Accepted, OutOfRange, Wron
 use Rattle.state.specs.Answer.{told, numbers}
 use Rattle.state.specs.State.{isDue}
 use Rattle.register.specs.Files.{Call, format, find, put, remove, grow, shrink, check, due, File, Said, answers, says, left, numbersOf}
-use Rattle.demands.specs.Refusals.{order, tells, Plain, Refusals}
+use Rattle.register.proofs.Rooms.{room-to-shrink}
+use Rattle.demands.specs.Histories.{refusal}
+use Rattle.demands.specs.Refusals.{RoomToShrink, order, gives, tells, Plain, Refusals}
 use Rattle.demands.proofs.InOrder.{ranks, differ, listed, one-of, none-of, in-order}
 use Rattle.demands.proofs.CallNumbers.{Known}
 use Rattle.demands.proofs.Decided.{format-decided, check-decided}
@@ -98,6 +102,19 @@ due-says : (f : File) → let X = Ranged (f .layout) (f .state) × (4 * slotsOn 
 unfolding left
 due-says f = says-so (isDue (f .layout) (f .state)) (state-promises .due (f .layout) (f .state))
 
+-- with one page less there is room, so where a check is accepted a shrinking is
+module _ (f : File) (b : Bytes (f .area)) where
+  shrink-room : refusal f check ≡ 0 → (f .state .p ≡ firstPages (f .state .params) → ⊥) → RoomToShrink f
+  shrink-room e k =
+      let w = check-decided f b .accepts .0 e in
+      record { is = w .2; room = room-to-shrink (f .layout) (f .state) (in-range (f .layout) (f .state) (w .0)) (omega (arith, w .0 .p-low)) (f .area) (w .2) }
+
+  shrinks : (refusal f shrink ≡ 0) ↔ ((refusal f check ≡ 0) × (f .state .p ≡ firstPages (f .state .params) → ⊥))
+  shrinks =
+      let d = shrink-decided f b .accepts in
+      let c = check-decided f b .accepts in
+      (λ e. let w = d .0 e in (c .1 (w .0, w .1, w .3), w .2), λ p. let w = c .0 (p .0) in d .1 (w .0, w .1, p .1, w .2))
+
 pub refusals : Refusals
 refusals f b =
     record {
@@ -108,7 +125,9 @@ refusals f b =
       formats = λ q cap. format-decided f q cap .accepts;
       checks = check-decided f b .accepts;
       grows = λ row. grow-decided f row b .accepts;
-      shrinks = shrink-decided f b .accepts;
+      room-to-shrink = shrink-room f b;
+      shrinks = shrinks f b;
+      never-full = λ e. none-of 7 (gives shrink) refl (rw e at (known f b shrink .gives));
       check-judges = check-decided f b .judges;
       grow-judges = λ row. grow-decided f row b .judges;
       shrink-judges = shrink-decided f b .judges;

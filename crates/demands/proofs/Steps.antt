@@ -18,7 +18,7 @@ use Rattle.pages.specs.Page.{Record, key, value}
 use Rattle.pages.specs.Area.{areaFrom}
 use Rattle.state.specs.declared.Answer.{Answer}
 use Rattle.state.specs.declared.Answer.the-variants.{Accepted, OutOfRange, WrongArea, WrongRow, Absent, Held, NoRoom, AtCap, Clash, AtStart}
-use Rattle.state.specs.State.{homes, grown, shrunk}
+use Rattle.state.specs.State.{homes, grown}
 use Rattle.state.specs.Answer.{numbers, again}
 use Rattle.state.proofs.Ranges.{ranged}
 use Rattle.state.proofs.Answers.{again-same, again-other}
@@ -28,7 +28,7 @@ use Rattle.demands.specs.Histories.{Fits, refusal, Kept, stateOf, withou
 use Rattle.register.proofs.After.{same-layout}
 use Rattle.register.proofs.FormatImage.{Begins, began, outside, elsewhere, format-begins}
 use Rattle.register.proofs.ImageCalls.{room-told}
-use Rattle.register.proofs.RemadeImage.{grownRow, check-yes, grow-other-row, grow-no-page, grow-no-room, grow-with-room, shrink-no-page, shrink-no-room, shrink-with-room}
+use Rattle.register.proofs.RemadeImage.{grownRow, check-yes, grow-other-row, grow-no-page, grow-no-room, grow-with-room, shrink-no-page, shrink-yes}
 use Rattle.demands.proofs.Standing.{Stands, fileOf, Refused, Accepts, find-held, find-absent, remove-absent, remove-held, put-held, put-full, put-new}
 use Rattle.demands.proofs.InOrder.{listed, none-of}
 use Rattle.demands.proofs.Sets.{set-put}
@@ -85,14 +85,13 @@ module _ {m : Kept} {ps : List (List Record)} (s : Stands m ps) where
   grow-step row (crowded a) = refused (NoRoom (m .cap)) (grownRow (stateOf m) (m .held)) (refl, refl) a
   grow-step row (larger a) = accepted (paged m) 0 (grownRow (stateOf m) (m .held)) refl refl a
 
-  -- a shrinking, by the pages that it could give up and what there is room for
+  -- a shrinking, by the pages that it could give up
   shrink-step : Step m ps shrink
-  shrink-step = go (decLt (firstPages (m .params)) (m .p)) (room-told (slotsOf (m .layout)) (homes (shrunk (stateOf m))) (m .cap) (m .held) (s .set))
+  shrink-step = go (decLt (firstPages (m .params)) (m .p))
     where
-      go : Dec (firstPages (m .params) < m .p) → Dec (Room key (homes (shrunk (stateOf m))) (slotsOf (m .layout)) (m .cap) (m .held)) → Step m ps shrink
-      go (no f) r = refused AtStart [] (refl, refl) (shrink-no-page s (omega (arith, ranged (m .layout) (stateOf m) (s .range) .p-low)))
-      go (yes more) (no f) = refused (NoRoom (m .cap)) [] (refl, refl) (shrink-no-room s more f)
-      go (yes more) (yes r) = accepted (unpaged m) 0 [] refl refl (shrink-with-room s more r)
+      go : Dec (firstPages (m .params) < m .p) → Step m ps shrink
+      go (no f) = refused AtStart [] (refl, refl) (shrink-no-page s (omega (arith, ranged (m .layout) (stateOf m) (s .range) .p-low)))
+      go (yes more) = accepted (unpaged m) 0 [] refl refl (shrink-yes s more)
 
   find-step : (k : ℕ) → k < 2 ^ 64 → Step m ps (find k)
   find-step k l = go (commitOf k (m .held)) refl

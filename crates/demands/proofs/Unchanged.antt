@@ -1,18 +1,12 @@
 -- A refusal leaves the file, and all but 7 the row: on any bytes.
 use mathlib.Core.Path.{_≡_, refl}
 use mathlib.Core.Bool.{Bool, true, false, cond}
-use mathlib.Core.Logic.{_⊎_, inl, inr}
 use mathlib.Core.List.{List, []}
 use Prim.Native.Nat.{ℕ}
 use lib.Dec.{eqb}
 use lib.ListN.{length, replicate}
-use Rattle.layouts.specs.Layout.{slotsOn, slotsOf}
-use Rattle.placing.specs.Image.{cat}
-use Rattle.placing.specs.Lay.{taken}
-use Rattle.placing.specs.Rows.{strayed}
-use Rattle.pages.specs.Page.{Record, key, homeFor}
-use Rattle.pages.specs.Area.{heldFrom, areaFrom}
-use Rattle.rebuild.specs.Relaid.{relaid}
+use Rattle.layouts.specs.Layout.{slotsOn}
+use Rattle.pages.specs.Area.{areaFrom}
 use Rattle.state.specs.declared.State.{State}
 use Rattle.state.specs.declared.Answer.{Answer}
 use Rattle.state.specs.declared.Answer.the-variants.{Accepted, NoRoom}
@@ -22,7 +16,7 @@ use Rattle.gates.specs.declared.Gate.{Gate}
 use Rattle.gates.specs.declared.Gate.the-variants.{Open, Shut}
 use Rattle.gates.specs.Gates.{onGate, gateOf, imageGate, growGate, shrinkGate}
 use Rattle.changes.specs.Changes.{done, Outcome, refused, settled, putOpen, removeOpen}
-use Rattle.register.specs.Calls.{remade, withRow, grownCounts}
+use Rattle.register.specs.Calls.{hasRoom, remade, growOpen, withRow, grownCounts}
 use Rattle.register.specs.Files.{format, find, put, remove, grow, shrink, check, due, File, Left, ofOutcome, ofGrowth, leaves, left, numbersOf}
 use Rattle.demands.specs.Histories.{refusal}
 use Rattle.demands.specs.Demands.{Total}
@@ -51,42 +45,17 @@ module _ (f : File) where
   walked next true (went pages read moved) = λ n. (refl, λ s. refl)
   walked next false (went pages read moved) = λ n. absurd (n refl)
 
-  -- accepted, or without room and as it was
-  abbrev Made : Left → Type 0
-  Made l = (number l ≡ 0) ⊎ ((number l ≡ 7) × (l .file ≡ f))
-
-  remakes : (next : State) → Made (ofOutcome (f .layout) (remade (f .layout) (f .state) next (f .area)))
-  unfolding remade
-  remakes next = fits (eqb (taken (homeFor (homes next)) (slotsOf (f .layout)) held (s .cap)) (length held))
+  grows : (g : Gate) (row counted : List ℕ) → Leaves f (ofGrowth (f .layout) (onGate g (λ why. withRow (refused (f .state) (f .area) why) row) (withRow (growOpen (f .layout) (f .state) (f .area)) counted))) row
+  unfolding growOpen remade
+  grows (Shut why) row counted = λ n. (refl, λ s. refl)
+  grows Open row counted = room (hasRoom (f .layout) (f .state) (grown (f .state)) (f .area))
     where
-      s : State
-      s = f .state
-
-      old : List (List Record)
-      old = heldFrom (f .layout) (f .area) (s .cap) 0
-
-      held : List Record
-      held = cat old []
-
-      new : List (List Record)
-      new = relaid (slotsOf (f .layout)) (homes next) (s .cap) old
-
-      fits : (u : Bool) → Made (ofOutcome (f .layout) (cond u (record { done = done next (Accepted 0 (s .cap) (strayed key old new)); area = areaFrom (f .layout) 0 new }) (refused s (f .area) (NoRoom (s .cap)))))
-      fits true = inl refl
-      fits false = inr (refl, refl)
-
-  shrinks : (o : Outcome) → Made (ofOutcome (f .layout) o) → Leaves f (ofOutcome (f .layout) o) []
-  shrinks o (inl e) = λ n. absurd (n e)
-  shrinks o (inr e) = λ n. (e .1, λ t. refl)
-
-  grows : (g : Gate) (o : Outcome) (row counted : List ℕ) → Made (ofOutcome (f .layout) o)
-      → Leaves f (ofGrowth (f .layout) (onGate g (λ why. withRow (refused (f .state) (f .area) why) row) (withRow o counted))) row
-  grows (Shut why) o row counted m = λ n. (refl, λ s. refl)
-  grows Open o row counted (inl e) = λ n. absurd (n e)
-  grows Open o row counted (inr e) = λ n. (e .1, λ t. absurd (t (e .0)))
+      room : (u : Bool) → Leaves f (ofGrowth (f .layout) (withRow (cond u (remade (f .layout) (f .state) (grown (f .state)) (f .area)) (refused (f .state) (f .area) (NoRoom (f .state .cap)))) counted)) row
+      room true = λ n. absurd (n refl)
+      room false = λ n. (refl, λ s. absurd (s refl))
 
 pub total : (f : File) → Total f
-unfolding left
+unfolding left remade
 total f (format q cap) = formats (gateOf (f .layout) (fresh q cap) (length (f .area)))
   where
     new : Outcome
@@ -102,13 +71,8 @@ total f (put x) =
 total f (remove k) =
     let s = f .state in
     gated f (gateOf (f .layout) s (length (f .area))) (removeOpen (f .layout) s (f .area) k) (walked f (oneLess s) (eqb (s .r) 0) (removeWalk (f .layout) (homes s) (f .area) (s .cap) k))
-total f (grow row) =
-    let s = f .state in
-    grows f (growGate (f .layout) s (f .area) (length row)) (remade (f .layout) s (grown s) (f .area)) row (grownCounts (f .layout) s (f .area)) (remakes f (grown s))
-total f shrink =
-    let s = f .state in
-    let o = remade (f .layout) s (shrunk s) (f .area) in
-    gated f (shrinkGate (f .layout) s (f .area)) o (shrinks f o (remakes f (shrunk s)))
+total f (grow row) = grows f (growGate (f .layout) (f .state) (f .area) (length row)) row (grownCounts (f .layout) (f .state) (f .area))
+total f shrink = gated f (shrinkGate (f .layout) (f .state) (f .area)) (remade (f .layout) (f .state) (shrunk (f .state)) (f .area)) (λ n. absurd (n refl))
 total f check = checks (gateOf (f .layout) (f .state) (length (f .area))) (imageGate (f .layout) (f .state) (f .area))
   where
     checks : (g i : Gate) → Leaves f (leaves (f .layout) (onGate g (done (f .state)) (onGate i (done (f .state)) (done (f .state) (Accepted 0 (f .state .cap) 0)))) (f .area) []) []

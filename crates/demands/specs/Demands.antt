@@ -13,7 +13,7 @@ use Rattle.homes.specs.Homes.{firstPages}
 use Rattle.placing.specs.Image.{All, RecordSet, Room}
 use Rattle.placing.specs.Rows.{counts}
 use Rattle.pages.specs.Page.{Record, key, value, homeFor}
-use Rattle.state.specs.State.{homes, grown, shrunk}
+use Rattle.state.specs.State.{homes, grown}
 use Rattle.register.specs.OneImage.{AreaImage}
 use Rattle.register.specs.Files.{Call, format, find, put, remove, grow, shrink, check, due, File, says, left, numbersOf, after}
 use Rattle.demands.specs.Histories.{Fits, refusal, Kept, stateOf, recordOf, commitOf, kept}
@@ -98,12 +98,10 @@ module _ (m : Kept) (f : File) where
   RoomGrow = (row : List ℕ) → m .p < m .cap → length row ≡ m .cap
       → let room = Room key (homes (grown (stateOf m))) (slotsOf (m .layout)) (m .cap) (m .held) in ((refusal f (grow row) ≡ 7) ↔ (room → ⊥)) × ((refusal f (grow row) ≡ 0) ↔ room)
 
-  -- 02, request 5: a shrinking "takes grow's answers over, 7 included": of a file with more pages than
-  -- at the start, 7 exactly when there is no arrangement with one page less, and otherwise it is
-  -- accepted
-  abbrev pub RoomShrink : Type 0
-  RoomShrink = firstPages (m .params) < m .p
-      → let room = Room key (homes (shrunk (stateOf m))) (slotsOf (m .layout)) (m .cap) (m .held) in ((refusal f shrink ≡ 7) ↔ (room → ⊥)) × ((refusal f shrink ≡ 0) ↔ room)
+  -- 02, request 10: "Shrinking can't run out of room": a file that has more pages than at the start
+  -- gives one up, and otherwise 14
+  abbrev pub Shrinks : Type 0
+  Shrinks = ((refusal f shrink ≡ 0) ↔ (firstPages (m .params) < m .p)) × ((refusal f shrink ≡ 14) ↔ (m .p ≡ firstPages (m .params)))
 
   -- the state tells the parameters, the lent size, the pages grown to and the number of records
   -- held; 01: "Growth is due exactly when 5r > 48P", which is four times the slots of P pages
@@ -146,7 +144,7 @@ pub record Demands : Type 0 where
   pub same : (a b : Kept) → (f g : File) → Fresh a f → Fresh b g → Agree a b → f ≡ g
   pub room-put : AfterFresh RoomPut
   pub room-grow : AfterFresh RoomGrow
-  pub room-shrink : AfterFresh RoomShrink
+  pub shrinks : AfterFresh Shrinks
   pub taken-back : (f : File) → Bytes (f .area) → TakenBack f
   pub counted : AfterFresh Counted
   pub read-held : AfterFresh (λ m. ReadHeld)

@@ -85,8 +85,8 @@ entry l s area = unless 1 (Ranged l s) ∷ unless 2 (RightArea s area) ∷ []
 -- "Order: format 1, 2 (judged on the numbers it is asked for, not on the state before it). Find 1,
 -- 2, then the walk. Put and remove 1, 2, the walk (4, 5, 6 or 7 as met), then 9. Grow 1, 2, 3, 8,
 -- 4, 9, 7. Check 1, 2, 4, 9." 02, request 1: 13 "stands where 6 stood in the walk"; request 5: "14
--- when P = n0 x N; order 1, 2, 14, 4, 9, 7". Due gives none. What a walk meets is its definition's to
--- say.
+-- when P = n0 x N"; request 10: "shrink's order is now 1, 2, 14, 4, 9". Due gives none. What a walk
+-- meets is its definition's to say.
 abbrev pub order : File → Call → List Cause
 order f (format q cap) = entry (f .layout) (fresh q cap) (f .area)
 order f (find k) = entry (f .layout) (f .state) (f .area)
@@ -98,7 +98,7 @@ order f (grow row) =
     ∷ when 4 (SomeBroken f) ∷ unless 9 (ImageOfR (f .layout) (f .state) (f .area)) ∷ unless 7 (RoomToGrow f) ∷ []
 order f shrink =
     unless 1 (Ranged (f .layout) (f .state)) ∷ unless 2 (RightArea (f .state) (f .area)) ∷ when 14 (f .state .p ≡ firstPages (f .state .params))
-    ∷ when 4 (SomeBroken f) ∷ unless 9 (ImageOfR (f .layout) (f .state) (f .area)) ∷ unless 7 (RoomToShrink f) ∷ []
+    ∷ when 4 (SomeBroken f) ∷ unless 9 (ImageOfR (f .layout) (f .state) (f .area)) ∷ []
 order f check = unless 1 (Ranged (f .layout) (f .state)) ∷ unless 2 (RightArea (f .state) (f .area)) ∷ when 4 (SomeBroken f) ∷ unless 9 (ImageOfR (f .layout) (f .state) (f .area)) ∷ []
 order f due = []
 
@@ -107,15 +107,15 @@ abbrev pub OneOf : (n : ℕ) → List ℕ → Type 0
 OneOf n [] = ⊥
 OneOf n (k ∷ ks) = (n ≡ k) ⊎ OneOf n ks
 
--- the column "Given by", call by call, with 13 by put (02, request 1) and those of shrink (request
--- 5); "refusal 0 means accepted"
+-- the column "Given by", call by call, with 13 by put (02, request 1) and those of shrink (requests
+-- 5 and 10); "refusal 0 means accepted"
 abbrev pub gives : Call → List ℕ
 gives (format q cap) = 0 ∷ 1 ∷ 2 ∷ []
 gives (find k) = 0 ∷ 1 ∷ 2 ∷ 4 ∷ 5 ∷ []
 gives (put x) = 0 ∷ 1 ∷ 2 ∷ 4 ∷ 6 ∷ 7 ∷ 9 ∷ 13 ∷ []
 gives (remove k) = 0 ∷ 1 ∷ 2 ∷ 4 ∷ 5 ∷ 9 ∷ []
 gives (grow row) = 0 ∷ 1 ∷ 2 ∷ 3 ∷ 4 ∷ 7 ∷ 8 ∷ 9 ∷ []
-gives shrink = 0 ∷ 1 ∷ 2 ∷ 4 ∷ 7 ∷ 9 ∷ 14 ∷ []
+gives shrink = 0 ∷ 1 ∷ 2 ∷ 4 ∷ 9 ∷ 14 ∷ []
 gives check = 0 ∷ 1 ∷ 2 ∷ 4 ∷ 9 ∷ []
 gives due = 0 ∷ []
 
@@ -170,9 +170,12 @@ pub record RefusalsOf (f : File) : Type 0 where
   -- grow is accepted where none of its seven is given
   pub grows : (row : List ℕ) → (refusal f (grow row) ≡ 0)
       ↔ (Ranged (f .layout) (f .state) × RightArea (f .state) (f .area) × (length row ≡ f .state .cap) × (f .state .p ≡ f .state .cap → ⊥) × RoomToGrow f)
-  -- and shrink where none of its six is
-  pub shrinks : (refusal f shrink ≡ 0)
-      ↔ (Ranged (f .layout) (f .state) × RightArea (f .state) (f .area) × (f .state .p ≡ firstPages (f .state .params) → ⊥) × RoomToShrink f)
+  -- 02, request 10: "a file that passed its check always has an arrangement", with one page less
+  pub room-to-shrink : refusal f check ≡ 0 → (f .state .p ≡ firstPages (f .state .params) → ⊥) → RoomToShrink f
+  -- so shrink is accepted exactly where check is and P isn't n0 x N
+  pub shrinks : (refusal f shrink ≡ 0) ↔ ((refusal f check ≡ 0) × (f .state .p ≡ firstPages (f .state .params) → ⊥))
+  -- and is never refused for room
+  pub never-full : refusal f shrink ≡ 7 → ⊥
   -- which page 4 tells, and how many pages are read
   pub check-judges : Judges f (tells f check)
   pub grow-judges : (row : List ℕ) → Judges f (tells f (grow row))

@@ -1,6 +1,6 @@
 -- What is promised of records on pages (01, 'The one image' and 'The walks'), for any records, any
 -- home of a key and any number of slots to a page. What is quoted is 01's.
-use Prim.Native.Nat.{ℕ, _^_, _<_}
+use Prim.Native.Nat.{ℕ, _^_, _≤_, _<_}
 use mathlib.Core.Path.{_≡_}
 use mathlib.Core.Logic.{_↔_}
 use mathlib.Core.List.{List, [], _∷_, List·Permᴰ}
@@ -26,6 +26,9 @@ module _ {R : Type 0} (key : R → ℕ) (h : ℕ → ℕ) (b : ℕ) where
     -- and where there is room there is an image: the records in order of (home, key), laid out
     pub room-image : (n : ℕ) (s : List R) → RecordSet key s → Room key h b n s
         → Image key h b n s (lay (homeOf key h) b n 0 (sort (rankIn key h) s))
+    -- 02, request 10: where records "only get lower homes", an arrangement stays one, so there is
+    -- always room
+    pub room-lower : (h′ : ℕ → ℕ) (n : ℕ) (s : List R) → ((k : ℕ) → h′ k ≤ h k) → Room key h b n s → Room key h′ b n s
     -- "A page that holds the key ends it with the value. Otherwise .. 5": on an image, find's walk
     -- comes to the record of the key exactly where one is held
     pub find-image : {n : ℕ} {s : List R} {ps : List (List R)} (k : ℕ) → k < 2 ^ 64 → RecordSet key s

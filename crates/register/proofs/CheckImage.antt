@@ -56,7 +56,7 @@ module _ (form : Layout) (s : State) (area : List ℕ) (b : Bytes area) (l : len
   good e = good-pages form (homes s) area b (s .cap) 0 (omega arith) e
 
   -- what opens the gate is 01's image, and the other way round
-  good-image : GoodFile form s area → ImageOfR form s area
+  pub good-image : GoodFile form s area → ImageOfR form s area
   good-image k =
       let ps : List (List Record) = heldFrom form area (s .cap) 0 in
       let g : GoodFrom form (homes s) 0 ps = good (k .whole) in

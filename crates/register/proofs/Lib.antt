@@ -4,6 +4,7 @@ pub mod Answers
 pub mod Settling
 pub mod MadeAnew
 pub mod CheckImage
+pub mod Rooms
 pub mod Promises
 pub mod OnImage
 pub mod FormatImage

@@ -1,7 +1,7 @@
 -- A file made anew past its gate: the records are a set, their homes are pages, and the counts tell
 -- whether they have room.
-use mathlib.Core.Path.{_≡_, refl, sym, ap, _∙_}
-use mathlib.Core.Bool.{Bool, true, false}
+use mathlib.Core.Path.{_≡_, sym, ap, _∙_}
+use mathlib.Core.Bool.{Bool, true}
 use mathlib.Core.Logic.{_↔_, inl, inr}
 use mathlib.Core.List.{List, [], _∷_}
 use Prim.Native.Nat.{ℕ, _+_, _-_, _*_, _≤_, _<_}
@@ -20,7 +20,7 @@ use Rattle.homes.proofs.Homes.{home-below}
 use Rattle.homes.proofs.Keeping.{agrees}
 use Rattle.placing.specs.Image.{All, cat, RecordSet, Room}
 use Rattle.placing.specs.Lay.{taken}
-use Rattle.placing.specs.Rows.{counts, leftOver, strayed}
+use Rattle.placing.specs.Rows.{leftOver, strayed}
 use Rattle.placing.proofs.Images.{room-taken}
 use Rattle.placing.proofs.Rows.{counts-length, row-room}
 use Rattle.pages.specs.Page.{Record, key, homeFor}
@@ -33,7 +33,7 @@ use Rattle.survey.specs.steps.Counts.{Counts, Countable}
 use Rattle.survey.proofs.ImageTest.{image-set, good-pages}
 use Rattle.survey.proofs.Knowing.{image-known}
 use Rattle.state.specs.declared.State.{State}
-use Rattle.state.specs.declared.Answer.the-variants.{Accepted, NoRoom}
+use Rattle.state.specs.declared.Answer.the-variants.{Accepted}
 use Rattle.state.specs.State.{inRange, homes, grown, shrunk}
 use Rattle.state.proofs.Ranges.{ranged, in-shape, grown-range, shrunk-range}
 use Rattle.gates.specs.declared.Gate.{Gate}
@@ -43,7 +43,7 @@ use Rattle.gates.proofs.Judging.{open-counted, GoodFile, open-good}
 use Rattle.changes.specs.Changes.{done}
 use Rattle.changes.proofs.Settling.{Comes}
 use Rattle.register.specs.steps.Past.{besides, Rehomes, CountedIf}
-use Rattle.register.specs.Calls.{homeCounts, remade}
+use Rattle.register.specs.Calls.{homeCounts, hasRoom, remade}
 
 -- the records of an area that is an image are a set
 pub held-set : (form : Layout) (s : State) (area : List ℕ) → Bytes area → length area ≡ 256 * s .cap → imageGate form s area ≡ Open
@@ -134,26 +134,24 @@ module _ (form : Layout) (s next : State) (shape : InRange (next .params) (next 
       let e = row-takes area in
       (λ z. t .1 (eqb-true _ _ (sym e ∙ eq-eqb _ 0 z)), λ r. eqb-true _ 0 (e ∙ eq-eqb _ _ (t .0 r)))
 
-  module _ (area row : List ℕ) (filled : row ≡ homeCounts form s next area) (room : Bool) (told : room ≡ eqb (leftOver (slotsOf form) row 0) 0) where
-    decided : eqb (taken (homeFor (homes next)) (slotsOf form) (cat (heldFrom form area (s .cap) 0) []) (s .cap)) (length (cat (heldFrom form area (s .cap) 0) [])) ≡ room
-    decided = sym (told ∙ rw filled (row-takes area))
+  -- and so whether there is room
+  pub row-rooms : (area row : List ℕ) → row ≡ homeCounts form s next area → (room : Bool) → room ≡ eqb (leftOver (slotsOf form) row 0) 0 → hasRoom form s next area ≡ room
+  unfolding hasRoom
+  row-rooms area row filled room told = sym (told ∙ rw filled (row-takes area))
 
-    -- without room the area stays
-    pub remake-full : room ≡ false → Comes (done s (NoRoom (s .cap))) area (remade form s next area)
-    unfolding remade
-    remake-full e = rw (decided, e) (refl, refl)
+-- new homes that are those of the file `next`
+module _ (form : Layout) (s next : State) (area : List ℕ) (new : NewHomes) (of : new .shape ≡ shapeOf (next .params) (next .p)) where
+  same-homes : newHome new ≡ homes next
+  same-homes = rw of
 
-    module _ (yes : room ≡ true) (new : NewHomes) (of : new .shape ≡ shapeOf (next .params) (next .p)) where
-      same-homes : newHome new ≡ homes next
-      same-homes = rw of
+  -- with room a rebuild may go on
+  pub takes-all : hasRoom form s next area ≡ true → taken (homeFor (newHome new)) (slotsOf form) (cat (heldFrom form area (s .cap) 0) []) (s .cap) ≡ length (cat (heldFrom form area (s .cap) 0) [])
+  unfolding hasRoom
+  takes-all r = rw same-homes (eqb-true _ _ r)
 
-      -- with room a rebuild may go on
-      pub takes-all : taken (homeFor (newHome new)) (slotsOf form) (cat (heldFrom form area (s .cap) 0) []) (s .cap) ≡ length (cat (heldFrom form area (s .cap) 0) [])
-      takes-all = rw same-homes (eqb-true _ _ (decided ∙ yes))
-
-      -- and makes the file anew
-      pub remake-done : (moved : ℕ) → moved ≡ strayed key (heldFrom form area (s .cap) 0) (relaid (slotsOf form) (newHome new) (s .cap) (heldFrom form area (s .cap) 0))
-          → (made : List ℕ) → made ≡ areaFrom form 0 (relaid (slotsOf form) (newHome new) (s .cap) (heldFrom form area (s .cap) 0))
-          → Comes (done next (Accepted 0 (s .cap) moved)) made (remade form s next area)
-      unfolding remade
-      remake-done moved k made n = rw (decided, yes) (rw (k, same-homes), n ∙ rw same-homes)
+  -- and makes the file anew
+  pub remake-done : (moved : ℕ) → moved ≡ strayed key (heldFrom form area (s .cap) 0) (relaid (slotsOf form) (newHome new) (s .cap) (heldFrom form area (s .cap) 0))
+      → (made : List ℕ) → made ≡ areaFrom form 0 (relaid (slotsOf form) (newHome new) (s .cap) (heldFrom form area (s .cap) 0))
+      → Comes (done next (Accepted 0 (s .cap) moved)) made (remade form s next area)
+  unfolding remade
+  remake-done moved k made n = (rw (k, same-homes), n ∙ rw same-homes)

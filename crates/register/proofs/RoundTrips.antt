@@ -23,7 +23,7 @@ use Rattle.state.proofs.Ranges.{ranged}
 use Rattle.register.specs.OneImage.{ImageOfR}
 use Rattle.register.specs.Files.{Call, grow, shrink, File, fileIn, left, numbersOf}
 use Rattle.register.proofs.OnImage.{OnImage, Accepts}
-use Rattle.register.proofs.RemadeImage.{grownRow, grow-with-room, shrink-with-room}
+use Rattle.register.proofs.RemadeImage.{grownRow, grow-with-room, shrink-yes}
 
 -- what stands at the places of an area's records are records that the layout takes
 held-formed : (form : Layout) (area : List ℕ) → Bytes area → (n a : ℕ) → 256 * (a + n) ≤ length area → All (Small form) (cat (heldFrom form area n a) [])
@@ -73,12 +73,12 @@ module _ {form : Layout} {s : State} {rs : List Record} {ps : List (List Record)
   grow-shrink row fits low r =
       let a = grow-with-room w row fits low r in
       let more : firstPages (s .params) < s .p + 1 = omega (arith, ranged form s (w .range) .p-low) in
-      rw (a .left) (back (grown s) (a .pages) shrink [] (grown-back s) (shrink-with-room (a .stands) more (room-here (shrunk (grown s)) (grown-back s))))
+      rw (a .left) (back (grown s) (a .pages) shrink [] (grown-back s) (shrink-yes (a .stands) more))
 
   -- a shrinking, and a growth at once
-  pub shrink-grow : (row : List ℕ) → length row ≡ s .cap → firstPages (s .params) < s .p → Room key (homes (shrunk s)) (slotsOf form) (s .cap) rs → Back (left (fileIn form s (areaFrom form 0 ps)) shrink .file) (grow row)
-  shrink-grow row fits more r =
-      let a = shrink-with-room w more r in
+  pub shrink-grow : (row : List ℕ) → length row ≡ s .cap → firstPages (s .params) < s .p → Back (left (fileIn form s (areaFrom form 0 ps)) shrink .file) (grow row)
+  shrink-grow row fits more =
+      let a = shrink-yes w more in
       let e = shrunk-back s (omega arith) in
       let low : s .p - 1 < s .cap = omega (arith, ranged form s (w .range) .p-high) in
       rw (a .left) (back (shrunk s) (a .pages) (grow row) (grownRow (shrunk s) rs) e (grow-with-room (a .stands) row fits low (room-here (grown (shrunk s)) e)))

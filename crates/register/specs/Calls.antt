@@ -1,7 +1,7 @@
 -- The calls of the register: what each answers, and the state, the area and the row that it leaves,
 -- for any page layout, any numbers and any bytes. What is quoted is 01's, or 02's where that is said.
 use Prim.Native.Nat.{ℕ}
-use mathlib.Core.Bool.{cond}
+use mathlib.Core.Bool.{Bool, cond}
 use mathlib.Core.List.{List, []}
 use lib.ListN.{length, replicate}
 use lib.Dec.{eqb}
@@ -46,16 +46,23 @@ checked f s area = onGate (gateOf f s (length area)) (done s) (onGate (imageGate
 abbrev pub homeCounts : Layout → (s next : State) → List ℕ → List ℕ
 homeCounts f s next area = counts (homeFor (homes next)) (cat (heldFrom f area (s .cap) 0) []) (s .cap) 0
 
+-- whether the lent pages can take all records, each at its home in the file `next` or higher
+unfoldable pub hasRoom : Layout → (s next : State) → List ℕ → Bool
+hasRoom f s next area =
+    let held = cat (heldFrom f area (s .cap) 0) [] in
+    eqb (taken (homeFor (homes next)) (slotsOf f) held (s .cap)) (length held)
+
 -- Grow and shrink, where the file is the image of r records: the image for the pages of `next` is
--- made, or there is no room (7).
+-- made.
 unfoldable pub remade : Layout → (s next : State) → List ℕ → Outcome
 remade f s next area =
     let old = heldFrom f area (s .cap) 0 in
-    let held = cat old [] in
     let new = relaid (slotsOf f) (homes next) (s .cap) old in
-    cond (eqb (taken (homeFor (homes next)) (slotsOf f) held (s .cap)) (length held))
-    (record { done = done next (Accepted 0 (s .cap) (strayed key old new)); area = areaFrom f 0 new })
-    (refused s area (NoRoom (s .cap)))
+    record { done = done next (Accepted 0 (s .cap) (strayed key old new)); area = areaFrom f 0 new }
+
+-- a growth past its gate: it "makes the image for P + 1", or there is no room (7)
+unfoldable pub growOpen : Layout → State → List ℕ → Outcome
+growOpen f s area = cond (hasRoom f s (grown s) area) (remade f s (grown s) area) (refused s area (NoRoom (s .cap)))
 
 -- what a growth comes to
 pub record Growth : Type 0 where
@@ -71,12 +78,13 @@ withRow o row = record { done = o .done; area = o .area; row = row }
 abbrev pub grownCounts : Layout → State → List ℕ → List ℕ
 grownCounts f s area = homeCounts f s (grown s) area
 
--- "Grow 1, 2, 3, 8, 4, 9, 7.": it "makes the image for P + 1"; "The row is untouched by 1, 2, 3, 8,
--- 4 and 9", and filled "after success or 7"
+-- "Grow 1, 2, 3, 8, 4, 9, 7."; "The row is untouched by 1, 2, 3, 8, 4 and 9", and filled "after
+-- success or 7"
 abbrev pub grew : Layout → State → List ℕ → (row : List ℕ) → Growth
-grew f s area row = onGate (growGate f s area (length row)) (λ why. withRow (refused s area why) row) (withRow (remade f s (grown s) area) (grownCounts f s area))
+grew f s area row = onGate (growGate f s area (length row)) (λ why. withRow (refused s area why) row) (withRow (growOpen f s area) (grownCounts f s area))
 
 -- 02, request 5: "the reverse of grow: from P to P - 1, giving the image for that size, with the same
--- check of the whole file first"; "order 1, 2, 14, 4, 9, 7"
+-- check of the whole file first"; request 10: "shrink's order is now 1, 2, 14, 4, 9", for "a file that
+-- passed its check always has an arrangement"
 abbrev pub shrank : Layout → State → List ℕ → Outcome
 shrank f s area = onGate (shrinkGate f s area) (refused s area) (remade f s (shrunk s) area)

@@ -1,14 +1,36 @@
-// A growth past its entry.
+// A growth past its entry: the whole file is judged while the new homes of its records are counted,
+// and the counts, which fill the row, decide whether there is room.
 use crate::remaking;
 use gates::Gate;
+use homes::new_homes::NewHomes;
+use layouts::IN_USE;
+use state::Answer;
 use state::Done;
 use state::State;
+use survey::Count;
 ghost use mathlib.Core.Path.{_≡_};
 ghost use lib.ListN.{length};
 ghost use Rattle.layouts.specs.Layout.{inUse};
+ghost use Rattle.homes.specs.Homes.{shapeOf};
+ghost use Rattle.state.specs.State.{grown};
 ghost use Rattle.gates.specs.declared.Gate.the-variants.{Open};
+ghost use Rattle.gates.specs.Gates.{imageGate};
 ghost use Rattle.gates.specs.steps.Past.{EnteredToGrow};
-ghost use Rattle.register.specs.steps.Past.{grewEntered};
+ghost use Rattle.register.specs.steps.Past.{Judgeable, OpenImage, Rehomes, CountedIf, grewEntered};
+ghost use Rattle.register.specs.Calls.{homeCounts, growOpen};
+
+// Whether the area is the image of the state's records; their new homes are counted meanwhile.
+fn judge(state: State, new: NewHomes, area: &[u8], counts: &mut [u32]) -> Gate
+    requires { ⌜ Judgeable state (length (now area)) (length (now counts)) × Rehomes state new ⌝ }
+    ensures { λ r. ⌜ r ≡ imageGate inUse state (now (area .entry)) ⌝ }
+    ensures counted { λ r. ⌜ CountedIf r state new (now (area .entry)) (now (counts .exit)) ⌝ }
+{
+    let cap = state.cap as usize;
+    let old = state.shape();
+    let count = Count::Homes { new };
+    let verdict = survey::survey(area, cap, IN_USE, old, count, counts);
+    gates::image_of(state, verdict)
+}
 
 // The counts into the row.
 fn fill_row(row: &mut [u32], counts: &[u32])
@@ -22,20 +44,41 @@ fn fill_row(row: &mut [u32], counts: &[u32])
     }
 }
 
-// A growth that is not refused before it looks at a page. Where the file is an image, the row is
-// filled, and decides whether there is room.
+// A growth of a file that is an image, with the row filled: it decides whether there is room.
+fn grow_filled(
+    state: State,
+    next: State,
+    new: NewHomes,
+    area: &mut [u8],
+    row: &[u32],
+) -> Done
+    requires { ⌜ OpenImage state (now area) × Rehomes state new × (new .shape ≡ shapeOf (next .params) (next .p)) ⌝ }
+    requires { ⌜ (next ≡ grown state) × (now row ≡ homeCounts inUse state next (now area)) ⌝ }
+    ensures { λ r. let o = growOpen inUse state (now (area .entry)) in ⌜ (r ≡ o .done) × (now (area .exit) ≡ o .area) ⌝ }
+{
+    if !survey::has_room(row, IN_USE) {
+        let read = state.cap as u32;
+        return Done {
+            state,
+            answer: Answer::NoRoom { read },
+        };
+    }
+    remaking::remake(state, next, new, area)
+}
+
+// A growth that is not refused before it looks at a page.
 fn grow_counting(state: State, area: &mut [u8], row: &mut [u32], counts: &mut [u32]) -> Done
     requires { ⌜ EnteredToGrow inUse state (length (now area)) (length (now row)) Open × (length (now counts) ≡ state .cap) ⌝ }
     ensures { λ r. let o = grewEntered state (now (area .entry)) (now (row .entry)) in ⌜ (r ≡ o .done) × ((now (area .exit) ≡ o .area) × (now (row .exit) ≡ o .row)) ⌝ }
 {
     let next = state.grown();
     let new = remaking::beside(next, next);
-    let gate = remaking::judge(state, new, &area[..], counts);
+    let gate = judge(state, new, &area[..], counts);
     match gate {
         Gate::Shut { why } => Done { state, answer: why },
         Gate::Open => {
             fill_row(row, &counts[..]);
-            remaking::remake(state, next, new, area, &row[..])
+            grow_filled(state, next, new, area, &row[..])
         }
     }
 }

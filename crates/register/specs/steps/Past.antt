@@ -15,12 +15,12 @@ use Rattle.placing.specs.Rows.{counts}
 use Rattle.pages.specs.Page.{homeFor}
 use Rattle.pages.specs.Area.{heldFrom}
 use Rattle.state.specs.declared.State.{State}
-use Rattle.state.specs.State.{inRange, grown, shrunk}
+use Rattle.state.specs.State.{inRange, shrunk}
 use Rattle.gates.specs.declared.Gate.{Gate}
 use Rattle.gates.specs.declared.Gate.the-variants.{Open, Shut}
 use Rattle.gates.specs.Gates.{onGate, imageGate}
 use Rattle.changes.specs.Changes.{Outcome, refused}
-use Rattle.register.specs.Calls.{Growth, withRow, grownCounts, remade}
+use Rattle.register.specs.Calls.{Growth, withRow, grownCounts, remade, growOpen}
 
 -- a state in range, an area of its length, and a count for each page
 abbrev pub Judgeable : State → (m n : ℕ) → Type 0
@@ -48,7 +48,7 @@ CountedIf (Shut why) s new area row = Unit {0}
 
 -- what a growth comes to that enters
 abbrev pub grewEntered : State → List ℕ → (row : List ℕ) → Growth
-grewEntered s area row = onGate (imageGate inUse s area) (λ why. withRow (refused s area why) row) (withRow (remade inUse s (grown s) area) (grownCounts inUse s area))
+grewEntered s area row = onGate (imageGate inUse s area) (λ why. withRow (refused s area why) row) (withRow (growOpen inUse s area) (grownCounts inUse s area))
 
 -- what a shrinking comes to that enters
 abbrev pub shrankEntered : State → List ℕ → Outcome

@@ -44,8 +44,8 @@ judge-requires c κs =
     let n = b .pre .0 in
     ((n .0, n .1, b .pre .1), rehomes h)
 
-remake-requires : tie.Need-remake-requires
-remake-requires c κs =
+grow-filled-requires : tie.Need-grow-filled-requires
+grow-filled-requires c κs =
     let f = c .before .before .before .before in
     let t = f .before .before .before in
     let yes = t .enum-told .given .1 in
@@ -55,7 +55,10 @@ remake-requires c κs =
     let s = b .args .state in
     let n = b .pre .0 in
     let of = shaped h in
-    ((n .0, n .1, sym (j .judge .ensures .0) ∙ yes), rehomes h, of, f .fill-row .ensures ∙ counted s (h .before .grown .result) _ of (now (b .args .area)) _ _ (j .judge .ensures .1) yes)
+    (
+      ((n .0, n .1, sym (j .judge .ensures .0) ∙ yes), rehomes h, of),
+      (h .before .grown .ensures, f .fill-row .ensures ∙ counted s (h .before .grown .result) _ of (now (b .args .area)) _ _ (j .judge .ensures .1) yes),
+    )
 
 returns : tie.Need-returns
 returns c =
@@ -73,7 +76,7 @@ returns-2 c =
     let h = j .before .before .before in
     let a = h .before .before .before .before .before .args in
     let full = counted (a .state) (h .before .grown .result) _ (shaped h) (now (a .area)) _ _ (j .judge .ensures .1) yes in
-    entered-open (a .state) (now (a .area)) (now (a .row)) _ (j .judge .ensures .0) yes _ (h .before .grown .ensures) _ _ _ (m .remake .ensures) (f .fill-row .ensures ∙ full)
+    entered-open (a .state) (now (a .area)) (now (a .row)) _ (j .judge .ensures .0) yes _ (h .before .grown .ensures) _ _ _ (m .grow-filled .ensures) (f .fill-row .ensures ∙ full)
 
 pub grow-counting-spec : {M : Type 1} → statement M
 grow-counting-spec =
@@ -85,7 +88,7 @@ grow-counting-spec =
     (λ c. search needs)
     (λ c. search needs)
     (λ c κs. search needs)
-    remake-requires
+    grow-filled-requires
     (λ c. search needs)
     (λ c. search needs)
     returns

@@ -1,4 +1,4 @@
--- `register::remaking::judge` meets its contract: what the survey tells is the gate, and the homes
+-- `register::growth::judge` meets its contract: what the survey tells is the gate, and the homes
 -- that it counts are the new ones.
 use native.Mathlib.Omega.{arith}
 use denote.Ref.{now}
@@ -8,8 +8,8 @@ use Rattle.homes.specs.Homes.{homeIn}
 use Rattle.state.proofs.Ranges.{ranged, in-shape}
 use Rattle.gates.proofs.Judging.{sick-below, gate-told}
 use Rattle.register.proofs.MadeAnew.{countable, counted-if}
-use Rattle.register.proofs.remaking.judge.Statement.{statement}
-use Rattle.register.proofs.remaking.judge.Tie as tie
+use Rattle.register.proofs.growth.judge.Statement.{statement}
+use Rattle.register.proofs.growth.judge.Tie as tie
 
 shape-requires : tie.Need-shape-requires
 shape-requires c κs = in-shape inUse _ (c .before .before .before .pre .0 .0)

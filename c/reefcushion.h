@@ -79,7 +79,7 @@ enum reefcushion_refusal {
     REEFCUSHION_BROKEN = 4,       /* a page that was looked at is broken; its address is in `page` */
     REEFCUSHION_ABSENT = 5,       /* the key isn't held */
     REEFCUSHION_HELD = 6,         /* a repeat: the key is held already, with the value offered; it is in `value` too */
-    REEFCUSHION_NO_ROOM = 7,      /* no room on the lent pages, each record at its home page or a higher one */
+    REEFCUSHION_NO_ROOM = 7,      /* put, grow: no room on the lent pages, each record at its home page or a higher one */
     REEFCUSHION_AT_CAP = 8,       /* all lent pages are grown to */
     REEFCUSHION_NOT_IMAGE = 9,    /* the count, or the order of the records on the pages, is wrong */
     REEFCUSHION_NOT_PUTS = 10,    /* a run's bytes aren't whole put records, each with the right length and kind */
@@ -155,9 +155,12 @@ uint32_t reefcushion_grow(void *slip, size_t slip_bytes, void *area, size_t area
 /* One page less, after a check of the whole file: the reverse of grow. An accepted growth followed at once by a shrink gives
    back the same bytes and state, and so does a shrink followed by a growth. The pages lent stay as many as they were.
 
+   A shrink never runs out of room, and never answers 7: with one page less no key has a higher home, so each record might
+   stay on its page. It is accepted exactly where a check is and pages is more than n0 x groups.
+
    Nothing shrinks by itself. A shrink as soon as no growth is due would be undone by the next puts, a check of the whole
    file each time. So shrink only while 5 x records <= 36 x (pages - 1), that is, while one page less is filled to three
-   fifths at most: the records then have to become a third more before a growth is due again. 100, 1, 2, 14, 4, 9, 7. */
+   fifths at most: the records then have to become a third more before a growth is due again. 100, 1, 2, 14, 4, 9. */
 uint32_t reefcushion_shrink(void *slip, size_t slip_bytes, void *area, size_t area_bytes);
 
 /* Accepted exactly when the area is the one image of `records` records for this state. 100, 1, 2, 4 with the lowest broken

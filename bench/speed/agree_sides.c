@@ -19,8 +19,7 @@ static const char *const names[ROWS] = {
     "pay run", "put in a run"};
 static unsigned long seen[2][ROWS][LARGEST + 1]; // by the way that the plain side worked
 
-// The refusals that each call gives by the documents, as bits; for due its two answers. No shrink meets refusal 7,
-// since homes only sink.
+// The refusals that each call gives by the documents, as bits; for due its two answers.
 enum { OF_FORMAT = 1 << 0 | 1 << 1 | 1 << 2 };
 enum { OF_PUT = 1 << 0 | 1 << 1 | 1 << 2 | 1 << 4 | 1 << 6 | 1 << 7 | 1 << 9 | 1 << 13 };
 static const unsigned expected[ROWS] = {

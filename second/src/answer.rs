@@ -9,6 +9,7 @@ pub const BROKEN: u16 = 4;
 pub const ABSENT: u16 = 5;
 /// A put of a held key with the value that is held.
 pub const REPEAT: u16 = 6;
+/// A put or a growth that the lent pages have no place for; no shrink is.
 pub const NO_ROOM: u16 = 7;
 pub const GROWN_OUT: u16 = 8;
 pub const NOT_THE_IMAGE: u16 = 9;

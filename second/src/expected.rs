@@ -27,7 +27,8 @@ pub fn expect(
         Call::Put { key, value } => expect_put(state, records, Record { key, value }),
         Call::Find { key } => Ok(expect_find(state, records, key)),
         Call::Remove { key } => Ok(expect_remove(state, records, key)),
-        Call::Grow | Call::Shrink => expect_resized(asked, state, row_length, records),
+        Call::Grow => expect_grown(state, row_length, records),
+        Call::Shrink => Ok(expect_shrunk(state, records)),
         _ => Ok(Expected {
             refusal: 0,
             value: 0,
@@ -116,34 +117,31 @@ pub fn refused_unread(asked: Call, state: State, row_length: usize) -> Option<u1
     }
 }
 
-fn expect_resized(
-    asked: Call,
-    state: State,
-    row_length: usize,
-    records: Vec<Record>,
-) -> Result<Expected, String> {
-    let refused = |refusal, records| {
-        Ok(Expected {
-            refusal,
-            value: 0,
-            state,
-            records,
-        })
+fn expect_grown(state: State, row_length: usize, records: Vec<Record>) -> Result<Expected, String> {
+    let grown = state.one_page_grown();
+    let refusal = match refused_unread(Call::Grow, state, row_length) {
+        Some(refusal) => refusal,
+        None if fits(grown, &keys(&records))? => 0,
+        None => NO_ROOM,
     };
-    if let Some(refusal) = refused_unread(asked, state, row_length) {
-        return refused(refusal, records);
+    Ok(expect_resized(refusal, state, grown, records))
+}
+
+/// Room isn't asked for, since a shrink may not be refused for want of it. The
+/// witness lays these records out at the smaller size all the same, and would
+/// tell if they had none there.
+fn expect_shrunk(state: State, records: Vec<Record>) -> Expected {
+    let refusal = refused_unread(Call::Shrink, state, 0).unwrap_or(0);
+    expect_resized(refusal, state, state.one_page_shrunk(), records)
+}
+
+/// The records stay the same; only where nothing is refused is there another
+/// size.
+fn expect_resized(refusal: u16, state: State, other: State, records: Vec<Record>) -> Expected {
+    Expected {
+        refusal,
+        value: 0,
+        state: if refusal == 0 { other } else { state },
+        records,
     }
-    let other = match asked {
-        Call::Grow => state.one_page_grown(),
-        _ => state.one_page_shrunk(),
-    };
-    if fits(other, &keys(&records))? {
-        return Ok(Expected {
-            refusal: 0,
-            value: 0,
-            state: other,
-            records,
-        });
-    }
-    refused(NO_ROOM, records)
 }

@@ -1,5 +1,5 @@
 //! Grow and shrink by one page: a check of the whole file, then the image for
-//! the other size.
+//! the other size. Only a growth can find that there is no room for it.
 
 use crate::answer::{Answer, GROWN_OUT, NOT_GROWN, NO_ROOM, WRONG_ROW};
 use crate::check::judge_all;
@@ -8,7 +8,8 @@ use crate::page::{judge, write, Page, Record, SLOTS};
 use crate::put::put;
 use crate::state::State;
 
-/// Grows an area of the right length, with a state in range.
+/// Grows an area of the right length, with a state in range. The row has a
+/// count for each lent page, and those counts decide whether there is room.
 pub fn grow(state: State, area: &mut [u8], row: &mut [u32]) -> Answer {
     if row.len() != usize::from(state.cap) {
         return Answer::refused(state, WRONG_ROW, 0);
@@ -16,35 +17,38 @@ pub fn grow(state: State, area: &mut [u8], row: &mut [u32]) -> Answer {
     if state.pages == state.cap {
         return Answer::refused(state, GROWN_OUT, 0);
     }
-    resize(state, state.one_page_grown(), area, row)
-}
-
-/// Shrinks an area of the right length, with a state in range. "It needs no
-/// row", so the homes are counted in one of its own.
-pub fn shrink(state: State, area: &mut [u8]) -> Answer {
-    if state.at_start_pages() {
-        return Answer::refused(state, NOT_GROWN, 0);
-    }
-    let mut row = vec![0; usize::from(state.cap)];
-    resize(state, state.one_page_shrunk(), area, &mut row)
-}
-
-/// Checks the whole file, then makes its image for the size of the other
-/// state. The row has a count for each lent page. A shrink "takes grow's
-/// answers over, 7 included".
-fn resize(state: State, other: State, area: &mut [u8], row: &mut [u32]) -> Answer {
     let pages = match judge_all(state, area) {
         Ok(pages) => pages,
         Err(refused) => return refused,
     };
-    count_homes(other, &pages, row);
+    let grown = state.one_page_grown();
+    count_homes(grown, &pages, row);
     if !has_room(row) {
         return Answer::refused(state, NO_ROOM, pages.len());
     }
-    let made = remake(other, &pages);
+    resized(grown, &pages, area)
+}
+
+/// Shrinks an area of the right length, with a state in range. No room is
+/// looked for: at the smaller size every key has the home it had or a lower
+/// one, so that all records might even stay where they lie.
+pub fn shrink(state: State, area: &mut [u8]) -> Answer {
+    if state.at_start_pages() {
+        return Answer::refused(state, NOT_GROWN, 0);
+    }
+    match judge_all(state, area) {
+        Ok(pages) => resized(state.one_page_shrunk(), &pages, area),
+        Err(refused) => refused,
+    }
+}
+
+/// Makes the image for the size of the other state, once the pages have passed
+/// their check and nothing can be refused any more.
+fn resized(other: State, pages: &[Page], area: &mut [u8]) -> Answer {
+    let made = remake(other, pages);
     area.copy_from_slice(&made);
     Answer {
-        moved: moved_between(other, &pages, area),
+        moved: moved_between(other, pages, area),
         ..Answer::accepted(other, pages.len())
     }
 }
@@ -55,11 +59,12 @@ fn records(pages: &[Page]) -> impl Iterator<Item = Record> + '_ {
         .flat_map(|page| (0..page.count).map(|slot| page.record(slot)))
 }
 
-/// Fills the row with "the number of records of each home" at the other size.
-fn count_homes(other: State, pages: &[Page], row: &mut [u32]) {
+/// Fills the row with "the number of records of each home" at the size to
+/// grow to.
+fn count_homes(grown: State, pages: &[Page], row: &mut [u32]) {
     row.fill(0);
     for record in records(pages) {
-        row[home(other, record.key) as usize] += 1;
+        row[home(grown, record.key) as usize] += 1;
     }
 }
 
@@ -72,7 +77,9 @@ fn has_room(row: &[u32]) -> bool {
 }
 
 /// Puts every record into an empty file of the other size. The order of
-/// putting doesn't matter, since "at most one image exists".
+/// putting doesn't matter, since "at most one image exists". A growth was seen
+/// to have room and a shrink always has, so a put that is refused is a mistake
+/// of this program: it stops here rather than lose a record.
 fn remake(other: State, pages: &[Page]) -> Vec<u8> {
     let mut made = vec![0; other.area_bytes()];
     for address in 0..pages.len() {
@@ -83,7 +90,12 @@ fn remake(other: State, pages: &[Page]) -> Vec<u8> {
         ..other
     };
     for record in records(pages) {
-        state = put(state, &mut made, record).state;
+        let answer = put(state, &mut made, record);
+        assert_eq!(
+            answer.refusal, 0,
+            "a record of a checked file found no place at another size"
+        );
+        state = answer.state;
     }
     made
 }

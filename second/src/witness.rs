@@ -133,7 +133,8 @@ fn row_touched_rightly(
 /// On any bytes: grow "first checks the whole file" and shrink has "the same
 /// check of the whole file first". So once nothing is refused before a page is
 /// judged, both are refused with 4 and 9 exactly as a check is, and have read
-/// as many pages in any case.
+/// as many pages in any case. Behind the check a growth may still find no room;
+/// a shrink has nothing left to refuse.
 fn checked_first(
     asked: Call,
     state: State,
@@ -151,8 +152,15 @@ fn checked_first(
     if first.refusal != 0 {
         return must(*answer == first, &format!("should be {first:?}"));
     }
-    let goes_on = [0, NO_ROOM].contains(&answer.refusal) && answer.read == first.read;
-    must(goes_on, "a check accepts what this refuses")
+    let goes_on = match answer.refusal {
+        0 => true,
+        NO_ROOM => asked == Call::Grow,
+        _ => false,
+    };
+    must(
+        goes_on && answer.read == first.read,
+        "a check accepts what this refuses",
+    )
 }
 
 /// "An accepted growth followed at once by a shrink gives back the same bytes

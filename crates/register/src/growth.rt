@@ -45,13 +45,7 @@ fn fill_row(row: &mut [u32], counts: &[u32])
 }
 
 // A growth of a file that is an image, with the row filled: it decides whether there is room.
-fn grow_filled(
-    state: State,
-    next: State,
-    new: NewHomes,
-    area: &mut [u8],
-    row: &[u32],
-) -> Done
+fn grow_filled(state: State, next: State, new: NewHomes, area: &mut [u8], row: &[u32]) -> Done
     requires { ⌜ OpenImage state (now area) × Rehomes state new × (new .shape ≡ shapeOf (next .params) (next .p)) ⌝ }
     requires { ⌜ (next ≡ grown state) × (now row ≡ homeCounts inUse state next (now area)) ⌝ }
     ensures { λ r. let o = growOpen inUse state (now (area .entry)) in ⌜ (r ≡ o .done) × (now (area .exit) ≡ o .area) ⌝ }

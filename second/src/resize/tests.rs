@@ -8,6 +8,7 @@ use crate::page::PAGE_BYTES;
 use crate::trial::Trial;
 use crate::witness::witnessed;
 
+mod always_room;
 mod up_and_down;
 
 /// A fresh file with n0 2, N and s 1, and four lent pages. At two pages a key
@@ -201,8 +202,8 @@ fn nine_where_a_record_lies_too_high() {
     assert_eq!(refused(&file), nine);
 }
 
-/// "order 1, 2, 14, 4, 9": all is wrong at first, and one thing after the
-/// other is put right.
+/// "order is now 1, 2, 14, 4, 9": all is wrong at first, and one thing after
+/// the other is put right. Behind the last of them the shrink is accepted.
 #[test]
 fn refusals_come_in_their_order() {
     let mut file = holding(0..14);

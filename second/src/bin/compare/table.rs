@@ -4,7 +4,6 @@ use crate::editions::{self, EDITION_PAIRS};
 use crate::log_ways::{self, LOG_WAYS};
 use crate::shrink_ways::{self, SHRINK_PAIRS};
 use crate::ways::{self, Pair, RUN_PAIRS};
-use second::answer::NO_ROOM;
 use second::raw::RUN_KIND;
 use std::collections::BTreeMap;
 use std::fmt;
@@ -40,11 +39,6 @@ const COMMAND_PAIRS: [(u16, &[u16]); 8] = [
     (262, &[0, 1]),
     (263, &[0, 1, 14]),
 ];
-
-/// What may come and doesn't have to. A shrink "takes grow's answers over, 7
-/// included", but no file can meet it: homes only sink when a file
-/// shrinks, so where each record lay it may still lie.
-const MAY_COME: [(u16, &[u16]); 1] = [(263, &[NO_ROOM])];
 
 /// All pairs that have to come among raw calls, in their order.
 pub fn raw_pairs() -> Vec<(u16, &'static [u16])> {
@@ -155,7 +149,7 @@ impl Table {
     /// Pairs that came though the rules don't make them possible.
     pub fn beyond(&self, pairs: &[(u16, &[u16])]) -> Vec<Pair> {
         let possible = |&(kind, refusal): &Pair| {
-            let mut known = pairs.iter().chain(&MAY_COME);
+            let mut known = pairs.iter();
             known.any(|(known, refusals)| *known == kind && refusals.contains(&refusal))
         };
         self.counts
@@ -200,19 +194,21 @@ impl fmt::Display for Table {
 mod tests {
     use super::*;
 
-    /// A 7 of a shrink isn't waited for, and is let through where it comes; no
-    /// other refusal is.
+    /// A 7 is waited for from a growth. From a shrink it isn't, and where one
+    /// comes it is told like any other answer that a shrink doesn't have.
     #[test]
-    fn a_shrink_may_find_no_room_but_does_not_have_to() {
+    fn no_shrink_finds_no_room() {
         let mut table = Table::default();
         for pairs in [raw_pairs(), log_pairs()] {
-            assert!(!table.missing(&pairs).contains(&(263, 7)));
-            assert!(table.missing(&pairs).contains(&(263, 14)));
+            let missing = table.missing(&pairs);
+            assert!(missing.contains(&(261, 7)) && missing.contains(&(263, 14)));
+            assert!(!missing.contains(&(263, 7)));
         }
-        table.count(263, 7);
-        table.count(263, 8);
+        for (kind, refusal) in [(261, 7), (263, 7), (263, 8), (263, 14)] {
+            table.count(kind, refusal);
+        }
         for pairs in [raw_pairs(), log_pairs()] {
-            assert_eq!(table.beyond(&pairs), [(263, 8)]);
+            assert_eq!(table.beyond(&pairs), [(263, 7), (263, 8)]);
         }
     }
 }

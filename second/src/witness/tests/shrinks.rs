@@ -39,6 +39,7 @@ fn a_shrink_without_its_check_is_noticed() {
     assert!(!accepts(GROWN, &grown, Answer { read: 1, ..SHRUNK }));
     assert!(!accepts(GROWN, &grown, refused(NOT_THE_IMAGE, 2)));
     assert!(!accepts(GROWN, &grown, refused(NOT_GROWN, 0)));
+    assert!(!accepts(GROWN, &grown, refused(NO_ROOM, 2)));
     let mut broken = grown.clone();
     broken[256] ^= 1;
     assert!(accepts(GROWN, &broken, Answer::broken(GROWN, 1, 2)));
@@ -51,6 +52,21 @@ fn a_shrink_without_its_check_is_noticed() {
     assert!(accepts(STATE, &broken, right));
     assert!(!accepts(STATE, &broken, Answer { read: 2, ..right }));
     assert!(!accepts(STATE, &broken, Answer::broken(STATE, 0, 1)));
+}
+
+/// Behind its check a growth may be refused with 7 and with nothing else, and a
+/// shrink with nothing at all.
+#[test]
+fn only_a_growth_may_find_no_room() {
+    let allowed = |asked, state, area: &[u8]| -> Vec<u16> {
+        let accepts = |&refusal: &u16| {
+            let answer = Answer::refused(state, refusal, 2);
+            checked_first(asked, state, area, &[0; 2], &answer).is_ok()
+        };
+        (1..=20).filter(accepts).collect()
+    };
+    assert_eq!(allowed(Call::Grow, STATE, &one_record()), [NO_ROOM]);
+    assert_eq!(allowed(Call::Shrink, GROWN, &one_record_at(GROWN)), []);
 }
 
 /// A shrink is held against the image that the records have at the smaller

@@ -54,8 +54,7 @@ grow-filled-requires c κs =
     let b = h .before .before .before .before .before in
     let s = b .args .state in
     let n = b .pre .0 in
-    let of = shaped h in
-    (
+    let of = shaped h in (
       ((n .0, n .1, sym (j .judge .ensures .0) ∙ yes), rehomes h, of),
       (h .before .grown .ensures, f .fill-row .ensures ∙ counted s (h .before .grown .result) _ of (now (b .args .area)) _ _ (j .judge .ensures .1) yes),
     )

@@ -71,14 +71,14 @@ module _ (f : File) (c : Call) {A : Type 0} where
       }
 
   -- past what is refused before any page: 4 and 9, and then what is made of an image
-  pub onPages : (n : Numbers) (more : List Cause)
+  pub on-pages : (n : Numbers) (more : List Cause)
       → ((k : ℕ) → Comes k (order f c) (when 4 (SomeBroken f) ∷ unless 9 (ImageOfR (f .layout) (f .state) (f .area)) ∷ more) → Comes k (order f c) (order f c))
       → (listed 4 (gives c) ≡ true) × (listed 9 (gives c) ≡ true) → (A → ImageOfR (f .layout) (f .state) (f .area))
       → ((SomeBroken f → ⊥) → ImageOfR (f .layout) (f .state) (f .area) → Decided f c A n)
       → Pages f → Decided f c A (onGate (imageGate (f .layout) (f .state) (f .area)) numbers n)
-  onPages n more past given image on (sick a w z i) = rw i (sickly (given .0) (λ v. z (image v)) (past 4 (inl ((a, w .broken), refl))) a w)
-  onPages n more past given image on (strange w z i) = rw i (late 9 refl (given .1) (λ v. z (image v)) (past 9 (inr (w, inl (z, refl)))))
-  onPages n more past given image on (whole w m i) = rw i (on w m)
+  on-pages n more past given image on (sick a w z i) = rw i (sickly (given .0) (λ v. z (image v)) (past 4 (inl ((a, w .broken), refl))) a w)
+  on-pages n more past given image on (strange w z i) = rw i (late 9 refl (given .1) (λ v. z (image v)) (past 9 (inr (w, inl (z, refl)))))
+  on-pages n more past given image on (whole w m i) = rw i (on w m)
 
 module _ (f : File) where
   abbrev s : State
@@ -123,7 +123,7 @@ module _ (f : File) where
       where
         pages : Ranged (f .layout) s → RightArea s area → Pages f → Decided f check Good (onGate (imageGate (f .layout) s area) numbers (told 0 0 0 (s .cap) 0))
         pages r l =
-            onPages f check (told 0 0 0 (s .cap) 0) [] (λ k w. inr (r, inr (l, w))) (refl, refl) (λ v. v .2)
+            on-pages f check (told 0 0 0 (s .cap) 0) [] (λ k w. inr (r, inr (l, w))) (refl, refl) (λ v. v .2)
             (λ w m. accepts f check refl (r, l, m) (inr (r, inr (l, inr (w, inr (m, none-of 0 (1 ∷ 2 ∷ 4 ∷ 9 ∷ []) refl))))) (s .cap) 0 refl)
 
         go : Enters (f .layout) s area → Decided f check Good (onGate (gateOf (f .layout) s (length area)) numbers (onGate (imageGate (f .layout) s area) numbers (told 0 0 0 (s .cap) 0)))

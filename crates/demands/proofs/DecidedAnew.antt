@@ -30,7 +30,7 @@ use Rattle.demands.specs.Refusals.{unless, RightArea, SomeBroken, RoomTo
 use Rattle.demands.proofs.InOrder.{ranks, none-of}
 use Rattle.demands.proofs.Causes.{Enters, out, other, entered, enter, judge, Rows, other-row, at-cap, below, try-row, Starts, at-start, above, try-start}
 use Rattle.demands.proofs.CallNumbers.{gated}
-use Rattle.demands.proofs.Decided.{Decided, early, late, accepts, onPages}
+use Rattle.demands.proofs.Decided.{Decided, early, late, accepts, on-pages}
 
 module _ (f : File) where
   abbrev s : State
@@ -54,22 +54,22 @@ module _ (f : File) where
     abbrev GoodToGrow : Type 0
     GoodToGrow = Ranged (f .layout) s × RightArea s area × (length row ≡ s .cap) × (s .p ≡ s .cap → ⊥) × RoomToGrow f
 
-    abbrev grown-numbers : Numbers
-    grown-numbers = numbers (growOpen (f .layout) s area .done .answer)
+    abbrev grownTells : Numbers
+    grownTells = numbers (growOpen (f .layout) s area .done .answer)
 
-    grow-tells : tells f (grow row) ≡ onGate (growGate (f .layout) s area (length row)) numbers grown-numbers
+    grow-tells : tells f (grow row) ≡ onGate (growGate (f .layout) s area (length row)) numbers grownTells
     unfolding left
     grow-tells = go (growGate (f .layout) s area (length row))
       where
-        go : (g : Gate) → numbers (onGate g (λ why. withRow (refused s area why) row) (withRow (growOpen (f .layout) s area) (grownCounts (f .layout) s area)) .done .answer) ≡ onGate g numbers grown-numbers
+        go : (g : Gate) → numbers (onGate g (λ why. withRow (refused s area why) row) (withRow (growOpen (f .layout) s area) (grownCounts (f .layout) s area)) .done .answer) ≡ onGate g numbers grownTells
         go Open = refl
         go (Shut why) = refl
 
-    with-room : hasRoom (f .layout) s (grown s) area ≡ true → grown-numbers ≡ remadeTells (grown s)
+    with-room : hasRoom (f .layout) s (grown s) area ≡ true → grownTells ≡ remadeTells (grown s)
     unfolding growOpen
     with-room e = rw e (redone (grown s))
 
-    without-room : hasRoom (f .layout) s (grown s) area ≡ false → grown-numbers ≡ told 7 0 0 (s .cap) 0
+    without-room : hasRoom (f .layout) s (grown s) area ≡ false → grownTells ≡ told 7 0 0 (s .cap) 0
     unfolding growOpen
     without-room e = rw e
 
@@ -82,11 +82,11 @@ module _ (f : File) where
     grow-decided b = rw grow-tells (go (enter (f .layout) s area))
       where
         Ends : Type 0
-        Ends = Decided f (grow row) GoodToGrow (onGate (growGate (f .layout) s area (length row)) numbers grown-numbers)
+        Ends = Decided f (grow row) GoodToGrow (onGate (growGate (f .layout) s area (length row)) numbers grownTells)
 
         -- with all else right, the room decides
         room : (r : Ranged (f .layout) s) (l : RightArea s area) (d : length row ≡ s .cap) (k : s .p ≡ s .cap → ⊥) (w : SomeBroken f → ⊥) (m : ImageOfR (f .layout) s area)
-            → (u : Bool) → hasRoom (f .layout) s (grown s) area ≡ u → Decided f (grow row) GoodToGrow grown-numbers
+            → (u : Bool) → hasRoom (f .layout) s (grown s) area ≡ u → Decided f (grow row) GoodToGrow grownTells
         room r l d k w m true e =
             let q : RoomToGrow f = record { is = m; room = room-of (f .layout) s (grown s) area m .0 e } in
             rw (with-room e) (accepts f (grow row) refl (r, l, d, k, q) (inr (r, inr (l, inr (d, inr (k, inr (w, inr (m, inr (q, none-of 0 (ranks (order f (grow row))) refl)))))))) _ _ (refl, refl))
@@ -99,7 +99,7 @@ module _ (f : File) where
         tries r l (at-cap d k g) = rw g (early f (grow row) 8 refl refl (λ a. a .3 k) (inr (r, inr (l, inr (d, inl (k, refl))))) refl)
         tries r l (below d k g) =
             rw g
-            (onPages f (grow row) grown-numbers (unless 7 (RoomToGrow f) ∷ []) (λ n w. inr (r, inr (l, inr (d, inr (k, w))))) (refl, refl) (λ a. a .4 .is)
+            (on-pages f (grow row) grownTells (unless 7 (RoomToGrow f) ∷ []) (λ n w. inr (r, inr (l, inr (d, inr (k, w))))) (refl, refl) (λ a. a .4 .is)
             (λ w m. room r l d k w m (hasRoom (f .layout) s (grown s) area) refl)
             (judge f b r l))
 
@@ -130,7 +130,7 @@ module _ (f : File) where
       tries r l (at-start k g) = rw g (early f shrink 14 refl refl (λ a. a .2 k) (inr (r, inr (l, inl (k, refl)))) refl)
       tries r l (above k g) =
           rw g
-          (onPages f shrink (remadeTells (shrunk s)) [] (λ n w. inr (r, inr (l, inr (k, w)))) (refl, refl) (λ a. a .3)
+          (on-pages f shrink (remadeTells (shrunk s)) [] (λ n w. inr (r, inr (l, inr (k, w)))) (refl, refl) (λ a. a .3)
           (λ w m. accepts f shrink refl (r, l, k, m) (inr (r, inr (l, inr (k, inr (w, inr (m, none-of 0 (ranks (order f shrink)) refl)))))) _ _ (refl, refl))
           (judge f b r l))
 

@@ -22,10 +22,8 @@ use Rattle.demands.specs.Demands.{Fresh, Tells, Row, Found, PutTold, Ret
 use Rattle.demands.specs.Refusals.{OneOf}
 use Rattle.demands.specs.ReadMoved.{ReadHeld, ReadAbsent, ReadWithin, Moved}
 use Rattle.demands.proofs.InOrder.{none-of}
-use Rattle.walks.proofs.Clean.{clean-pass}
-use Rattle.register.proofs.OnImage.{on-clean}
 use Rattle.register.proofs.ImageCalls.{room-told}
-use Rattle.register.proofs.RemadeImage.{check-yes, grow-no-room, grow-with-room, shrink-no-page, shrink-yes}
+use Rattle.register.proofs.RemadeImage.{image-of, check-yes, grow-no-room, grow-with-room, shrink-no-page, shrink-yes}
 use Rattle.register.proofs.RoundTrips as trips
 use Rattle.demands.proofs.Sets.{set-put, same-records}
 use Rattle.demands.proofs.Standing.{Stands, fileOf, find-held, find-absent, remove-absent, remove-held, put-full, put-new}
@@ -129,7 +127,7 @@ module _ (m : Kept) (ps : List (List Record)) (s : Stands m ps) where
       go c (said u k e) = (λ z. omega (arith, number e), λ z. omega (arith, number e))
 
   image-stands : TheImage m f
-  image-stands = record { set = s .set; image = record { pages = ps; bytes = refl; pass = clean-pass (on-clean s); image = s .image } }
+  image-stands = record { set = s .set; image = image-of s .is }
 
   room-put-stands : RoomPut m f
   room-put-stands x fits e =

@@ -22,7 +22,7 @@ use Rattle.gates.specs.Gates.{gateOf, imageGate, growEntry, growGate, shrinkEnt
 use Rattle.changes.proofs.Settling.{Comes}
 use Rattle.register.specs.steps.Past.{grewEntered, shrankEntered}
 use Rattle.changes.specs.Changes.{done}
-use Rattle.register.specs.Calls.{formatted, checked, Growth, homeCounts, hasRoom, remade, growOpen, grew, shrank}
+use Rattle.register.specs.Calls.{formatted, checked, Growth, grownCounts, hasRoom, remade, growOpen, grew, shrank}
 use Rattle.gates.proofs.Gating.{range-shut}
 
 -- the state and answer, the area and the row of a growth
@@ -82,19 +82,18 @@ module _ (s : State) (area row : List ℕ) (g : Gate) (gate : g ≡ imageGate in
   pub entered-shut : (why : Answer) → g ≡ Shut why → Grows (done s why) area row (grewEntered s area row)
   entered-shut why e = rw (← gate, e) (refl, (refl, refl))
 
-  pub entered-open : g ≡ Open → (next : State) → next ≡ grown s → (d : Done) (new filled : List ℕ) → Comes d new (growOpen inUse s area) → filled ≡ homeCounts inUse s next area
-      → Grows d new filled (grewEntered s area row)
-  entered-open e next k d new filled c f = rw (← gate, e) (c .0, (c .1, rw k at f))
+  pub entered-open : g ≡ Open → (d : Done) (new filled : List ℕ) → Comes d new (growOpen inUse s area) → filled ≡ grownCounts inUse s area → Grows d new filled (grewEntered s area row)
+  entered-open e d new filled c f = rw (← gate, e) (c .0, (c .1, f))
 
 -- a growth of an image, by what there is room for
-module _ (s next : State) (k : next ≡ grown s) (area : List ℕ) where
-  pub grows-full : hasRoom inUse s next area ≡ false → Comes (done s (NoRoom (s .cap))) area (growOpen inUse s area)
+module _ (s : State) (area : List ℕ) where
+  pub grows-full : hasRoom inUse s (grown s) area ≡ false → Comes (done s (NoRoom (s .cap))) area (growOpen inUse s area)
   unfolding growOpen
-  grows-full r = rw (rw k at r) (refl, refl)
+  grows-full r = rw r (refl, refl)
 
-  pub grows-on : hasRoom inUse s next area ≡ true → (d : Done) (new : List ℕ) → Comes d new (remade inUse s next area) → Comes d new (growOpen inUse s area)
+  pub grows-on : hasRoom inUse s (grown s) area ≡ true → (next : State) → next ≡ grown s → (d : Done) (new : List ℕ) → Comes d new (remade inUse s next area) → Comes d new (growOpen inUse s area)
   unfolding growOpen
-  grows-on r d new c = rw (rw k at r) (rw k at c)
+  grows-on r next k d new c = rw r (rw k at c)
 
 module _ (s : State) (area : List ℕ) (g : Gate) (gate : g ≡ shrinkEntry inUse s (length area)) where
   pub shrank-shut : (why : Answer) → g ≡ Shut why → Comes (done s why) area (shrank inUse s area)

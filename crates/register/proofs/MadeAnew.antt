@@ -14,7 +14,7 @@ use Rattle.numbers.specs.Little.{Bytes}
 use Rattle.layouts.specs.Layout.{Layout, inUse, slotsOf}
 use Rattle.homes.specs.declared.Shape.{Shape}
 use Rattle.homes.specs.declared.new_homes.NewHomes.{NewHomes}
-use Rattle.homes.specs.Homes.{InRange, firstPages, shapeOf, homeIn}
+use Rattle.homes.specs.Homes.{firstPages, shapeOf, homeIn}
 use Rattle.homes.specs.steps.NewHomes.{newHome, Usable, Agrees}
 use Rattle.homes.proofs.Homes.{home-below}
 use Rattle.homes.proofs.Keeping.{agrees}
@@ -43,7 +43,7 @@ use Rattle.gates.proofs.Judging.{open-counted, GoodFile, open-good}
 use Rattle.changes.specs.Changes.{done}
 use Rattle.changes.proofs.Settling.{Comes}
 use Rattle.register.specs.steps.Past.{besides, Rehomes, CountedIf}
-use Rattle.register.specs.Calls.{homeCounts, hasRoom, remade}
+use Rattle.register.specs.Calls.{grownCounts, hasRoom, remade}
 
 -- the records of an area that is an image are a set
 pub held-set : (form : Layout) (s : State) (area : List ℕ) → Bytes area → length area ≡ 256 * s .cap → imageGate form s area ≡ Open
@@ -53,8 +53,8 @@ held-set form s area b l e =
     image-set form (homes s) (heldFrom form area (s .cap) 0) (k .image) (good-pages form (homes s) area b (s .cap) 0 (omega arith) (k .whole))
 
 -- the counts are as many as the area has pages
-pub counts-many : (form : Layout) (s next : State) (area row : List ℕ) → row ≡ homeCounts form s next area → length row ≡ s .cap
-counts-many form s next area row e = ap length e ∙ counts-length (homeFor (homes next)) (cat (heldFrom form area (s .cap) 0) []) (s .cap) 0
+pub counts-many : (form : Layout) (s : State) (area row : List ℕ) → row ≡ grownCounts form s area → length row ≡ s .cap
+counts-many form s area row e = ap length e ∙ counts-length (homeFor (homes (grown s))) (cat (heldFrom form area (s .cap) 0) []) (s .cap) 0
 
 -- as many zeros as are cut off from more
 pub cut : (m n : ℕ) → n ≤ m → length {A = ℕ} (take n (replicate m 0)) ≡ n
@@ -108,34 +108,34 @@ module _ (s : State) (range : inRange inUse s ≡ true) {new : NewHomes} (m : Re
       let k : GoodFile inUse s area = open-good inUse s area e in
       image-known inUse (homes s) new same-page area (s .cap) (good-pages inUse (homes s) area b (s .cap) 0 (omega arith) (k .whole)) (k .image)
 
--- the homes that were counted are those of the state that has their shape
-pub counted : (s next : State) (new : NewHomes) → new .shape ≡ shapeOf (next .params) (next .p) → (area row : List ℕ) (g : Gate) → CountedIf g s new area row → g ≡ Open → row ≡ homeCounts inUse s next area
-counted s next new of area row g k e = rw of at (rw e at k)
+-- the homes that were counted are those at one page more
+pub counted : (s next : State) → next ≡ grown s → (new : NewHomes) → new .shape ≡ shapeOf (next .params) (next .p) → (area row : List ℕ) (g : Gate) → CountedIf g s new area row → g ≡ Open → row ≡ grownCounts inUse s area
+counted s next m new of area row g k e = rw m at (rw of at (rw e at k))
 
--- the counts for a file, where its shape is in range and its pages are among those lent
-module _ (form : Layout) (s next : State) (shape : InRange (next .params) (next .p)) (low : next .p ≤ s .cap) where
+-- the row of a file that may grow
+module _ (form : Layout) (s : State) (range : inRange form s ≡ true) (low : s .p < s .cap) where
   -- all homes are pages of the area
-  homes-low : (rs : List Record) → All (λ x. homeFor (homes next) x < s .cap) rs
+  homes-low : (rs : List Record) → All (λ x. homeFor (homes (grown s)) x < s .cap) rs
   homes-low [] = tt
-  homes-low (x ∷ rs) = (omega (arith, home-below (next .params) (next .p) (key x) shape), homes-low rs)
+  homes-low (x ∷ rs) = (omega (arith, home-below (s .params) (s .p + 1) (key x) (in-shape form (grown s) (grown-range form s range low))), homes-low rs)
 
   -- so the counts tell whether the pages can take all
   row-takes : (area : List ℕ)
-      → eqb (leftOver (slotsOf form) (homeCounts form s next area) 0) 0 ≡ eqb (taken (homeFor (homes next)) (slotsOf form) (cat (heldFrom form area (s .cap) 0) []) (s .cap)) (length (cat (heldFrom form area (s .cap) 0) []))
+      → eqb (leftOver (slotsOf form) (grownCounts form s area) 0) 0 ≡ eqb (taken (homeFor (homes (grown s))) (slotsOf form) (cat (heldFrom form area (s .cap) 0) []) (s .cap)) (length (cat (heldFrom form area (s .cap) 0) []))
   row-takes area =
       let rs : List Record = cat (heldFrom form area (s .cap) 0) [] in
-      row-room (homeFor (homes next)) (slotsOf form) rs (s .cap) (homes-low rs)
+      row-room (homeFor (homes (grown s))) (slotsOf form) rs (s .cap) (homes-low rs)
 
   -- and whether there is an arrangement
   pub row-arranges : (area : List ℕ) → RecordSet key (cat (heldFrom form area (s .cap) 0) [])
-      → (leftOver (slotsOf form) (homeCounts form s next area) 0 ≡ 0) ↔ Room key (homes next) (slotsOf form) (s .cap) (cat (heldFrom form area (s .cap) 0) [])
+      → (leftOver (slotsOf form) (grownCounts form s area) 0 ≡ 0) ↔ Room key (homes (grown s)) (slotsOf form) (s .cap) (cat (heldFrom form area (s .cap) 0) [])
   row-arranges area set =
-      let t = room-taken key (homes next) (slotsOf form) (s .cap) (cat (heldFrom form area (s .cap) 0) []) set in
+      let t = room-taken key (homes (grown s)) (slotsOf form) (s .cap) (cat (heldFrom form area (s .cap) 0) []) set in
       let e = row-takes area in
       (λ z. t .1 (eqb-true _ _ (sym e ∙ eq-eqb _ 0 z)), λ r. eqb-true _ 0 (e ∙ eq-eqb _ _ (t .0 r)))
 
   -- and so whether there is room
-  pub row-rooms : (area row : List ℕ) → row ≡ homeCounts form s next area → (room : Bool) → room ≡ eqb (leftOver (slotsOf form) row 0) 0 → hasRoom form s next area ≡ room
+  pub row-rooms : (area row : List ℕ) → row ≡ grownCounts form s area → (room : Bool) → room ≡ eqb (leftOver (slotsOf form) row 0) 0 → hasRoom form s (grown s) area ≡ room
   unfolding hasRoom
   row-rooms area row filled room told = sym (told ∙ rw filled (row-takes area))
 

@@ -28,7 +28,7 @@ use Rattle.gates.specs.declared.Gate.the-variants.{Open}
 use Rattle.gates.specs.Gates.{imageGate}
 use Rattle.changes.specs.Changes.{done, refused}
 use Rattle.register.specs.OneImage.{ImageOfR}
-use Rattle.register.specs.Calls.{homeCounts, hasRoom, remade, growOpen, withRow}
+use Rattle.register.specs.Calls.{grownCounts, hasRoom, remade, growOpen, withRow}
 use Rattle.register.specs.Files.{Call, grow, shrink, check, fileIn, ofOutcome, ofGrowth, leaves, left}
 use Rattle.gates.proofs.Gating.{row-shut, cap-shut, pages-decide, start-shut, pages-decide-shrink}
 use Rattle.gates.proofs.Judging.{good-open}
@@ -103,7 +103,7 @@ module _ {form : Layout} {s : State} {rs : List Record} {ps : List (List Record)
         }
 
   -- the counts of the pages are those of the records
-  row-told : homeCounts form s (grown s) (areaFrom form 0 ps) ≡ grownRow s rs
+  row-told : grownCounts form s (areaFrom form 0 ps) ≡ grownRow s rs
   row-told = rw (clean-held (on-clean w)) (counts-perm (homeFor (homes (grown s))) (w .image .arranged .holds) (s .cap) 0)
 
   with-room : Room key (homes (grown s)) (slotsOf form) (s .cap) rs → growOpen form s (areaFrom form 0 ps) ≡ remade form s (grown s) (areaFrom form 0 ps)

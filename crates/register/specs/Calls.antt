@@ -42,10 +42,6 @@ removed f s area k = onGate (gateOf f s (length area)) (refused s area) (removeO
 abbrev pub checked : Layout → State → List ℕ → Done
 checked f s area = onGate (gateOf f s (length area)) (done s) (onGate (imageGate f s area) (done s) (done s (Accepted 0 (s .cap) 0)))
 
--- "the number of records of each home" in the file `next`, a count for each lent page
-abbrev pub homeCounts : Layout → (s next : State) → List ℕ → List ℕ
-homeCounts f s next area = counts (homeFor (homes next)) (cat (heldFrom f area (s .cap) 0) []) (s .cap) 0
-
 -- whether the lent pages can take all records, each at its home in the file `next` or higher
 unfoldable pub hasRoom : Layout → (s next : State) → List ℕ → Bool
 hasRoom f s next area =
@@ -74,17 +70,20 @@ pub record Growth : Type 0 where
 abbrev pub withRow : Outcome → (row : List ℕ) → Growth
 withRow o row = record { done = o .done; area = o .area; row = row }
 
--- the row "holds the number of records of each home at size P + 1"
+-- the row "holds the number of records of each home at size P + 1", a count for each lent page
 abbrev pub grownCounts : Layout → State → List ℕ → List ℕ
-grownCounts f s area = homeCounts f s (grown s) area
+grownCounts f s area = counts (homeFor (homes (grown s))) (cat (heldFrom f area (s .cap) 0) []) (s .cap) 0
 
 -- "Grow 1, 2, 3, 8, 4, 9, 7."; "The row is untouched by 1, 2, 3, 8, 4 and 9", and filled "after
 -- success or 7"
 abbrev pub grew : Layout → State → List ℕ → (row : List ℕ) → Growth
 grew f s area row = onGate (growGate f s area (length row)) (λ why. withRow (refused s area why) row) (withRow (growOpen f s area) (grownCounts f s area))
 
+-- a shrinking past its gate. 02, request 10: "a file that passed its check always has an arrangement"
+abbrev pub shrinkOpen : Layout → State → List ℕ → Outcome
+shrinkOpen f s area = remade f s (shrunk s) area
+
 -- 02, request 5: "the reverse of grow: from P to P - 1, giving the image for that size, with the same
--- check of the whole file first"; request 10: "shrink's order is now 1, 2, 14, 4, 9", for "a file that
--- passed its check always has an arrangement"
+-- check of the whole file first"; request 10: "shrink's order is now 1, 2, 14, 4, 9"
 abbrev pub shrank : Layout → State → List ℕ → Outcome
-shrank f s area = onGate (shrinkGate f s area) (refused s area) (remade f s (shrunk s) area)
+shrank f s area = onGate (shrinkGate f s area) (refused s area) (shrinkOpen f s area)

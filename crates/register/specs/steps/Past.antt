@@ -15,12 +15,12 @@ use Rattle.placing.specs.Rows.{counts}
 use Rattle.pages.specs.Page.{homeFor}
 use Rattle.pages.specs.Area.{heldFrom}
 use Rattle.state.specs.declared.State.{State}
-use Rattle.state.specs.State.{inRange, shrunk}
+use Rattle.state.specs.State.{inRange}
 use Rattle.gates.specs.declared.Gate.{Gate}
 use Rattle.gates.specs.declared.Gate.the-variants.{Open, Shut}
 use Rattle.gates.specs.Gates.{onGate, imageGate}
 use Rattle.changes.specs.Changes.{Outcome, refused}
-use Rattle.register.specs.Calls.{Growth, withRow, grownCounts, remade, growOpen}
+use Rattle.register.specs.Calls.{Growth, withRow, grownCounts, growOpen, shrinkOpen}
 
 -- a state in range, an area of its length, and a count for each page
 abbrev pub Judgeable : State → (m n : ℕ) → Type 0
@@ -52,4 +52,4 @@ grewEntered s area row = onGate (imageGate inUse s area) (λ why. withRow (refus
 
 -- what a shrinking comes to that enters
 abbrev pub shrankEntered : State → List ℕ → Outcome
-shrankEntered s area = onGate (imageGate inUse s area) (refused s area) (remade inUse s (shrunk s) area)
+shrankEntered s area = onGate (imageGate inUse s area) (refused s area) (shrinkOpen inUse s area)

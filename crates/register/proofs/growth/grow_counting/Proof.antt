@@ -56,7 +56,7 @@ grow-filled-requires c κs =
     let n = b .pre .0 in
     let of = shaped h in (
       ((n .0, n .1, sym (j .judge .ensures .0) ∙ yes), rehomes h, of),
-      (h .before .grown .ensures, f .fill-row .ensures ∙ counted s (h .before .grown .result) _ of (now (b .args .area)) _ _ (j .judge .ensures .1) yes),
+      (h .before .grown .ensures, f .fill-row .ensures ∙ counted s _ (h .before .grown .ensures) _ of (now (b .args .area)) _ _ (j .judge .ensures .1) yes),
     )
 
 returns : tie.Need-returns
@@ -74,8 +74,8 @@ returns-2 c =
     let j = t .before .before .before .before in
     let h = j .before .before .before in
     let a = h .before .before .before .before .before .args in
-    let full = counted (a .state) (h .before .grown .result) _ (shaped h) (now (a .area)) _ _ (j .judge .ensures .1) yes in
-    entered-open (a .state) (now (a .area)) (now (a .row)) _ (j .judge .ensures .0) yes _ (h .before .grown .ensures) _ _ _ (m .grow-filled .ensures) (f .fill-row .ensures ∙ full)
+    let full = counted (a .state) _ (h .before .grown .ensures) _ (shaped h) (now (a .area)) _ _ (j .judge .ensures .1) yes in
+    entered-open (a .state) (now (a .area)) (now (a .row)) _ (j .judge .ensures .0) yes _ _ _ (m .grow-filled .ensures) (f .fill-row .ensures ∙ full)
 
 pub grow-counting-spec : {M : Type 1} → statement M
 grow-counting-spec =

@@ -5,12 +5,12 @@
 
    The calls are in libreefcushion.a, for x86-64 Linux. They need nothing else but C's memcpy and memset, take no memory but
    some 20 KiB of the stack at most, and keep nothing from one call to the next, so threads may call them at once, each with
-   its own slip, area, row and replies.
+   its own slip, area, row, replies and list.
 
    What each call does is proved (crates/reefcushion), for any bytes and any numbers. A caller owes this much:
-   - the lengths are true: so many bytes of slip, area, records and replies, and so many aligned 32-bit counts of the row,
-     are there, and each has been written once (zeros will do);
-   - slip, area, row, records and replies do not overlap;
+   - the lengths are true: so many bytes of each slip and area, of records, replies, list and comparison, and so many
+     aligned 32-bit counts of the row, are there, and each has been written once (zeros will do);
+   - no two of those that one call is given overlap, but for two that it only reads;
    - nothing else writes them while a call runs, nor reads what the call may write.
    A null pointer with length 0 is fine: it is refused by number like any other wrong length, and never followed. */
 #ifndef REEFCUSHION_H
@@ -85,8 +85,10 @@ enum reefcushion_refusal {
     REEFCUSHION_NOT_PUTS = 10,    /* a run's bytes aren't whole put records, each with the right length and kind */
     REEFCUSHION_CLASH = 13,       /* a clash: the key is held with another value, which is in `value` */
     REEFCUSHION_AT_START = 14,    /* the file has the pages that it started with, n0 x N */
-    REEFCUSHION_WRONG_ROOM = 15,  /* the room for a run's replies isn't 28 bytes a record */
-    REEFCUSHION_NO_SLIP = 100     /* slip_bytes isn't 40: nothing is done, and nothing written, the slip included */
+    REEFCUSHION_WRONG_ROOM = 15,  /* the room for a run's replies isn't 28 bytes a record; the room for a comparison's list
+                                     is shorter than the list */
+    REEFCUSHION_NO_SLIP = 100     /* slip_bytes isn't 40, or comparison_bytes isn't 20: nothing is done, and nothing
+                                     written, the slip included */
 };
 
 /* An empty file of n0 x N pages, whatever was held before, of edition 1 or 2. It is judged on the five numbers that it is
@@ -167,6 +169,71 @@ uint32_t reefcushion_shrink(void *slip, size_t slip_bytes, void *area, size_t ar
    page, 9. */
 uint32_t reefcushion_check(void *slip, size_t slip_bytes, const void *area, size_t area_bytes);
 
+/* What differs between two files, as records that rise by key, each with its length and kind in front; all numbers
+   little-endian. A key stands in one record at most: of kind 769 where only the first file holds it, of kind 770 where only
+   the second does, of kind 771 where both do with two values. One record of kind 772 closes the list, with how many there
+   are of each. Files that hold the same are told by that record alone, with zeros. */
+#pragma pack(push, 1)
+struct reefcushion_only {
+    uint16_t length; /* 20 */
+    uint16_t kind;   /* 769: only in the first; 770: only in the second */
+    uint64_t key;
+    uint64_t value;
+};
+
+struct reefcushion_unlike {
+    uint16_t length; /* 28 */
+    uint16_t kind;   /* 771 */
+    uint64_t key;
+    uint64_t first_value;
+    uint64_t second_value;
+};
+
+struct reefcushion_closing {
+    uint16_t length; /* 16 */
+    uint16_t kind;   /* 772 */
+    uint32_t only_first;
+    uint32_t only_second;
+    uint32_t unlike;
+};
+#pragma pack(pop)
+
+REEFCUSHION_ASSERT(sizeof(struct reefcushion_only) == 20, "a record of one file is 20 bytes");
+REEFCUSHION_ASSERT(sizeof(struct reefcushion_unlike) == 28, "a record of two values is 28 bytes");
+REEFCUSHION_ASSERT(sizeof(struct reefcushion_closing) == 16, "the closing record is 16 bytes");
+
+#define REEFCUSHION_ONLY_FIRST_KIND 769
+#define REEFCUSHION_ONLY_SECOND_KIND 770
+#define REEFCUSHION_UNLIKE_KIND 771
+#define REEFCUSHION_CLOSING_KIND 772
+
+/* What a comparison came to, 20 bytes. */
+struct reefcushion_comparison {
+    uint16_t refusal; /* the number that the call returned */
+    uint16_t file;    /* the file that a refusal 1, 2, 4 or 9 is about, 1 or 2; else 0 */
+    uint16_t page;    /* the broken page of refusal 4, in that file; else 0 */
+    uint16_t zeros;   /* written as 0 */
+    uint32_t read;    /* how many pages were looked at, over both files */
+    uint32_t length;  /* how many bytes the list took; 0 after any refusal */
+    uint32_t wanted;  /* how many bytes the whole list takes: after success and after 15; else 0 */
+};
+
+REEFCUSHION_ASSERT(sizeof(struct reefcushion_comparison) == 20, "a comparison is 20 bytes");
+
+/* What differs between two files, which may have other parameters, sizes and editions. Each is checked first. The list goes
+   to the front of the lent room, and what stands behind it there stays. Neither file is written, nor its slip.
+
+   How much room a list takes is told by a comparison with no room, list_bytes 0: it is refused with 15, and `wanted` says
+   how many bytes to lend; 20 for each record of both files and 16 more are always enough. The call works in the lent room
+   and takes no other memory. Its time goes up with the number of records, and for those that differ as that of a sort.
+
+   100, the first file's 1, 2, 4 or 9, the second's 1, 2, 4 or 9, then 15 exactly where the room is shorter than the list.
+   After any of them the room is as it was and `length` is 0. */
+uint32_t reefcushion_compare(const void *slip, size_t slip_bytes, const void *area, size_t area_bytes,
+                             const void *other_slip, size_t other_slip_bytes, const void *other_area,
+                             size_t other_area_bytes, void *list, size_t list_bytes, void *comparison,
+                             size_t comparison_bytes);
+
 /* 1 where growth is due (5 x records > 48 x pages), else 0; 0 too where slip_bytes isn't 40 or a number of the state is out
    of range. It leaves the slip as it is. */
 uint32_t reefcushion_due(const void *slip, size_t slip_bytes);
@@ -185,6 +252,12 @@ uint32_t reefcushion_due(const void *slip, size_t slip_bytes);
        pub value: u64, pub read: u32, pub moved: u32, pub refusal: u16, pub page: u16, pub zeros: u32,
    }
 
+   #[repr(C)]
+   #[derive(Clone, Copy, Default)]
+   pub struct Comparison {
+       pub refusal: u16, pub file: u16, pub page: u16, pub zeros: u16, pub read: u32, pub length: u32, pub wanted: u32,
+   }
+
    unsafe extern "C" {
        fn reefcushion_format_edition(slip: *mut Slip, slip_bytes: usize, area: *mut u8, area_bytes: usize,
                                      n0: u16, groups: u16, sweeps: u16, cap: u16, edition: u16) -> u32;
@@ -199,6 +272,10 @@ uint32_t reefcushion_due(const void *slip, size_t slip_bytes);
                            row: *mut u32, row_counts: usize) -> u32;
        fn reefcushion_shrink(slip: *mut Slip, slip_bytes: usize, area: *mut u8, area_bytes: usize) -> u32;
        fn reefcushion_check(slip: *mut Slip, slip_bytes: usize, area: *const u8, area_bytes: usize) -> u32;
+       fn reefcushion_compare(slip: *const Slip, slip_bytes: usize, area: *const u8, area_bytes: usize,
+                              other_slip: *const Slip, other_slip_bytes: usize, other_area: *const u8,
+                              other_area_bytes: usize, list: *mut u8, list_bytes: usize,
+                              comparison: *mut Comparison, comparison_bytes: usize) -> u32;
        fn reefcushion_due(slip: *const Slip, slip_bytes: usize) -> u32;
    } */
 

@@ -16,8 +16,8 @@ use Rattle.state.specs.Promises.{Ranged}
 use Rattle.state.proofs.Ranges.{ranged}
 use Rattle.gates.specs.declared.Gate.{Gate}
 use Rattle.gates.specs.declared.Gate.the-variants.{Open, Shut}
-use Rattle.gates.specs.Gates.{gateOf, imageGate, growEntry, growGate, shrinkEntry, shrinkGate}
-use Rattle.gates.specs.steps.Past.{OpenFor, EnteredToGrow, EnteredToShrink}
+use Rattle.gates.specs.Gates.{gateOf, imageGate, checkGate, growEntry, growGate, shrinkEntry, shrinkGate}
+use Rattle.gates.specs.steps.Past.{OpenFor, OpenImage, Whole, EnteredToGrow, EnteredToShrink}
 
 module _ (form : Layout) (s : State) (n : ℕ) where
   -- a number out of range
@@ -38,6 +38,25 @@ module _ (form : Layout) (s : State) (n : ℕ) where
 -- what is known past an open gate
 pub past : (form : Layout) (s : State) (n : ℕ) (g : Gate) → OpenFor form s n g → g ≡ Open → (inRange form s ≡ true) × (n ≡ 256 * s .cap)
 past form s n g k e = rw e at k
+
+-- what a check refuses
+module _ (form : Layout) (s : State) (area : List ℕ) (g : Gate) (gate : g ≡ gateOf form s (length area)) where
+  pub check-shut : (why : Answer) → g ≡ Shut why → Shut why ≡ checkGate form s area
+  unfolding checkGate
+  check-shut why e = rw (← gate, e)
+
+  -- past its entry the pages decide
+  pub check-pages : g ≡ Open → (i : Gate) → i ≡ imageGate form s area → i ≡ checkGate form s area
+  unfolding checkGate
+  check-pages e i k = rw (k, ← gate, e)
+
+-- and what is known past it
+pub whole : (form : Layout) (s : State) (area : List ℕ) → inRange form s ≡ true → length area ≡ 256 * s .cap → (i : Gate) → i ≡ imageGate form s area → Whole form s area i
+whole form s area r l Open k = (r, l, sym k)
+whole form s area r l (Shut why) k = tt
+
+pub past-check : (form : Layout) (s : State) (area : List ℕ) (g : Gate) → Whole form s area g → g ≡ Open → OpenImage form s area
+past-check form s area g k e = rw e at k
 
 -- what a growth refuses before it looks at a page, with an area of m bytes and a row of n counts
 module _ (form : Layout) (s : State) (m n : ℕ) (g : Gate) (gate : g ≡ gateOf form s m) where

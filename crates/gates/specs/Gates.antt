@@ -36,6 +36,10 @@ imageOf s (Whole image records) = cond (image && eqb records (s .r)) Open (Shut 
 unfoldable pub imageGate : Layout → State → List ℕ → Gate
 imageGate f s area = imageOf s (surveyed f (homes s) area (s .cap))
 
+-- "Check 1, 2, 4, 9."
+unfoldable pub checkGate : Layout → State → List ℕ → Gate
+checkGate f s area = onGate (gateOf f s (length area)) Shut (imageGate f s area)
+
 -- "Grow 1, 2, 3, 8", with an area of m bytes and a row of n counts
 abbrev pub growEntry : Layout → State → (m n : ℕ) → Gate
 growEntry f s m n = onGate (gateOf f s m) Shut (cond (eqb n (s .cap)) (cond (eqb (s .p) (s .cap)) (Shut AtCap) Open) (Shut WrongRow))

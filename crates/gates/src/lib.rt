@@ -9,8 +9,8 @@ ghost use Prim.Native.Nat.{ℕ, _*_, _<_};
 ghost use lib.ListN.{length};
 ghost use Rattle.state.specs.State.{inRange};
 ghost use Rattle.survey.specs.declared.Verdict.the-variants as verdicts;
-ghost use Rattle.gates.specs.Gates.{gateOf, imageOf, imageGate, growEntry, shrinkEntry};
-ghost use Rattle.gates.specs.steps.Past.{OpenFor, EnteredToGrow, EnteredToShrink};
+ghost use Rattle.gates.specs.Gates.{gateOf, imageOf, imageGate, checkGate, growEntry, shrinkEntry};
+ghost use Rattle.gates.specs.steps.Past.{OpenFor, Whole, EnteredToGrow, EnteredToShrink};
 
 // Whether a call may go on, or why not.
 pub enum Gate {
@@ -77,6 +77,18 @@ pub fn image_gate(state: State, area: &[u8], layout: u8) -> Gate
         &mut none[..],
     );
     image_of(state, verdict)
+}
+
+// What a check refuses: it enters, and looks at all pages.
+pub fn check_gate(state: State, area: &[u8], layout: u8) -> Gate
+    ensures { λ r. ⌜ r ≡ checkGate layout state (now (area .entry)) ⌝ }
+    ensures within { λ r. ⌜ Whole layout state (now (area .entry)) r ⌝ }
+{
+    let gate = enter(state, area.len(), layout);
+    match gate {
+        Gate::Shut { why } => Gate::Shut { why },
+        Gate::Open => image_gate(state, area, layout),
+    }
 }
 
 // What a growth refuses before it looks at a page, with an area of m bytes and a row of n counts.

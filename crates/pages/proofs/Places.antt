@@ -9,10 +9,9 @@ use lib.Dec.{leb, ltb, leb·suc-suc}
 use lib.ListN.{length, getD}
 use borrow.Author.Tests.{leb-true, leb-false, ltb-true, ltb-false, lt-ltb, le-ltb}
 use Rattle.placing.specs.Image.{All}
-use Rattle.placing.specs.Lay.{ins}
+use Rattle.placing.specs.Lay.{ins, Sorted}
 use Rattle.placing.specs.Walks.{seek, lastAfter}
 use Rattle.placing.proofs.Lists.{all-map}
-use Rattle.placing.proofs.Order.{Sorted}
 use Rattle.placing.proofs.Seek.{seek-ne}
 use Rattle.pages.specs.Places.{ahead}
 use Rattle.pages.specs.steps.Slots.{opened, upToBack}

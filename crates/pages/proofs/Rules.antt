@@ -7,8 +7,8 @@ use lib.Dec.{leb, ltb}
 use borrow.Author.Tests.{leb-true, ltb-true, le-leb, lt-ltb}
 use Rattle.numbers.proofs.Records.{and-left, and-right}
 use Rattle.placing.specs.Image.{All, homeOf}
-use Rattle.placing.specs.Lay.{rankIn}
-use Rattle.placing.proofs.Order.{Sorted, lower}
+use Rattle.placing.specs.Lay.{rankIn, Sorted}
+use Rattle.placing.proofs.Order.{lower}
 use Rattle.pages.specs.Page.{Record, key, rank, homesTo, rises}
 
 module _ (h : ℕ → ℕ) where

@@ -59,10 +59,13 @@ module _ (f : Layout) where
   abbrev pub head : (address used : ℕ) → List Field
   head address used = (2, 256) ∷ (2, kindOf f) ∷ (4, address) ∷ (2, used) ∷ (2, 0) ∷ (4, 0) ∷ []
 
-  -- A slot: "length 20 (2), kind (2), key (8), value (8)"; 02: "a four-byte run number after its
-  -- value"
+  -- what a record says of its key: "value (8)"; 02: "a four-byte run number after its value"
+  abbrev pub payload : Record → List Field
+  payload x = (8, value x) ∷ runField f (run x)
+
+  -- A slot: "length 20 (2), kind (2), key (8), value (8)"
   abbrev pub slot : (kind : ℕ) → Record → List Field
-  slot kind x = (2, widthOf f) ∷ (2, kind) ∷ (8, key x) ∷ (8, value x) ∷ runField f (run x)
+  slot kind x = (2, widthOf f) ∷ (2, kind) ∷ (8, key x) ∷ payload x
 
   -- "Kind 1 is a record."
   abbrev pub recordSlot : Record → List Field

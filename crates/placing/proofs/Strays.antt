@@ -11,11 +11,11 @@ use lib.ListN.{length, take, getD, length-append}
 use lib.Seq.{take-at, getD-at}
 use borrow.Author.Tests.{ltb-true, ltb-false, lt-ltb, eqb-true}
 use Rattle.placing.specs.Image.{All, cat, page, Distinct}
-use Rattle.placing.specs.Lay.{ins}
+use Rattle.placing.specs.Lay.{ins, Sorted}
 use Rattle.placing.specs.Rows.{isThere, strays, strayed}
 use Rattle.placing.specs.Walks.{seek, lastAfter, endsOn, carry}
 use Rattle.placing.proofs.Lists.{all-map, all-left, all-right, all-page}
-use Rattle.placing.proofs.Order.{Sorted, sorted-right, ins-length, ins-front}
+use Rattle.placing.proofs.Order.{sorted-right, ins-length, ins-front}
 use Rattle.placing.proofs.Seek.{clash, seek-ne, ne-seek, seek-here}
 use Rattle.placing.proofs.Perms.{perm-count, perm-seek, ins-perm}
 

@@ -10,9 +10,8 @@ use lib.ListN.{length, take, drop, getD, length-append, length-drop, drop-of-len
 use lib.Seq.{take-all, take-at, drop-at, length-take-le}
 use Rattle.layouts.specs.Layout.{inUse}
 use Rattle.placing.specs.Image.{All, cat, Distinct, RecordSet}
-use Rattle.placing.specs.Lay.{sort, lay, taken}
+use Rattle.placing.specs.Lay.{sort, lay, taken, Sorted}
 use Rattle.placing.specs.Rows.{strayed}
-use Rattle.placing.proofs.Order.{Sorted}
 use Rattle.placing.proofs.Perms.{perm-length, sort-perm}
 use Rattle.pages.proofs.Areas.{held-length}
 use Rattle.pages.specs.Page.{Record, key, homeFor}

@@ -7,9 +7,8 @@ use native.Mathlib.Omega.{arith}
 use lib.Dec.{leb}
 use lib.ListN.{length, drop, length-map}
 use Rattle.placing.specs.Image.{All, cat, Distinct, RecordSet}
-use Rattle.placing.specs.Lay.{rankIn, ins, sort, upTo, lay, taken}
+use Rattle.placing.specs.Lay.{rankIn, ins, sort, upTo, lay, taken, Sorted}
 use Rattle.placing.proofs.Lists.{all-map₂, all-append}
-use Rattle.placing.proofs.Order.{Sorted}
 use Rattle.placing.proofs.Perms.{perm-all, perm-length, perm-upTo, sort-perm, sort-sorted}
 use Rattle.placing.proofs.Taken.{taken-cong}
 use Rattle.placing.proofs.Rank.{distinct-rank}

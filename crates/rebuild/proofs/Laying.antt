@@ -14,9 +14,9 @@ use Rattle.numbers.specs.Little.{written}
 use Rattle.numbers.proofs.Laws.{written-length, written-front, written-after}
 use Rattle.layouts.specs.Layout.{inUse}
 use Rattle.placing.specs.Image.{All}
-use Rattle.placing.specs.Lay.{one, upTo, lay, taken}
+use Rattle.placing.specs.Lay.{one, upTo, lay, taken, Sorted}
 use Rattle.placing.proofs.Lists.{all-map, upTo-none, none-of-length, count-le}
-use Rattle.placing.proofs.Order.{Sorted, sorted-drop}
+use Rattle.placing.proofs.Order.{sorted-drop}
 use Rattle.placing.proofs.Laid.{over, laid}
 use Rattle.placing.proofs.Taken.{packed-taken}
 use Rattle.pages.specs.Page.{Record, pageBytes, inMemory}

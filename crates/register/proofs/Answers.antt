@@ -18,7 +18,7 @@ use Rattle.state.specs.Promises.{Ranged}
 use Rattle.state.proofs.Ranges.{ranged}
 use Rattle.gates.specs.declared.Gate.{Gate}
 use Rattle.gates.specs.declared.Gate.the-variants.{Open, Shut}
-use Rattle.gates.specs.Gates.{gateOf, imageGate, growEntry, growGate, shrinkEntry, shrinkGate}
+use Rattle.gates.specs.Gates.{gateOf, checkGate, imageGate, growEntry, growGate, shrinkEntry, shrinkGate}
 use Rattle.changes.proofs.Settling.{Comes}
 use Rattle.register.specs.steps.Past.{grewEntered, shrankEntered}
 use Rattle.changes.specs.Changes.{done}
@@ -58,16 +58,12 @@ module _ (old : State) (q : Params) (cap : ℕ) (area : List ℕ) where
       → Comes (done f (Accepted 0 0 0)) new (formatted inUse old q cap area)
   format-open f k g gate e new n = rw (← k, ← gate, e) (refl, n)
 
-module _ (s : State) (area : List ℕ) (g : Gate) (gate : g ≡ gateOf inUse s (length area)) where
+module _ (s : State) (area : List ℕ) (g : Gate) (gate : g ≡ checkGate inUse s area) where
   pub check-shut : (why : Answer) → g ≡ Shut why → done s why ≡ checked inUse s area
   check-shut why e = rw (← gate, e)
 
-  module _ (e : g ≡ Open) (i : Gate) (image : i ≡ imageGate inUse s area) where
-    pub check-no : (why : Answer) → i ≡ Shut why → done s why ≡ checked inUse s area
-    check-no why k = rw (← gate, e, ← image, k)
-
-    pub check-yes : i ≡ Open → done s (Accepted 0 (s .cap) 0) ≡ checked inUse s area
-    check-yes k = rw (← gate, e, ← image, k)
+  pub check-yes : g ≡ Open → done s (Accepted 0 (s .cap) 0) ≡ checked inUse s area
+  check-yes e = rw (← gate, e)
 
 module _ (s : State) (area row : List ℕ) (g : Gate) (gate : g ≡ growEntry inUse s (length area) (length row)) where
   pub grew-shut : (why : Answer) → g ≡ Shut why → Grows (done s why) area row (grew inUse s area row)

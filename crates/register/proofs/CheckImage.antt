@@ -24,11 +24,11 @@ use Rattle.state.specs.declared.State.{State}
 use Rattle.state.specs.declared.Answer.the-variants.{Accepted, NotImage}
 use Rattle.state.specs.State.{inRange, homes}
 use Rattle.gates.specs.declared.Gate.the-variants.{Open, Shut}
-use Rattle.gates.specs.Gates.{onGate, gateOf, imageOf, imageGate}
+use Rattle.gates.specs.Gates.{onGate, gateOf, imageOf, imageGate, checkGate}
 use Rattle.register.specs.OneImage.{AreaImage, ImageOfR}
 use Rattle.changes.specs.Changes.{done}
 use Rattle.register.specs.Calls.{checked}
-use Rattle.gates.proofs.Gating.{gate-open}
+use Rattle.gates.proofs.Gating.{gate-open, check-pages}
 use Rattle.gates.proofs.Judging.{GoodFile, open-good, good-open}
 
 -- an image of records is that of the records that stand on it
@@ -91,8 +91,11 @@ module _ (form : Layout) (s : State) (area : List ℕ) (b : Bytes area) (l : len
       gate : Open ≡ gateOf form s (length area)
       gate = gate-open form s (length area) r l
 
+      pages : imageGate form s area ≡ checkGate form s area
+      pages = check-pages form s area Open gate refl (imageGate form s area) refl
+
       says : imageGate form s area ≡ Open → checked form s area .answer ≡ Accepted 0 (s .cap) 0
-      says e = rw (← gate, e)
+      says e = rw (← pages, e)
 
       yes : checked form s area .answer ≡ Accepted 0 (s .cap) 0 → imageGate form s area ≡ Open
-      yes e = only-open form s area (rw (← gate) at e)
+      yes e = only-open form s area (rw (← pages) at e)

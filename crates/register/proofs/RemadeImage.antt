@@ -25,12 +25,12 @@ use Rattle.state.specs.declared.Answer.the-variants.{Accepted, WrongRow, NoRoom
 use Rattle.state.specs.State.{inRange, homes, grown, shrunk}
 use Rattle.state.proofs.Ranges.{grown-range, shrunk-range}
 use Rattle.gates.specs.declared.Gate.the-variants.{Open}
-use Rattle.gates.specs.Gates.{imageGate}
+use Rattle.gates.specs.Gates.{imageGate, checkGate}
 use Rattle.changes.specs.Changes.{done, refused}
 use Rattle.register.specs.OneImage.{ImageOfR}
 use Rattle.register.specs.Calls.{grownCounts, hasRoom, remade, growOpen, withRow}
 use Rattle.register.specs.Files.{Call, grow, shrink, check, fileIn, ofOutcome, ofGrowth, leaves, left}
-use Rattle.gates.proofs.Gating.{row-shut, cap-shut, pages-decide, start-shut, pages-decide-shrink}
+use Rattle.gates.proofs.Gating.{check-pages, row-shut, cap-shut, pages-decide, start-shut, pages-decide-shrink}
 use Rattle.gates.proofs.Judging.{good-open}
 use Rattle.register.proofs.CheckImage.{image-good}
 use Rattle.register.proofs.Rooms.{room-of, room-to-shrink}
@@ -64,9 +64,12 @@ module _ {form : Layout} {s : State} {rs : List Record} {ps : List (List Record)
   image-open = good-open form s (areaFrom form 0 ps) (image-good form s (areaFrom form 0 ps) (area-bytes form 0 ps) (on-length w) image-of)
 
   -- and check says yes
+  pub check-open : checkGate form s (areaFrom form 0 ps) ≡ Open
+  check-open = sym (check-pages form s (areaFrom form 0 ps) Open (on-gate w) refl Open (sym image-open))
+
   pub check-yes : Accepts form s ps check 0 [] s rs (λ qs. 0)
   unfolding left
-  check-yes = record { read = s .cap; moved = 0; pages = ps; left = rw (← on-gate w, image-open); stands = w; moves = refl }
+  check-yes = record { read = s .cap; moved = 0; pages = ps; left = rw check-open; stands = w; moves = refl }
 
   module _ (next : State) where
     -- the pages made anew are the image for that state

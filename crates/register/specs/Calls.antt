@@ -19,7 +19,7 @@ use Rattle.state.specs.declared.Done.{Done}
 use Rattle.state.specs.declared.Answer.the-variants.{Accepted, NoRoom}
 use Rattle.walks.specs.Walks.{walk, findAnswer}
 use Rattle.changes.specs.Changes.{done, Outcome, refused, putOpen, removeOpen}
-use Rattle.gates.specs.Gates.{onGate, gateOf, imageGate, growGate, shrinkGate}
+use Rattle.gates.specs.Gates.{onGate, gateOf, checkGate, growGate, shrinkGate}
 
 -- Format: "empty file, P = n0 x N, r = 0"; "judged on the numbers it is asked for, not on the state
 -- before it"
@@ -38,9 +38,9 @@ stored f s area x = onGate (gateOf f s (length area)) (refused s area) (putOpen 
 abbrev pub removed : Layout → State → List ℕ → (k : ℕ) → Outcome
 removed f s area k = onGate (gateOf f s (length area)) (refused s area) (removeOpen f s area k)
 
--- "Check 1, 2, 4, 9."
+-- Check: its gate is all there is to it
 abbrev pub checked : Layout → State → List ℕ → Done
-checked f s area = onGate (gateOf f s (length area)) (done s) (onGate (imageGate f s area) (done s) (done s (Accepted 0 (s .cap) 0)))
+checked f s area = onGate (checkGate f s area) (done s) (done s (Accepted 0 (s .cap) 0))
 
 -- whether the lent pages can take all records, each at its home in the file `next` or higher
 unfoldable pub hasRoom : Layout → (s next : State) → List ℕ → Bool

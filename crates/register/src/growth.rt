@@ -15,8 +15,8 @@ ghost use Rattle.homes.specs.Homes.{shapeOf};
 ghost use Rattle.state.specs.State.{grown};
 ghost use Rattle.gates.specs.declared.Gate.the-variants.{Open};
 ghost use Rattle.gates.specs.Gates.{imageGate};
-ghost use Rattle.gates.specs.steps.Past.{EnteredToGrow};
-ghost use Rattle.register.specs.steps.Past.{Judgeable, OpenImage, Rehomes, CountedIf, grewEntered};
+ghost use Rattle.gates.specs.steps.Past.{OpenImage, EnteredToGrow};
+ghost use Rattle.register.specs.steps.Past.{Judgeable, Rehomes, CountedIf, grewEntered};
 ghost use Rattle.register.specs.Calls.{grownCounts, growOpen};
 
 // Whether the area is the image of the state's records; their new homes are counted meanwhile.
@@ -46,7 +46,7 @@ fn fill_row(row: &mut [u32], counts: &[u32])
 
 // A growth of a file that is an image, with the row filled: it decides whether there is room.
 fn grow_filled(state: State, next: State, new: NewHomes, area: &mut [u8], row: &[u32]) -> Done
-    requires { ⌜ OpenImage state (now area) × Rehomes state new × (new .shape ≡ shapeOf (next .params) (next .p)) ⌝ }
+    requires { ⌜ OpenImage inUse state (now area) × Rehomes state new × (new .shape ≡ shapeOf (next .params) (next .p)) ⌝ }
     requires { ⌜ (next ≡ grown state) × (now row ≡ grownCounts inUse state (now area)) ⌝ }
     ensures { λ r. let o = growOpen inUse state (now (area .entry)) in ⌜ (r ≡ o .done) × (now (area .exit) ≡ o .area) ⌝ }
 {

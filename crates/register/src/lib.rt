@@ -142,22 +142,16 @@ pub fn remove(state: State, area: &mut [u8], key: u64) -> Done
 pub fn check(state: State, area: &[u8]) -> Done
     ensures { λ r. ⌜ r ≡ checked inUse state (now (area .entry)) ⌝ }
 {
-    let gate = gates::enter(state, area.len(), IN_USE);
+    let gate = gates::check_gate(state, area, IN_USE);
     match gate {
         Gate::Shut { why } => Done { state, answer: why },
         Gate::Open => {
-            let image = gates::image_gate(state, area, IN_USE);
-            match image {
-                Gate::Shut { why } => Done { state, answer: why },
-                Gate::Open => {
-                    let answer = Answer::Accepted {
-                        value: 0,
-                        read: state.cap as u32,
-                        moved: 0,
-                    };
-                    Done { state, answer }
-                }
-            }
+            let answer = Answer::Accepted {
+                value: 0,
+                read: state.cap as u32,
+                moved: 0,
+            };
+            Done { state, answer }
         }
     }
 }

@@ -11,7 +11,8 @@ ghost use Rattle.layouts.specs.Layout.{inUse};
 ghost use Rattle.homes.specs.Homes.{firstPages, shapeOf};
 ghost use Rattle.homes.specs.steps.NewHomes.{Usable};
 ghost use Rattle.state.specs.State.{inRange};
-ghost use Rattle.register.specs.steps.Past.{besides, Rehomes, OpenImage};
+ghost use Rattle.gates.specs.steps.Past.{OpenImage};
+ghost use Rattle.register.specs.steps.Past.{besides, Rehomes};
 ghost use Rattle.register.specs.Calls.{hasRoom, remade};
 
 // The homes in the file `next`, which has a page more or less: `larger` is the one of the two with
@@ -38,7 +39,7 @@ pub(crate) fn beside(next: State, larger: State) -> NewHomes
 
 // An image made anew for the state `next`, where its records have room.
 pub(crate) fn remake(state: State, next: State, new: NewHomes, area: &mut [u8]) -> Done
-    requires { ⌜ OpenImage state (now area) × Rehomes state new × (new .shape ≡ shapeOf (next .params) (next .p)) × (hasRoom inUse state next (now area) ≡ true) ⌝ }
+    requires { ⌜ OpenImage inUse state (now area) × Rehomes state new × (new .shape ≡ shapeOf (next .params) (next .p)) × (hasRoom inUse state next (now area) ≡ true) ⌝ }
     ensures { λ r. let o = remade inUse state next (now (area .entry)) in ⌜ (r ≡ o .done) × (now (area .exit) ≡ o .area) ⌝ }
 {
     let cap = state.cap as usize;

@@ -14,9 +14,9 @@ use Rattle.numbers.proofs.Records.{and-left, and-right}
 use Rattle.layouts.specs.Layout.{Layout, slotsOf}
 use Rattle.layouts.proofs.Lying.{slots-few}
 use Rattle.placing.specs.Image.{All, cat, Distinct, RecordSet, homeOf, Image}
-use Rattle.placing.specs.Lay.{rankOf, rankIn}
+use Rattle.placing.specs.Lay.{rankOf, rankIn, Sorted}
 use Rattle.placing.proofs.Lists.{all-map, all-append, all-right}
-use Rattle.placing.proofs.Order.{Sorted, sorted-right, lower}
+use Rattle.placing.proofs.Order.{sorted-right, lower}
 use Rattle.placing.proofs.Forms.{FirstHome, Local, local-packed, packed-local}
 use Rattle.placing.proofs.Rank.{mono, rising-sorted}
 use Rattle.placing.proofs.Tidy.{Tidy, image-tidy, tidy-image}

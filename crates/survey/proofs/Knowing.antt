@@ -11,9 +11,8 @@ use Rattle.homes.specs.declared.new_homes.NewHomes.{NewHomes}
 use Rattle.homes.specs.steps.NewHomes.{newHome, keepsAt, Agrees}
 use Rattle.draws.proofs.Split.{split}
 use Rattle.placing.specs.Image.{All}
-use Rattle.placing.specs.Lay.{rankIn}
+use Rattle.placing.specs.Lay.{rankIn, Sorted}
 use Rattle.placing.proofs.Lists.{all-map, all-map₂}
-use Rattle.placing.proofs.Order.{Sorted}
 use Rattle.placing.proofs.Rank.{mono}
 use Rattle.numbers.proofs.Records.{and-left, and-right}
 use Rattle.pages.specs.Page.{Record, key, recordsIn}

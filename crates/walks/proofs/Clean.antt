@@ -9,9 +9,9 @@ use lib.Seq.{drop-cons, drop-at, getD-at}
 use Rattle.layouts.specs.Layout.{Layout, slotsOf}
 use Rattle.walks.specs.steps.Plans.{slots}
 use Rattle.placing.specs.Image.{All, cat, page, Distinct, RecordSet, Image}
-use Rattle.placing.specs.Lay.{rankIn}
+use Rattle.placing.specs.Lay.{rankIn, Sorted}
 use Rattle.placing.proofs.Lists.{all-right, all-page}
-use Rattle.placing.proofs.Order.{Sorted, sorted-left, sorted-right}
+use Rattle.placing.proofs.Order.{sorted-left, sorted-right}
 use Rattle.placing.proofs.Perms.{perm-all, perm-distinct}
 use Rattle.placing.proofs.Strays.{all-pages, distinct-right}
 use Rattle.placing.proofs.Tidy.{image-tidy}

@@ -14,9 +14,8 @@ use Rattle.layouts.specs.Layout.{inUse}
 use Rattle.homes.specs.declared.Shape.{Shape}
 use Rattle.homes.specs.Homes.{Ready, homeIn}
 use Rattle.homes.proofs.Homes.{home-below}
-use Rattle.placing.specs.Lay.{rankOf, rankIn}
+use Rattle.placing.specs.Lay.{rankOf, rankIn, Sorted}
 use Rattle.placing.specs.Walks.{seek, lastAfter, endsOn}
-use Rattle.placing.proofs.Order.{Sorted}
 use Rattle.pages.specs.declared.Judged.{Judged}
 use Rattle.pages.specs.Page.{Record, key, readPage, judged}
 use Rattle.pages.specs.Places.{ahead}

@@ -10,8 +10,8 @@ use lib.Dec.{leb, ltb}
 use lib.ListN.{length}
 use lib.Seq.{take-all}
 use Rattle.layouts.specs.Layout.{inUse}
-use Rattle.placing.specs.Lay.{rankIn, ins}
-use Rattle.placing.proofs.Order.{Sorted, ins-length}
+use Rattle.placing.specs.Lay.{rankIn, ins, Sorted}
+use Rattle.placing.proofs.Order.{ins-length}
 use Rattle.pages.specs.Page.{Record, key, vacant, rises, readPage}
 use Rattle.pages.specs.Places.{closed}
 use Rattle.pages.specs.steps.Slots.{backed}

@@ -12,9 +12,9 @@ use lib.Dec.{eqb, ltb}
 use lib.ListN.{length, drop, getD, drop-of-length-le}
 use lib.Seq.{drop-cons}
 use Rattle.placing.specs.Image.{All}
-use Rattle.placing.specs.Lay.{rankOf, rankIn, ranked}
+use Rattle.placing.specs.Lay.{rankOf, rankIn, ranked, Sorted}
 use Rattle.placing.proofs.Lists.{all-getD}
-use Rattle.placing.proofs.Order.{Sorted, sorted-drop, lower}
+use Rattle.placing.proofs.Order.{sorted-drop, lower}
 use Rattle.pages.specs.declared.Judged.{Judged}
 use Rattle.pages.specs.Page.{Record, key, value, vacant, judged}
 use Rattle.pages.specs.Places.{ahead}

@@ -2,17 +2,29 @@
 use Prim.Native.Nat.{ℕ, _*_, _<_}
 use mathlib.Core.Path.{_≡_}
 use mathlib.Core.Bool.{true}
+use mathlib.Core.List.{List}
+use lib.ListN.{length}
 use Rattle.layouts.specs.Layout.{Layout}
 use Rattle.homes.specs.Homes.{firstPages}
 use Rattle.state.specs.declared.State.{State}
 use Rattle.state.specs.State.{inRange}
 use Rattle.gates.specs.declared.Gate.{Gate}
 use Rattle.gates.specs.declared.Gate.the-variants.{Open, Shut}
+use Rattle.gates.specs.Gates.{imageGate}
 
 -- what is known past the gate of a call on an area of n bytes
 abbrev pub OpenFor : Layout → State → ℕ → Gate → Type 0
 OpenFor f s n Open = (inRange f s ≡ true) × (n ≡ 256 * s .cap)
 OpenFor f s n (Shut why) = Unit {0}
+
+-- an area that is the image of the state's records
+abbrev pub OpenImage : Layout → State → List ℕ → Type 0
+OpenImage f s area = (inRange f s ≡ true) × (length area ≡ 256 * s .cap) × (imageGate f s area ≡ Open)
+
+-- which is what is known past the gate of a check
+abbrev pub Whole : Layout → State → List ℕ → Gate → Type 0
+Whole f s area Open = OpenImage f s area
+Whole f s area (Shut why) = Unit {0}
 
 -- what is known past the entry of a growth, before its image is judged
 abbrev pub EnteredToGrow : Layout → State → (m n : ℕ) → Gate → Type 0

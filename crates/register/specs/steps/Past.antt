@@ -26,10 +26,6 @@ use Rattle.register.specs.Calls.{Growth, withRow, grownCounts, growOpen,
 abbrev pub Judgeable : State → (m n : ℕ) → Type 0
 Judgeable s m n = (inRange inUse s ≡ true) × (m ≡ 256 * s .cap) × (n ≡ s .cap)
 
--- an area that is the image of the state's records
-abbrev pub OpenImage : State → List ℕ → Type 0
-OpenImage s area = (inRange inUse s ≡ true) × (length area ≡ 256 * s .cap) × (imageGate inUse s area ≡ Open)
-
 -- the homes in the file `next`, where `larger` is the one of two files with a page more
 abbrev pub besides : (next larger : State) → NewHomes
 besides next larger =

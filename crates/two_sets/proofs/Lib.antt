@@ -1,0 +1,4 @@
+pub mod Differences
+pub mod Turning
+pub mod Counting
+pub mod Promises

@@ -1,4 +1,5 @@
 pub mod Entries
 pub mod Rows
+pub mod Reading
 pub mod Sorting
 pub mod Turns

@@ -179,7 +179,7 @@ fn well_formed(part: &[u8], address: u32, layout: u8) -> bool
 }
 
 // The homes of a page's keys, worked out together. A page without records has none.
-fn homes_of(count: usize, keys: [u64; 12], shape: Shape) -> [u64; 12]
+pub fn homes_of(count: usize, keys: [u64; 12], shape: Shape) -> [u64; 12]
     requires { ⌜ (count ≤ 12) × Ready shape ⌝ }
     ensures { λ r. ⌜ ((i : ℕ) → i < count → getD r i 0 ≡ homeIn shape (getD keys i 0)) ⌝ }
 {

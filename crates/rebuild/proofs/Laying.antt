@@ -29,7 +29,7 @@ use Rattle.entries.specs.declared.Entry.{Entry}
 use Rattle.entries.specs.steps.Entries.{size, entriesIn, rank, home}
 use Rattle.rebuild.specs.declared.Took.{Took}
 use Rattle.rebuild.specs.steps.Rebuild.{slots, recordIn, fitting, hops, hopsFrom, took}
-use Rattle.rebuild.proofs.Reading.{Whole, left-length, left-behind}
+use Rattle.entries.proofs.Reading.{Whole, left-length, left-behind}
 use Rattle.rebuild.proofs.Take.{fitting-few, fitting-length}
 
 -- in a rank the home counts most

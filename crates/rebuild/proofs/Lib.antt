@@ -1,4 +1,3 @@
-pub mod Reading
 pub mod Take
 pub mod Laying
 pub mod Tags

@@ -17,7 +17,7 @@ use Rattle.entries.specs.declared.Entry.{Entry}
 use Rattle.entries.specs.steps.Entries.{size, home, entryAt, entriesIn}
 use Rattle.rebuild.specs.declared.Took.{Took}
 use Rattle.rebuild.specs.steps.Rebuild.{slots, recordIn, fitting, hops, took}
-use Rattle.rebuild.proofs.Reading.{Whole, left-first, left-none}
+use Rattle.entries.proofs.Reading.{Whole, left-first, left-none}
 
 -- as many as fit are no more than there are slots
 pub fitting-few : (b a : ℕ) (es : List Entry) → fitting b a es ≤ b

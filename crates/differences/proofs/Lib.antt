@@ -1,0 +1,4 @@
+pub mod Marking
+pub mod Fitting
+pub mod Passing
+pub mod InPlace

@@ -2,8 +2,9 @@
 use mathlib.Core.Path.{_≡_, sym, ap}
 use mathlib.Core.Bool.{Bool, true, false, cond}
 use mathlib.Core.List.{List}
-use Prim.Native.Nat.{ℕ, _*_, _<_}
+use Prim.Native.Nat.{ℕ, _*_, _≤_, _<_}
 use native.Mathlib.Omega.{arith}
+use lib.Dec.{eqb}
 use lib.ListN.{length}
 use borrow.Author.Tests.{eq-eqb, ne-eqb}
 use Rattle.layouts.specs.Layout.{Layout}
@@ -12,11 +13,13 @@ use Rattle.state.specs.declared.State.{State}
 use Rattle.state.specs.declared.Answer.{Answer}
 use Rattle.state.specs.declared.Answer.the-variants.{OutOfRange, WrongArea, WrongRow, AtCap, AtStart}
 use Rattle.state.specs.State.{inRange}
+use Rattle.state.specs.Answer.{numbers}
 use Rattle.state.specs.Promises.{Ranged}
 use Rattle.state.proofs.Ranges.{ranged}
 use Rattle.gates.specs.declared.Gate.{Gate}
 use Rattle.gates.specs.declared.Gate.the-variants.{Open, Shut}
 use Rattle.gates.specs.Gates.{gateOf, imageGate, checkGate, growEntry, growGate, shrinkEntry, shrinkGate}
+use Rattle.gates.proofs.Judging.{pages-few}
 use Rattle.gates.specs.steps.Past.{OpenFor, OpenImage, Whole, EnteredToGrow, EnteredToShrink}
 
 module _ (form : Layout) (s : State) (n : ℕ) where
@@ -50,10 +53,19 @@ module _ (form : Layout) (s : State) (area : List ℕ) (g : Gate) (gate : g ≡ 
   unfolding checkGate
   check-pages e i k = rw (k, ← gate, e)
 
--- and what is known past it
+-- and what is known past it, or of its refusal
+pub shut-few : (form : Layout) (s : State) (n : ℕ) (why : Answer) → Shut why ≡ gateOf form s n → numbers why .read ≤ 4096
+unfolding gateOf
+shut-few form s n why e = go (inRange form s) (eqb n (256 * s .cap)) e
+  where
+    go : (u v : Bool) → Shut why ≡ cond u (cond v Open (Shut WrongArea)) (Shut OutOfRange) → numbers why .read ≤ 4096
+    go true true q = absurd (let z : _≡_ {A = ℕ} 1 0 = cc in omega arith)
+    go true false q = let z : why ≡ WrongArea = cc in rw z (omega arith)
+    go false v q = let z : why ≡ OutOfRange = cc in rw z (omega arith)
+
 pub whole : (form : Layout) (s : State) (area : List ℕ) → inRange form s ≡ true → length area ≡ 256 * s .cap → (i : Gate) → i ≡ imageGate form s area → Whole form s area i
 whole form s area r l Open k = (r, l, sym k)
-whole form s area r l (Shut why) k = tt
+whole form s area r l (Shut why) k = pages-few form s area (ranged form s r .cap-high) why k
 
 pub past-check : (form : Layout) (s : State) (area : List ℕ) (g : Gate) → Whole form s area g → g ≡ Open → OpenImage form s area
 past-check form s area g k e = rw e at k

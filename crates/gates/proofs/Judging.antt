@@ -3,22 +3,23 @@ use mathlib.Core.Path.{_≡_, refl, sym, _∙_}
 use mathlib.Core.Bool.{Bool, true, false, cond, _&&_}
 use mathlib.Core.Option.{Option, none, some}
 use mathlib.Core.List.{List, [], _∷_}
-use Prim.Native.Nat.{ℕ, suc, _+_, _<_}
+use Prim.Native.Nat.{ℕ, suc, _+_, _*_, _≤_, _<_}
 use native.Mathlib.Numerals.{add-one}
 use native.Mathlib.Omega.{arith}
 use lib.Dec.{eqb}
 use lib.ListN.{length}
 use borrow.Author.Tests.{eqb-true, eq-eqb}
-use Rattle.layouts.specs.Layout.{Layout}
+use Rattle.numbers.specs.Little.{Bytes}
+use Rattle.layouts.specs.Layout.{Layout, slotsOf}
 use Rattle.homes.specs.declared.Shape.{Shape}
 use Rattle.homes.specs.declared.new_homes.NewHomes.{NewHomes}
 use Rattle.homes.specs.Homes.{shapeOf, homeIn}
 use Rattle.homes.specs.steps.NewHomes.{newHome}
 use Rattle.numbers.proofs.Records.{and-left, and-right}
-use Rattle.placing.specs.Image.{cat}
+use Rattle.placing.specs.Image.{cat, RecordSet, Image}
 use Rattle.placing.specs.Rows.{counts}
-use Rattle.pages.proofs.Areas.{pages-length}
-use Rattle.pages.specs.Page.{Record, homeFor}
+use Rattle.pages.proofs.Areas.{pages-length, held-length}
+use Rattle.pages.specs.Page.{Record, key, homeFor}
 use Rattle.pages.specs.Area.{pagesFrom, heldFrom}
 use Rattle.survey.specs.declared.Verdict.{Verdict}
 use Rattle.survey.specs.declared.Verdict.the-variants.{Whole}
@@ -26,9 +27,12 @@ use Rattle.survey.specs.declared.Verdict.the-variants as verdicts
 use Rattle.survey.specs.declared.Count.the-variants.{Homes}
 use Rattle.survey.specs.Survey.{lowestBroken, isImage, onBroken, surveyed}
 use Rattle.survey.specs.steps.Counts.{Counts}
+use Rattle.survey.proofs.ImageTest.{GoodFrom, image-set, image-test, good-pages}
 use Rattle.state.specs.declared.State.{State}
+use Rattle.state.specs.declared.Answer.{Answer}
 use Rattle.state.specs.declared.Answer.the-variants.{Broken, NotImage}
 use Rattle.state.specs.State.{homes}
+use Rattle.state.specs.Answer.{numbers}
 use Rattle.gates.specs.declared.Gate.{Gate}
 use Rattle.gates.specs.declared.Gate.the-variants.{Open, Shut}
 use Rattle.gates.specs.Gates.{imageOf, imageGate}
@@ -52,6 +56,19 @@ sick-below form h area cap v a t e = go (lowestBroken 0 (pagesFrom form h area c
     go (some b) q k =
         let w : b ≡ a = cc in
         omega (arith, lowest-below 0 b (pagesFrom form h area cap 0) q, pages-length form h area cap 0)
+
+-- and the pages refuse no more than they are
+pub pages-few : (form : Layout) (s : State) (area : List ℕ) → s .cap ≤ 4096 → (why : Answer) → Shut why ≡ imageGate form s area → numbers why .read ≤ 4096
+unfolding imageGate
+pages-few form s area c why e = go (surveyed form (homes s) area (s .cap)) refl e
+  where
+    tests : (u : Bool) → Shut why ≡ cond u Open (Shut (NotImage (s .cap))) → numbers why .read ≤ 4096
+    tests true q = absurd (let z : _≡_ {A = ℕ} 1 0 = cc in omega arith)
+    tests false q = let z : why ≡ NotImage (s .cap) = cc in rw z c
+
+    go : (v : Verdict) → v ≡ surveyed form (homes s) area (s .cap) → Shut why ≡ imageOf s v → numbers why .read ≤ 4096
+    go (verdicts.Broken a) t q = let z : why ≡ Broken a (suc a) = cc in rw z (omega (arith, sick-below form (homes s) area (s .cap) (verdicts.Broken a) a t refl))
+    go (Whole image records) t q = tests (image && eqb records (s .r)) q
 
 module _ (s : State) (v : Verdict) where
   -- a broken page, which is the last that was read
@@ -119,3 +136,15 @@ open-good form s area e = look (lowestBroken 0 (pagesFrom form h area (s .cap) 0
 pub good-open : (form : Layout) (s : State) (area : List ℕ) → GoodFile form s area → imageGate form s area ≡ Open
 unfolding imageGate surveyed
 good-open form s area k = rw (k .whole, k .image, eq-eqb (length (cat (heldFrom form area (s .cap) 0) [])) (s .r) (k .count))
+
+module _ (form : Layout) (s : State) (area : List ℕ) (b : Bytes area) (l : length area ≡ 256 * s .cap) (k : GoodFile form s area) where
+  good : GoodFrom form (homes s) 0 (heldFrom form area (s .cap) 0)
+  good = good-pages form (homes s) area b (s .cap) 0 (omega arith) (k .whole)
+
+  -- the records on such pages are a set
+  pub held-set : RecordSet key (cat (heldFrom form area (s .cap) 0) [])
+  held-set = image-set form (homes s) (heldFrom form area (s .cap) 0) (k .image) good
+
+  -- and the pages are its image
+  pub held-image : Image key (homes s) (slotsOf form) (s .cap) (cat (heldFrom form area (s .cap) 0) []) (heldFrom form area (s .cap) 0)
+  held-image = image-test form (homes s) (heldFrom form area (s .cap) 0) (s .cap) (held-length form area (s .cap) 0) good .0 (k .image)

@@ -1,2 +1,2 @@
-pub mod Gating
 pub mod Judging
+pub mod Gating

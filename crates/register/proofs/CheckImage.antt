@@ -19,7 +19,7 @@ use Rattle.survey.specs.declared.Verdict.{Verdict}
 use Rattle.survey.specs.declared.Verdict.the-variants.{Whole}
 use Rattle.survey.specs.declared.Verdict.the-variants as verdicts
 use Rattle.survey.specs.Survey.{lowestBroken, surveyed}
-use Rattle.survey.proofs.ImageTest.{GoodFrom, image-set, image-test, none-broken, good-pages, all-pass}
+use Rattle.survey.proofs.ImageTest.{GoodFrom, image-test, none-broken, good-pages, all-pass}
 use Rattle.state.specs.declared.State.{State}
 use Rattle.state.specs.declared.Answer.the-variants.{Accepted, NotImage}
 use Rattle.state.specs.State.{inRange, homes}
@@ -29,7 +29,7 @@ use Rattle.register.specs.OneImage.{AreaImage, ImageOfR}
 use Rattle.changes.specs.Changes.{done}
 use Rattle.register.specs.Calls.{checked}
 use Rattle.gates.proofs.Gating.{gate-open, check-pages}
-use Rattle.gates.proofs.Judging.{GoodFile, open-good, good-open}
+use Rattle.gates.proofs.Judging.{GoodFile, open-good, good-open, held-set, held-image}
 
 -- an image of records is that of the records that stand on it
 of-own : {b : ℕ} {h : ℕ → ℕ} {n : ℕ} {rs : List Record} {ps : List (List Record)} → Image key h b n rs ps → Image key h b n (cat ps []) ps
@@ -59,16 +59,15 @@ module _ (form : Layout) (s : State) (area : List ℕ) (b : Bytes area) (l : len
   pub good-image : GoodFile form s area → ImageOfR form s area
   good-image k =
       let ps : List (List Record) = heldFrom form area (s .cap) 0 in
-      let g : GoodFrom form (homes s) 0 ps = good (k .whole) in
       record {
         records = cat ps [];
-        set = image-set form (homes s) ps (k .image) g;
+        set = held-set form s area b l k;
         count = k .count;
         is = record {
           pages = ps;
           bytes = area-pages form (homes s) area (s .cap) ps b l (none-broken form (homes s) area (s .cap) 0 (k .whole));
           pass = none-broken form (homes s) area (s .cap) 0 (k .whole);
-          image = image-test form (homes s) ps (s .cap) (held-length form area (s .cap) 0) g .0 (k .image);
+          image = held-image form s area b l k;
         };
       }
 

@@ -30,7 +30,7 @@ use Rattle.rebuild.specs.Relaid.{relaid}
 use Rattle.survey.specs.declared.Count.the-variants.{Homes}
 use Rattle.survey.specs.declared.Verdict.{Verdict}
 use Rattle.survey.specs.steps.Counts.{Counts, Countable}
-use Rattle.survey.proofs.ImageTest.{image-set, good-pages}
+use Rattle.survey.proofs.ImageTest.{good-pages}
 use Rattle.survey.proofs.Knowing.{image-known}
 use Rattle.state.specs.declared.State.{State}
 use Rattle.state.specs.declared.Answer.the-variants.{Accepted}
@@ -39,18 +39,16 @@ use Rattle.state.proofs.Ranges.{ranged, in-shape, grown-range, shrunk-range}
 use Rattle.gates.specs.declared.Gate.{Gate}
 use Rattle.gates.specs.declared.Gate.the-variants.{Open, Shut}
 use Rattle.gates.specs.Gates.{imageOf, imageGate}
-use Rattle.gates.proofs.Judging.{open-counted, GoodFile, open-good}
+use Rattle.gates.proofs.Judging.{open-counted, GoodFile, open-good, held-set}
 use Rattle.changes.specs.Changes.{done}
 use Rattle.changes.proofs.Settling.{Comes}
 use Rattle.register.specs.steps.Past.{besides, Rehomes, CountedIf}
 use Rattle.register.specs.Calls.{grownCounts, hasRoom, remade}
 
 -- the records of an area that is an image are a set
-pub held-set : (form : Layout) (s : State) (area : List ℕ) → Bytes area → length area ≡ 256 * s .cap → imageGate form s area ≡ Open
+pub open-set : (form : Layout) (s : State) (area : List ℕ) → Bytes area → length area ≡ 256 * s .cap → imageGate form s area ≡ Open
     → RecordSet key (cat (heldFrom form area (s .cap) 0) [])
-held-set form s area b l e =
-    let k : GoodFile form s area = open-good form s area e in
-    image-set form (homes s) (heldFrom form area (s .cap) 0) (k .image) (good-pages form (homes s) area b (s .cap) 0 (omega arith) (k .whole))
+open-set form s area b l e = held-set form s area b l (open-good form s area e)
 
 -- the counts are as many as the area has pages
 pub counts-many : (form : Layout) (s : State) (area row : List ℕ) → row ≡ grownCounts form s area → length row ≡ s .cap

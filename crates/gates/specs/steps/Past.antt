@@ -1,5 +1,5 @@
 -- What the code knows past a gate.
-use Prim.Native.Nat.{ℕ, _*_, _<_}
+use Prim.Native.Nat.{ℕ, _*_, _≤_, _<_}
 use mathlib.Core.Path.{_≡_}
 use mathlib.Core.Bool.{true}
 use mathlib.Core.List.{List}
@@ -8,6 +8,7 @@ use Rattle.layouts.specs.Layout.{Layout}
 use Rattle.homes.specs.Homes.{firstPages}
 use Rattle.state.specs.declared.State.{State}
 use Rattle.state.specs.State.{inRange}
+use Rattle.state.specs.Answer.{numbers}
 use Rattle.gates.specs.declared.Gate.{Gate}
 use Rattle.gates.specs.declared.Gate.the-variants.{Open, Shut}
 use Rattle.gates.specs.Gates.{imageGate}
@@ -21,10 +22,10 @@ OpenFor f s n (Shut why) = Unit {0}
 abbrev pub OpenImage : Layout → State → List ℕ → Type 0
 OpenImage f s area = (inRange f s ≡ true) × (length area ≡ 256 * s .cap) × (imageGate f s area ≡ Open)
 
--- which is what is known past the gate of a check
+-- which is what is known past the gate of a check; a refusal there has read no more than all pages
 abbrev pub Whole : Layout → State → List ℕ → Gate → Type 0
 Whole f s area Open = OpenImage f s area
-Whole f s area (Shut why) = Unit {0}
+Whole f s area (Shut why) = numbers why .read ≤ 4096
 
 -- what is known past the entry of a growth, before its image is judged
 abbrev pub EnteredToGrow : Layout → State → (m n : ℕ) → Gate → Type 0

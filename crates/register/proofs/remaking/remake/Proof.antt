@@ -5,7 +5,7 @@ use borrow.Author.Needs.{needs}
 use Rattle.numbers.specs.Little.{Bytes}
 use Rattle.layouts.specs.Layout.{inUse}
 use Rattle.state.proofs.Ranges.{ranged}
-use Rattle.register.proofs.MadeAnew.{held-set, rehomed-known, takes-all, remake-done}
+use Rattle.register.proofs.MadeAnew.{open-set, rehomed-known, takes-all, remake-done}
 use Rattle.register.proofs.remaking.remake.Statement.{statement}
 use Rattle.register.proofs.remaking.remake.Tie as tie
 
@@ -22,7 +22,7 @@ rebuild-requires c κs =
     let n = b .pre .0 in
     let m = b .pre .1 in (
       (ranged inUse s (n .0) .cap-high, n .1, m .usable, rehomed-known s (n .0) m area (bytes k) (n .1) (n .2)),
-      (held-set inUse s area (bytes k) (n .1) (n .2), takes-all inUse s (b .args .next) area (b .args .new) (b .pre .2) (b .pre .3)),
+      (open-set inUse s area (bytes k) (n .1) (n .2), takes-all inUse s (b .args .next) area (b .args .new) (b .pre .2) (b .pre .3)),
     )
 
 returns : tie.Need-returns

@@ -1,0 +1,5 @@
+pub mod Known
+pub mod Counting
+pub mod Writing
+pub mod Contrasting
+pub mod Ways

@@ -1,0 +1,39 @@
+-- What the code knows of two files past their gates, and of the row in which their entries are sorted.
+use Prim.Native.Nat.{ℕ, _+_, _*_}
+use mathlib.Core.Path.{_≡_}
+use mathlib.Core.Bool.{true, false}
+use mathlib.Core.List.{List, _++_, map}
+use lib.ListN.{length}
+use Rattle.layouts.specs.Layout.{inUse}
+use Rattle.homes.specs.Homes.{shapeOf}
+use Rattle.placing.specs.Image.{All, Distinct}
+use Rattle.placing.specs.Lay.{count}
+use Rattle.pages.specs.Page.{Record}
+use Rattle.entries.specs.declared.Entry.{Entry}
+use Rattle.entries.specs.steps.Entries.{size, rank}
+use Rattle.entries.proofs.Entries.{SizedEntry}
+use Rattle.state.specs.declared.State.{State}
+use Rattle.two_sets.specs.Differences.{isOnlyFirst, isOnlySecond, isUnlike}
+use Rattle.differences.specs.declared.Site.{Site}
+use Rattle.differences.specs.steps.Passes.{D, look, ofAll, entryOf}
+use Rattle.differences.specs.steps.Unpacked.{more, wide}
+use Rattle.comparisons.specs.declared.Counts.{Counts}
+
+-- what a search needs of a file
+abbrev pub siteOf : State → Site
+siteOf s = record { cap = s .cap; shape = shapeOf (s .params) (s .p) }
+
+-- the entries of what two passes meet, over the records xs of one area and ys of another
+abbrev pub entriesOfBoth : (here : Site) (area : List ℕ) (xs : List Record) (there : Site) (other : List ℕ) (ys : List Record) → List Entry
+entriesOfBoth here area xs there other ys = map entryOf (ofAll true (look there other) xs) ++ map entryOf (ofAll false (look here area) ys)
+
+-- a row that these entries fill from `base` on, with as much free before them as they grow
+pub record Sortable (row : List ℕ) (base : ℕ) (es : List Entry) : Type 0 where
+  pub long : length row ≡ base + size * length es
+  pub free : base ≡ more * wide es
+  pub once : Distinct rank es
+  pub sized : All SizedEntry es
+
+-- the three counts of a list
+abbrev pub countsOf : List D → Counts
+countsOf ds = record { first = count isOnlyFirst ds; second = count isOnlySecond ds; both = count isUnlike ds }

@@ -29,8 +29,8 @@ use Rattle.gates.specs.Gates.{gateOf, imageOf, imageGate, growGate, shrinkGate}
 use Rattle.register.specs.OneImage.{ImageOfR}
 use Rattle.register.specs.Files.{File}
 use Rattle.gates.proofs.Gating.{range-shut, area-shut, gate-open, row-shut, cap-shut, pages-decide, start-shut, pages-decide-shrink}
-use Rattle.gates.proofs.Judging.{good-open}
-use Rattle.register.proofs.CheckImage.{image-good, check-image}
+use Rattle.gates.proofs.Judging.{open-good, good-open}
+use Rattle.register.proofs.CheckImage.{good-image, image-good}
 use Rattle.demands.specs.Refusals.{RightArea, SomeBroken, LowestBroken}
 
 -- what every call that has a gate finds first
@@ -101,9 +101,7 @@ module _ (f : File) (b : Bytes (f .area)) (r : Ranged (f .layout) (f .state)) (l
       omega arith
 
   open-image : imageGate (f .layout) s area ≡ Open → ImageOfR (f .layout) s area
-  open-image e =
-      let range : inRange (f .layout) s ≡ true = in-range (f .layout) s r in
-      check-image (f .layout) s area b l range .0 (rw (← (gate-open (f .layout)) s (length area) range l, e))
+  open-image e = good-image (f .layout) s area b l (open-good (f .layout) s area e)
 
   -- with none broken, the test of the image decides
   none-sick : (u : Bool) → imageGate (f .layout) s area ≡ cond u Open (Shut (NotImage (s .cap))) → (SomeBroken f → ⊥) → Pages f

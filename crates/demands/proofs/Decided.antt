@@ -1,5 +1,5 @@
 -- Format and check on any bytes: each way out with its numbers, and with the causes that hold there.
-use mathlib.Core.Path.{_≡_, refl, _∙_}
+use mathlib.Core.Path.{_≡_, refl}
 use mathlib.Core.Bool.{true, false}
 use mathlib.Core.Logic.{_↔_, inl, inr}
 use mathlib.Core.List.{List, [], _∷_}
@@ -11,19 +11,20 @@ use Rattle.state.specs.Promises.{Ranged}
 use Rattle.numbers.specs.Little.{Bytes}
 use Rattle.pages.specs.Area.{areaFrom}
 use Rattle.state.specs.declared.State.{State}
-use Rattle.state.specs.declared.Done.{Done}
 use Rattle.state.specs.declared.Numbers.{Numbers}
 use Rattle.state.specs.declared.Answer.the-variants.{Accepted}
 use Rattle.state.specs.State.{fresh}
 use Rattle.state.specs.Answer.{told, numbers}
-use Rattle.gates.specs.Gates.{onGate, gateOf, imageGate}
+use Rattle.gates.specs.declared.Gate.{Gate}
+use Rattle.gates.specs.declared.Gate.the-variants.{Open, Shut}
+use Rattle.gates.specs.Gates.{onGate, gateOf, imageGate, checkGate}
 use Rattle.register.specs.OneImage.{ImageOfR}
 use Rattle.changes.specs.Changes.{done}
 use Rattle.register.specs.Files.{Call, format, check, File, left}
 use Rattle.demands.specs.Refusals.{Cause, when, unless, RightArea, SomeBroken, LowestBroken, order, OneOf, gives, tells, AcceptedTells, Judges}
 use Rattle.demands.proofs.InOrder.{listed, one-of, none-of, Comes}
 use Rattle.demands.proofs.Causes.{Enters, out, other, entered, enter, Pages, sick, strange, whole, judge}
-use Rattle.demands.proofs.CallNumbers.{Known, refuses, gated, looks}
+use Rattle.demands.proofs.CallNumbers.{Known, refuses, gated}
 
 -- of a call that is accepted exactly where A holds, and that judges all pages or none
 pub record Decided (f : File) (c : Call) (A : Type 0) (n : Numbers) : Type 0 where
@@ -112,10 +113,13 @@ module _ (f : File) where
   Good = Ranged (f .layout) s × RightArea s area × ImageOfR (f .layout) s area
 
   check-tells : tells f check ≡ onGate (gateOf (f .layout) s (length area)) numbers (onGate (imageGate (f .layout) s area) numbers (told 0 0 0 (s .cap) 0))
-  unfolding left
-  check-tells =
-      let yes : Done = done s (Accepted 0 (s .cap) 0) in
-      looks s (onGate (imageGate (f .layout) s area) (done s) yes) (gateOf (f .layout) s (length area)) ∙ rw (looks s yes (imageGate (f .layout) s area))
+  unfolding left checkGate
+  check-tells = go (gateOf (f .layout) s (length area)) (imageGate (f .layout) s area)
+    where
+      go : (g i : Gate) → numbers (onGate (onGate g Shut i) (done s) (done s (Accepted 0 (s .cap) 0)) .answer) ≡ onGate g numbers (onGate i numbers (told 0 0 0 (s .cap) 0))
+      go Open Open = refl
+      go Open (Shut why) = refl
+      go (Shut why) i = refl
 
   module _ (b : Bytes area) where
     pub check-decided : Decided f check Good (tells f check)

@@ -34,7 +34,7 @@ use Rattle.demands.proofs.Steps.{Step, refused, accepted, said, plain-n
 use Rattle.demands.proofs.ReadMoved.{read-held-stands, read-absent-stands, read-within-stands, moved-stands}
 
 -- after a fresh history the file is the image of what is kept
-stands : (m : Kept) (f : File) → Fresh m f → (ps : List (List Record)) × ((f ≡ fileOf m ps) × Stands m ps)
+pub stands : (m : Kept) (f : File) → Fresh m f → (ps : List (List Record)) × ((f ≡ fileOf m ps) × Stands m ps)
 stands m f w = rw (w .keeps, w .leaves) at (history none (w .start) (w .calls) tt (w .fits))
 
 -- 01's numbers of calls that come to the same are the same

@@ -16,7 +16,7 @@ use Rattle.state.specs.State.{all, inRange}
 use Rattle.walks.specs.Walks.{walk, putWalk, removeWalk}
 use Rattle.survey.specs.Survey.{isImage, surveyed}
 use Rattle.rebuild.specs.Relaid.{relaid}
-use Rattle.gates.specs.Gates.{gateOf, imageGate, growGate, shrinkGate}
+use Rattle.gates.specs.Gates.{gateOf, imageGate, checkGate, growGate, shrinkGate}
 use Rattle.register.specs.Calls.{hasRoom, remade, growOpen}
 use Rattle.register.specs.Files.{Call, format, find, put, remove, grow, shrink, check, due, File, left, after}
 use Rattle.demands.specs.Histories.{Kept, without, kept}
@@ -34,7 +34,7 @@ abbrev outcome : Kept
 outcome = record { layout = inUse; params = params 1 1 1 1; cap = 2; p = 2; held = recordWith 7 1 0 ∷ [] }
 
 pub session : Fresh outcome (after start calls)
-unfolding draw mover swept movedTo nextGroups steps home little bytesOf numberAt written encode pageBytes recordsIn wellFormed readPage partAt closed all inRange walk putWalk removeWalk isImage surveyed gateOf imageGate growGate shrinkGate relaid hasRoom remade growOpen left after without kept
+unfolding draw mover swept movedTo nextGroups steps home little bytesOf numberAt written encode pageBytes recordsIn wellFormed readPage partAt closed all inRange walk putWalk removeWalk isImage surveyed gateOf imageGate checkGate growGate shrinkGate relaid hasRoom remade growOpen left after without kept
 session =
     record {
       start = start;

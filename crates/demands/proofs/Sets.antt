@@ -23,7 +23,7 @@ module _ (k : ℕ) where
   record-found [] = refl
   record-found (x ∷ s) = rw (record-found s)
 
-  commit-found : (s : List Record) → commitOf k s ≡ Option·map value (seek key k s)
+  pub commit-found : (s : List Record) → commitOf k s ≡ Option·map value (seek key k s)
   unfolding commitOf
   commit-found [] = refl
   commit-found (x ∷ s) = rw (commit-found s) (go (eqb (key x) k))

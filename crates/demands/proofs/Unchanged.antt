@@ -14,7 +14,7 @@ use Rattle.state.specs.State.{homes, fresh, oneMore, oneLess, grown, shrunk}
 use Rattle.walks.specs.Walks.{Walked, went, stopped, walk, findAnswer, putWalk, removeWalk}
 use Rattle.gates.specs.declared.Gate.{Gate}
 use Rattle.gates.specs.declared.Gate.the-variants.{Open, Shut}
-use Rattle.gates.specs.Gates.{onGate, gateOf, imageGate, growGate, shrinkGate}
+use Rattle.gates.specs.Gates.{onGate, gateOf, checkGate, growGate, shrinkGate}
 use Rattle.changes.specs.Changes.{done, Outcome, refused, settled, putOpen, removeOpen}
 use Rattle.register.specs.Calls.{hasRoom, remade, growOpen, withRow, grownCounts}
 use Rattle.register.specs.Files.{format, find, put, remove, grow, shrink, check, due, File, Left, ofOutcome, ofGrowth, leaves, left, numbersOf}
@@ -73,9 +73,5 @@ total f (remove k) =
     gated f (gateOf (f .layout) s (length (f .area))) (removeOpen (f .layout) s (f .area) k) (walked f (oneLess s) (eqb (s .r) 0) (removeWalk (f .layout) (homes s) (f .area) (s .cap) k))
 total f (grow row) = grows f (growGate (f .layout) (f .state) (f .area) (length row)) row (grownCounts (f .layout) (f .state) (f .area))
 total f shrink = gated f (shrinkGate (f .layout) (f .state) (f .area)) (remade (f .layout) (f .state) (shrunk (f .state)) (f .area)) (λ n. absurd (n refl))
-total f check = checks (gateOf (f .layout) (f .state) (length (f .area))) (imageGate (f .layout) (f .state) (f .area))
-  where
-    checks : (g i : Gate) → Leaves f (leaves (f .layout) (onGate g (done (f .state)) (onGate i (done (f .state)) (done (f .state) (Accepted 0 (f .state .cap) 0)))) (f .area) []) []
-    checks Open i = looks f i (Accepted 0 (f .state .cap) 0)
-    checks (Shut why) i = λ n. (refl, λ s. refl)
+total f check = looks f (checkGate (f .layout) (f .state) (f .area)) (Accepted 0 (f .state .cap) 0)
 total f due = λ n. absurd (n refl)

@@ -20,7 +20,7 @@ use Rattle.state.specs.Answer.{numbers}
 use Rattle.walks.specs.Walks.{walk, putWalk}
 use Rattle.survey.specs.Survey.{isImage, surveyed}
 use Rattle.rebuild.specs.Relaid.{relaid}
-use Rattle.gates.specs.Gates.{gateOf, imageGate, growGate}
+use Rattle.gates.specs.Gates.{gateOf, imageGate, checkGate, growGate}
 use Rattle.changes.specs.Changes.{Outcome}
 use Rattle.register.specs.Calls.{Growth, formatted, stored, hasRoom, remade, growOpen, grew}
 
@@ -122,24 +122,24 @@ printed =
 
 -- the rows that take a run of the calls, each run worked out by itself
 run-moves : moves (grow (putAll twelve (file 2))) ≡ ((0 ∷ 12 ∷ []) ∷ [] ∷ twelve ∷ [])
-unfolding draw mover swept movedTo nextGroups steps home little bytesOf numberAt written encode pageBytes recordsIn wellFormed readPage inMemory partAt opened closed all inRange walk putWalk isImage surveyed gateOf imageGate growGate relaid hasRoom remade growOpen
+unfolding draw mover swept movedTo nextGroups steps home little bytesOf numberAt written encode pageBytes recordsIn wellFormed readPage inMemory partAt opened closed all inRange walk putWalk isImage surveyed gateOf imageGate checkGate growGate relaid hasRoom remade growOpen
 run-moves = refl
 
 run-then12 : then12 (grow (putAll twelve (file 2))) ≡ ((7 ∷ []) ∷ [])
-unfolding draw mover swept movedTo nextGroups steps home little bytesOf numberAt written encode pageBytes recordsIn wellFormed readPage inMemory partAt opened closed all inRange walk putWalk isImage surveyed gateOf imageGate growGate relaid hasRoom remade growOpen
+unfolding draw mover swept movedTo nextGroups steps home little bytesOf numberAt written encode pageBytes recordsIn wellFormed readPage inMemory partAt opened closed all inRange walk putWalk isImage surveyed gateOf imageGate checkGate growGate relaid hasRoom remade growOpen
 run-then12 = refl
 
 run-thirteen : thirteen (putAll (twelve ++ 12 ∷ []) (file 2)) ≡ (twelve ∷ (12 ∷ []) ∷ (7 ∷ []) ∷ [])
-unfolding draw mover swept movedTo nextGroups steps home little bytesOf numberAt written encode pageBytes recordsIn wellFormed readPage inMemory partAt opened closed all inRange walk putWalk isImage surveyed gateOf imageGate growGate relaid hasRoom remade growOpen
+unfolding draw mover swept movedTo nextGroups steps home little bytesOf numberAt written encode pageBytes recordsIn wellFormed readPage inMemory partAt opened closed all inRange walk putWalk isImage surveyed gateOf imageGate checkGate growGate relaid hasRoom remade growOpen
 run-thirteen = refl
 
 run-one : onePage (putAll twelve (file 1)) ≡ ((7 ∷ 6 ∷ 13 ∷ []) ∷ [])
-unfolding draw mover swept movedTo nextGroups steps home little bytesOf numberAt written encode pageBytes recordsIn wellFormed readPage inMemory partAt opened closed all inRange walk putWalk isImage surveyed gateOf imageGate growGate relaid hasRoom remade growOpen
+unfolding draw mover swept movedTo nextGroups steps home little bytesOf numberAt written encode pageBytes recordsIn wellFormed readPage inMemory partAt opened closed all inRange walk putWalk isImage surveyed gateOf imageGate checkGate growGate relaid hasRoom remade growOpen
 run-one = refl
 
 rows : {a b s t : List (List ℕ)} → a ≡ b → s ≡ t → a ++ s ≡ b ++ t
 rows e f = rw (e, f)
 
 pub figures : given ≡ printed
-unfolding draw mover swept movedTo nextGroups steps home little bytesOf numberAt written encode pageBytes recordsIn wellFormed readPage inMemory partAt opened closed all inRange walk putWalk isImage surveyed gateOf imageGate growGate relaid hasRoom remade growOpen
+unfolding draw mover swept movedTo nextGroups steps home little bytesOf numberAt written encode pageBytes recordsIn wellFormed readPage inMemory partAt opened closed all inRange walk putWalk isImage surveyed gateOf imageGate checkGate growGate relaid hasRoom remade growOpen
 figures = rows {a = alone} refl (rows run-moves (rows run-then12 (rows run-thirteen run-one)))

@@ -6,7 +6,9 @@ use homes::Params;
 use libc::STDIN_FILENO;
 use libc::STDOUT_FILENO;
 use pages::Record;
+use raw_records::Answered;
 use raw_records::Asked;
+use raw_records::COMPARE;
 use raw_records::LONGEST;
 use records::Told;
 use state::Done;
@@ -37,9 +39,53 @@ fn due(state: State) -> Told {
     }
 }
 
-// The call that a sound record asks for. What is no kind doesn't come here, so it may stand in a
-// neighbour's arm.
-fn call(asked: Asked, area: &mut [u8], second: &[u8], row: &mut [u32], room: &mut [u8]) -> Told {
+// An answer about one file.
+fn of_one(told: Told) -> Answered {
+    Answered {
+        told,
+        file: 0,
+        taken: 0,
+    }
+}
+
+// A comparison with the file that the second string is: a state, then an area. A sound record has the
+// state; what has none doesn't come here.
+fn compare(state: State, area: &[u8], second: &[u8], room: &mut [u8]) -> Answered {
+    if second.len() < 16 {
+        return of_one(due(state));
+    }
+    let there = slips::get_state(second, 0);
+    let n = comparisons::compare(state, area, there, &second[16..], room).numbers();
+    let numbers = n.numbers;
+    Answered {
+        told: Told { state, numbers },
+        file: n.file,
+        taken: n.taken,
+    }
+}
+
+// The call on two files that a sound record asks for, or the one on one file.
+fn call(
+    asked: Asked,
+    area: &mut [u8],
+    second: &[u8],
+    row: &mut [u32],
+    room: &mut [u8],
+) -> Answered {
+    if asked.kind == COMPARE {
+        return compare(asked.state, &area[..], second, room);
+    }
+    of_one(call_one(asked, area, second, row, room))
+}
+
+// What is no kind doesn't come here, so it may stand in a neighbour's arm.
+fn call_one(
+    asked: Asked,
+    area: &mut [u8],
+    second: &[u8],
+    row: &mut [u32],
+    room: &mut [u8],
+) -> Told {
     let state = asked.state;
     let kind = asked.kind;
     match kind {
@@ -64,7 +110,13 @@ fn call(asked: Asked, area: &mut [u8], second: &[u8], row: &mut [u32], room: &mu
 
 // The call of a record with its row. Parts of one buffer can't be lent side by side: only the area
 // is, and the other strings are copied.
-fn with_row(asked: Asked, bytes: &mut [u8], second: &[u8], row: &mut [u32], room: &mut [u8]) -> Told
+fn with_row(
+    asked: Asked,
+    bytes: &mut [u8],
+    second: &[u8],
+    row: &mut [u32],
+    room: &mut [u8],
+) -> Answered
     requires { ⌜ Lying asked × (asked .room ≡ length (now bytes)) × (asked .second + 4 + 4 * length (now row) ≤ asked .row) ⌝ }
 {
     let area = asked.area;
@@ -77,7 +129,7 @@ fn with_row(asked: Asked, bytes: &mut [u8], second: &[u8], row: &mut [u32], room
 
 // The call of a record, with a row as long as the record's. The second string is only read; the
 // room goes back, as the row does.
-fn call_on(asked: Asked, bytes: &mut [u8], row: &mut [u32]) -> Told
+fn call_on(asked: Asked, bytes: &mut [u8], row: &mut [u32]) -> Answered
     requires { ⌜ Lying asked × (asked .room ≡ length (now bytes)) × (asked .second + 4 + 4 * length (now row) ≤ asked .row) ⌝ }
 {
     let start = asked.area + 4;
@@ -93,7 +145,7 @@ fn call_on(asked: Asked, bytes: &mut [u8], row: &mut [u32]) -> Told
 }
 
 // A reply: its numbers, then area, row and room as they lie in the bytes, with their lengths.
-fn tell(asked: Asked, bytes: &[u8], told: Told) -> bool
+fn tell(asked: Asked, bytes: &[u8], told: Answered) -> bool
     requires { ⌜ Lying asked × (asked .room ≡ length (now bytes)) × (length (now bytes) ≤ 65662) ⌝ }
 {
     let area = asked.area;

@@ -12,6 +12,9 @@ ghost use Rattle.raw_calls.specs.Records.{Lying};
 // The most bytes of a string.
 pub(crate) const LONGEST: usize = 16400;
 
+// The kind of a comparison, which is the last that is known.
+pub(crate) const COMPARE: u16 = 265;
+
 // An end that no record reaches.
 const PAST: usize = 65663;
 
@@ -25,6 +28,14 @@ pub struct Asked {
     pub second: usize,
     pub row: usize,
     pub room: usize,
+}
+
+// What is told of a call: its own numbers, the file of two that a refusal is about, and how many bytes
+// of the room a comparison took.
+pub struct Answered {
+    pub told: Told,
+    pub file: u16,
+    pub taken: u32,
 }
 
 // Where the string ends whose length stands at an offset: past the record where there is no length,
@@ -63,7 +74,8 @@ pub(crate) fn asked_in(bytes: &[u8]) -> Asked
     }
 }
 
-// Known kinds, a row of whole counts, and strings that end where the record does.
+// Known kinds, a row of whole counts, strings that end where the record does, and for a comparison the
+// state of the second file.
 pub(crate) fn is_sound(asked: Asked, end: usize) -> bool
     requires { ⌜ (asked .room ≤ end → Lying asked) ⌝ }
     ensures { λ r. ⌜ (r ≡ true → Lying asked × (asked .room ≡ end)) ⌝ }
@@ -72,7 +84,10 @@ pub(crate) fn is_sound(asked: Asked, end: usize) -> bool
     if asked.room != end {
         return false;
     }
-    ((asked.row - asked.second) % 4 == 0) & (256 <= kind) & (kind <= 264)
+    let bytes = asked.second - asked.area - 4;
+    ((asked.row - asked.second) % 4 == 0)
+        & (256 <= kind)
+        & ((kind < COMPARE) | ((kind == COMPARE) & (16 <= bytes)))
 }
 
 pub(crate) fn read_row(bytes: &[u8], row: &mut [u32])
@@ -95,16 +110,18 @@ pub(crate) fn write_row(bytes: &mut [u8], row: &[u32])
     }
 }
 
-// The numbers of a reply of that length. Bytes 30 to 35 are zeros: which file, and what a
-// comparison took of the room.
-pub(crate) fn reply(head: &mut [u8], told: Told, end: usize)
+// The numbers of a reply of that length.
+pub(crate) fn reply(head: &mut [u8], answered: Answered, end: usize)
     requires { ⌜ (length (now head) ≡ 54) × (end ≤ 65670) ⌝ }
 {
+    let told = answered.told;
     let state = told.state;
     let numbers = told.numbers;
     numbers::put_u32(head, 0, end as u32);
     numbers::put_u16(head, 4, 513);
     slips::put_reply(head, 6, numbers);
+    numbers::put_u16(head, 30, answered.file);
+    numbers::put_u32(head, 32, answered.taken);
     slips::put_state(head, 36, state);
     numbers::put_u16(head, 52, if state.due(IN_USE) { 1 } else { 0 });
 }

@@ -11,7 +11,32 @@ use Rattle.state.specs.declared.Done.{Done}
 use Rattle.state.specs.State.{isDue}
 use Rattle.register.specs.Files.{Call, grow, fileOf, leaves, left}
 use Rattle.pay_runs.specs.PayRun.{ran}
-use Rattle.reefcushion.specs.Slip.{stateIn, servedBy, servedRan, unserved, served, servedRow, servedRun, servedRoom, dueOn}
+use Rattle.comparisons.specs.Compare.{compared}
+use Rattle.reefcushion.specs.Slip.{ServedComparison, servedOutcome, servedCompare, stateIn, servedBy, servedRan, unserved, served, servedRow, servedRun, servedRoom, dueOn}
+
+-- a comparison
+module _ (l area m other list told : List ℕ) where
+  abbrev nothing : ServedComparison
+  nothing = record { returned = 100; list = list; comparison = told }
+
+  -- with a slip, or bytes to tell in, of another length
+  pub no-first : (length l ≡ 40 → ⊥) → servedCompare l area m other list told ≡ nothing
+  unfolding servedCompare
+  no-first e = rw (ne-eqb (length l) 40 e)
+
+  module _ (forty : length l ≡ 40) where
+    pub no-second : (length m ≡ 40 → ⊥) → servedCompare l area m other list told ≡ nothing
+    unfolding servedCompare
+    no-second e = rw (eq-eqb (length l) 40 forty, ne-eqb (length m) 40 e)
+
+    module _ (too : length m ≡ 40) where
+      pub no-telling : (length told ≡ 20 → ⊥) → servedCompare l area m other list told ≡ nothing
+      unfolding servedCompare
+      no-telling e = rw (eq-eqb (length l) 40 forty, eq-eqb (length m) 40 too, ne-eqb (length told) 20 e)
+
+      pub compare-served : length told ≡ 20 → (s t : State) → s ≡ stateIn l → t ≡ stateIn m → servedCompare l area m other list told ≡ servedOutcome (compared inUse s area t other list)
+      unfolding servedCompare
+      compare-served e s t is it = rw (eq-eqb (length l) 40 forty, eq-eqb (length m) 40 too, eq-eqb (length told) 20 e, is, it)
 
 module _ (l : List ℕ) where
   -- another length than forty

@@ -1,11 +1,11 @@
 -- The slip: forty bytes by which a program in another language hands a call the state of its file,
 -- and is handed the state and the answer. What is quoted is 01's.
 use Prim.Native.Nat.{ℕ, _+_, _%_}
-use mathlib.Core.Bool.{Bool, cond}
-use mathlib.Core.List.{List, _++_}
+use mathlib.Core.Bool.{Bool, cond, _&&_}
+use mathlib.Core.List.{List, [], _∷_, _++_}
 use lib.ListN.{length}
 use lib.Dec.{eqb}
-use Rattle.numbers.specs.Fields.{encode}
+use Rattle.numbers.specs.Fields.{Field, encode}
 use Rattle.layouts.specs.Layout.{inUse}
 use Rattle.homes.specs.Homes.{params}
 use Rattle.state.specs.declared.State.{State}
@@ -13,6 +13,8 @@ use Rattle.state.specs.declared.Numbers.{Numbers}
 use Rattle.state.specs.State.{isDue}
 use Rattle.slips.specs.Slips.{stateAt, stateFields, answerFields}
 use Rattle.pay_runs.specs.PayRun.{PayRun, ran}
+use Rattle.comparisons.specs.declared.ComparedNumbers.{ComparedNumbers}
+use Rattle.comparisons.specs.Compare.{Outcome, compared, comparedNumbers}
 use Rattle.register.specs.Files.{Call, grow, File, fileOf, Left, left, numbersOf}
 
 abbrev pub isSlip : List ℕ → Bool
@@ -74,6 +76,32 @@ servedRun slip area l room = cond (isSlip slip) (servedRan (ran (fileIn slip are
 -- and the room for its replies afterwards
 unfoldable pub servedRoom : (slip area l room : List ℕ) → List ℕ
 servedRoom slip area l room = cond (isSlip slip) (ran (fileIn slip area) l room .room) room
+
+-- what a comparison comes to: the number that it returns, the room for the list, and the twenty bytes
+-- that it is told in
+pub record ServedComparison : Type 0 where
+  pub returned : ℕ
+  pub list : List ℕ
+  pub comparison : List ℕ
+
+-- those bytes, with two zeros
+abbrev pub comparisonFields : ComparedNumbers → List Field
+comparisonFields n = (2, n .numbers .refusal) ∷ (2, n .file) ∷ (2, n .numbers .page) ∷ (2, 0) ∷ (4, n .numbers .read) ∷ (4, n .taken) ∷ (4, n .wanted) ∷ []
+
+abbrev pub servedOutcome : Outcome → ServedComparison
+servedOutcome o = let n = comparedNumbers (o .answer) in record { returned = n .numbers .refusal; list = o .room; comparison = encode (comparisonFields n) }
+
+-- two slips, and bytes to tell in
+abbrev pub areSlips : (slip other told : List ℕ) → Bool
+areSlips slip other told = isSlip slip && (isSlip other && eqb (length told) 20)
+
+-- a comparison by slips and areas (02, request 6) is that of the files that they are; with a slip or bytes
+-- of another length, 100 and nothing is done
+unfoldable pub servedCompare : (slip area slip2 area2 list told : List ℕ) → ServedComparison
+servedCompare slip area slip2 area2 list told =
+    cond (areSlips slip slip2 told)
+    (servedOutcome (compared inUse (stateIn slip) area (stateIn slip2) area2 list))
+    (record { returned = 100; list = list; comparison = told })
 
 -- whether growth is due, as 1 or 0; with a slip of another length it isn't
 unfoldable pub dueOn : List ℕ → ℕ

@@ -1,6 +1,7 @@
 // The calls for programs in other languages. Each is the register's call on the state that a slip
 // of forty bytes brings; the slip then holds the state after it and the answer. It takes any
 // lengths and any bytes, and returns the number of its refusal.
+use comparisons::ComparedNumbers;
 use homes::Params;
 use layouts::IN_USE;
 use pages::Record;
@@ -9,14 +10,18 @@ use state::Done;
 use state::State;
 ghost use mathlib.Core.Path.{_≡_};
 ghost use lib.ListN.{length};
+ghost use Rattle.numbers.specs.Fields.{encode};
 ghost use Rattle.homes.specs.Homes.{params};
 ghost use Rattle.pages.specs.Page.{recordWith};
 ghost use Rattle.state.specs.Answer.{numbers};
 ghost use Rattle.register.specs.Files.{format, find, put, remove, grow, shrink, check};
-ghost use Rattle.reefcushion.specs.Slip.{renumbered, stateIn, slipOf, served, servedRow, servedRun, servedRoom, dueOn};
+ghost use Rattle.reefcushion.specs.Slip.{renumbered, stateIn, slipOf, served, servedRow, servedRun, servedRoom, comparisonFields, servedCompare, dueOn};
 
 // The bytes of a slip.
 const SLIP: usize = 40;
+
+// The bytes that a comparison is told in.
+const COMPARISON: usize = 20;
 
 // What a call returns that has no slip of that length. It then does nothing.
 const NO_SLIP: u32 = 100;
@@ -198,6 +203,51 @@ pub extern "C" fn reefcushion_put_run(
     let state = state_in(&slip[..]);
     let told = pay_runs::put_run(state, area, input, replies);
     hand_back(slip, told)
+}
+
+// What a comparison came to, over all of the bytes that it is told in.
+fn put_comparison(told: &mut [u8], n: ComparedNumbers)
+    requires { ⌜ length (now told) ≡ 20 ⌝ }
+    ensures { λ _. ⌜ now (told .exit) ≡ encode (comparisonFields n) ⌝ }
+{
+    let numbers = n.numbers;
+    numbers::put_u16(told, 0, numbers.refusal);
+    numbers::put_u16(told, 2, n.file);
+    numbers::put_u16(told, 4, numbers.page);
+    numbers::put_u16(told, 6, 0);
+    numbers::put_u32(told, 8, numbers.read);
+    numbers::put_u32(told, 12, n.taken);
+    numbers::put_u32(told, 16, n.wanted);
+}
+
+// What differs between two files, in lent room. It writes neither file, nor its slip.
+#[no_mangle]
+pub extern "C" fn reefcushion_compare(
+    slip: &[u8],
+    area: &[u8],
+    other_slip: &[u8],
+    other_area: &[u8],
+    list: &mut [u8],
+    told: &mut [u8],
+) -> u32
+    ensures { λ r. let o = servedCompare (now (slip .entry)) (now (area .entry)) (now («other_slip» .entry)) (now («other_area» .entry)) (now (list .entry)) (now (told .entry)) in ⌜ (r ≡ o .returned) × ((now (list .exit) ≡ o .list) × (now (told .exit) ≡ o .comparison)) ⌝ }
+{
+    if slip.len() != SLIP {
+        return NO_SLIP;
+    }
+    if other_slip.len() != SLIP {
+        return NO_SLIP;
+    }
+    if told.len() != COMPARISON {
+        return NO_SLIP;
+    }
+    let first = state_in(slip);
+    let second = state_in(other_slip);
+    let compared = comparisons::compare(first, area, second, other_area, list);
+    let n = compared.numbers();
+    put_comparison(told, n);
+    let numbers = n.numbers;
+    numbers.refusal as u32
 }
 
 // Whether growth is due, 1 or 0. It leaves the slip as it is.

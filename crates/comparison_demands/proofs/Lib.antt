@@ -1,0 +1,4 @@
+pub mod AnyBytes
+pub mod AfterFresh
+pub mod ComparisonDemands
+pub mod ComparisonAnswers

@@ -1,0 +1,2 @@
+pub mod ComparisonAnswers
+pub mod ComparisonDemands

@@ -1,11 +1,12 @@
 // A register from C: a file is formatted, fed, asked, grown and checked, a pay run is put in one call, a file of the
-// second edition is made, and one is shrunk after its leavers. What it prints stands in example.out.
+// second edition is made, one is shrunk after its leavers, and two are compared. What it prints stands in example.out.
 #include <stdbool.h>
 #include <stdio.h>
+#include <string.h>
 
 #include "reefcushion.h"
 
-enum { PAGES = 2, PUTS = 18 };
+enum { PAGES = 2, PUTS = 18, OTHER_PAGES = 3, MOST_LIST = 1000 };
 
 // All that a register is to its caller: a slip with the state, the pages, and for growth a row.
 static struct reefcushion_slip slip;
@@ -15,6 +16,12 @@ static uint32_t row[PAGES];
 // A pay run: its puts, and room for a reply to each.
 static struct reefcushion_put_record records[PUTS];
 static struct reefcushion_reply replies[PUTS];
+
+// Another site's register, of other parameters, and room for what differs: 20 bytes for each record of both and 16 more
+// are always enough.
+static struct reefcushion_slip other;
+static uint8_t other_area[OTHER_PAGES * REEFCUSHION_PAGE];
+static uint8_t list[MOST_LIST];
 
 static const char *words(uint32_t refusal) {
     switch (refusal) {
@@ -167,6 +174,61 @@ static void format_edition(uint16_t edition) {
     printf("  the state is of edition %u\n", slip.edition_less_1 + 1);
 }
 
+static void put_there(uint64_t request, uint64_t commit) {
+    printf("put %llu there", (unsigned long long)request);
+    say(&other, reefcushion_put(&other, sizeof other, other_area, sizeof other_area, request, commit));
+}
+
+// A list is read record by record: each begins with its length and kind, and may lie at any byte, so it is copied.
+static void say_list(size_t length) {
+    for (size_t at = 0; at < length;) {
+        struct reefcushion_only only;
+        struct reefcushion_unlike unlike;
+        struct reefcushion_closing closing;
+        uint16_t head[2];
+        memcpy(head, list + at, sizeof head);
+        if (head[1] == REEFCUSHION_UNLIKE_KIND) {
+            memcpy(&unlike, list + at, sizeof unlike);
+            printf("  %llu: commit %llu here, commit %llu there\n", (unsigned long long)unlike.key,
+                   (unsigned long long)unlike.first_value, (unsigned long long)unlike.second_value);
+        } else if (head[1] == REEFCUSHION_CLOSING_KIND) {
+            memcpy(&closing, list + at, sizeof closing);
+            printf("  %u only here, %u only there, %u with two commits\n", closing.only_first, closing.only_second,
+                   closing.unlike);
+        } else {
+            memcpy(&only, list + at, sizeof only);
+            printf("  %llu: commit %llu only %s\n", (unsigned long long)only.key, (unsigned long long)only.value,
+                   head[1] == REEFCUSHION_ONLY_FIRST_KIND ? "here" : "there");
+        }
+        at += head[0];
+    }
+}
+
+// What differs between the two sites, in so much room; gives how much the list takes.
+static size_t compare(size_t room) {
+    struct reefcushion_comparison told;
+    uint32_t refusal = reefcushion_compare(&slip, sizeof slip, area, sizeof area, &other, sizeof other, other_area,
+                                           sizeof other_area, list, room, &told, sizeof told);
+    printf("compare, with room for %u bytes: %s", (unsigned)room,
+           refusal == REEFCUSHION_WRONG_ROOM ? "the list is longer" : words(refusal));
+    if (refusal == REEFCUSHION_BROKEN)
+        printf(", page %u %s", told.page, told.file == 1 ? "here" : "there");
+    printf(" (%u read, %u bytes wanted, %u written)\n", told.read, told.wanted, told.length);
+    say_list(told.length);
+    return told.wanted;
+}
+
+// The first comparison is lent no room, and tells how much to lend to the next.
+static void compare_sites(void) {
+    reefcushion_format(&other, sizeof other, other_area, sizeof other_area, 1, 2, 1, OTHER_PAGES);
+    for (uint64_t i = 1; i <= 11; i += 2)
+        put_there(i, i == 5 ? 999 : 800 + i);
+    size_t wanted = compare(0);
+    compare(wanted);
+    other_area[REEFCUSHION_PAGE] ^= 1;
+    compare(wanted);
+}
+
 int main(void) {
     printf("Refused, and nothing done:\n");
     format(sizeof slip - 1, area, sizeof area);
@@ -225,5 +287,8 @@ int main(void) {
     check(&slip);
     find(9);
     shrink();
+
+    printf("What differs at another site, where two groups of a page were the start:\n");
+    compare_sites();
     return 0;
 }

@@ -1,6 +1,6 @@
 // The register in plain C: the calls of c/reefcushion.h, to measure the proved ones against. Slip, area, row, records,
-// replies and refusals are the same; only a slip of another length can't be told, since that isn't asked, and there is
-// one format for both editions.
+// replies, list, comparison and refusals are the same; only a slip or a comparison of another length can't be told,
+// since that isn't asked, and there is one format for both editions.
 #pragma once
 #include <stdbool.h>
 #include <stddef.h>
@@ -24,6 +24,11 @@ uint32_t baseline_remove(struct reefcushion_slip *slip, uint8_t *area, size_t by
 uint32_t baseline_grow(struct reefcushion_slip *slip, uint8_t *area, size_t bytes, uint32_t *row, size_t counts);
 uint32_t baseline_shrink(struct reefcushion_slip *slip, uint8_t *area, size_t bytes);
 uint32_t baseline_check(struct reefcushion_slip *slip, const uint8_t *area, size_t bytes);
+
+// What differs between two files, written to the list. Gives the refusal too, and leaves the answer in the comparison.
+uint32_t baseline_compare(const struct reefcushion_slip *slip, const uint8_t *area, size_t bytes,
+                          const struct reefcushion_slip *other, const uint8_t *other_area, size_t other_bytes,
+                          uint8_t *list, size_t list_bytes, struct reefcushion_comparison *answer);
 
 // 1 where growth is due, otherwise 0.
 uint32_t baseline_due(const struct reefcushion_slip *slip);

@@ -1,5 +1,5 @@
 // Drives the proved calls and the plain ones with the same random calls and requires the same results, slips, areas,
-// rows and replies after each: agree [ROUNDS [SEED]].
+// rows, replies and lists after each: agree [ROUNDS [SEED]].
 #include <stdio.h>
 #include <stdlib.h>
 #include <string.h>
@@ -100,6 +100,8 @@ static void ask_damaged(void) {
             asked.bytes = page_start(cap);
         ask(call, &asked);
     }
+    if (one_in(8))
+        ask_comparisons(false);
     ours = plain = saved;
 }
 
@@ -191,9 +193,24 @@ static void use_file(uint32_t calls, enum pace pace) {
             ask_damaged();
         if (one_in(40))
             ask_with_wrong_numbers();
+        if (one_in(60))
+            keep_file();
+        if (one_in(30u + plain.slip.cap))
+            ask_comparisons(true);
     }
     struct asked asked = right_for_the_file(CHECK);
     ask(CHECK, &asked);
+}
+
+static void tell_what_is_asked(void) {
+    puts("## Whether ours and C do the same\n");
+    puts("The proved calls and the register in C that they are measured against get the same random calls: on files as "
+         "calls leave them and on damaged ones, with right numbers and with wrong ones. After each call the answers, "
+         "the areas, the rows and the rooms for replies and lists have to be the same, byte for byte. Before each call "
+         "it is drawn in which of its two ways C works homes out (key by key or in step, see below).\n");
+    printf("Where a growth is followed at once by a shrink, or a shrink by a growth, the file has to be what it was "
+           "before both: so it was, each of the %s times that the first of the two was accepted.\n\n",
+           grouped((double)ways_there_and_back));
 }
 
 int main(int words, char **word) {
@@ -207,21 +224,16 @@ int main(int words, char **word) {
         use_file(calls[size], below(PACES));
         files[size]++;
     }
-    puts("## Whether ours and C do the same\n");
-    puts("The proved calls and the register in C that they are measured against get the same random calls: on files as "
-         "calls leave them and on damaged ones, with right numbers and with wrong ones. After each call the answers, "
-         "the areas, the rows and the rooms for replies have to be the same, byte for byte. Before each call it is "
-         "drawn in which of its two ways C works homes out (key by key or in step, see below).\n");
-    printf("Where a growth is followed at once by a shrink, or a shrink by a growth, the file has to be what it was "
-           "before both: so it was, each of the %s times that the first of the two was accepted.\n\n",
-           grouped((double)ways_there_and_back));
+    tell_what_is_asked();
+    const bool all_told = tell_lists();
     printf("Files of up to %u, %u and %u pages: %lu, %lu and %lu. Files of edition 1 and of edition 2: %lu and %lu. "
            "How often each call gave each answer (0 is accepted, the others are the refusals; for due 1 is yes):\n\n",
            most[0], most[1], most[2], files[0], files[1], files[2], files_of[0], files_of[1]);
-    if (!tell_what_was_seen())
+    if (!tell_what_was_seen() || !all_told)
         return 1;
     printf("\nIn short: the proved calls and the register in C did the same, to the byte, in %s random calls, among "
-           "them %s pay runs with %s puts.\n",
-           grouped((double)calls_made), grouped((double)runs_made), grouped((double)puts_in_runs));
+           "them %s pay runs with %s puts, and in %s comparisons of two files.\n",
+           grouped((double)calls_made), grouped((double)runs_made), grouped((double)puts_in_runs),
+           grouped((double)comparisons_made));
     return 0;
 }

@@ -9,6 +9,9 @@
 enum { MOST = 512, MOST_ITEMS = 400 }; // pages of the largest file here, puts of the longest run
 enum call { FORMAT, FORMAT_EDITION, FIND, PUT, REMOVE, GROW, SHRINK, CHECK, DUE, PUT_RUN, CALLS };
 
+// The rows of the table: the calls; the puts that stand in runs; comparisons, and their answers about the second file.
+enum { PUT_IN_RUN = CALLS, COMPARE, COMPARE_SECOND, ROWS };
+
 // One side's file and its room for replies, with a page, a count and some replies more than the largest, so that
 // writing past the end is seen.
 struct side {
@@ -18,7 +21,7 @@ struct side {
     uint8_t room[REPLY_BYTES * (MOST_ITEMS + 4)];
 };
 extern struct side ours, plain;
-extern unsigned long calls_made, runs_made, puts_in_runs, ways_there_and_back;
+extern unsigned long calls_made, runs_made, puts_in_runs, ways_there_and_back, comparisons_made;
 
 // What a call is asked beside the file itself, and in which of its two ways the plain side works.
 struct asked {
@@ -41,8 +44,23 @@ void ask_there_and_back(enum call there, enum call back, const struct asked *ask
 // Makes each call with a slip of another length and ends the program where it does anything.
 void ask_with_wrong_slip(const struct asked *asked);
 
+// Ends the program, since the sides differ; and looks whether they do in some bytes, which ends it likewise.
+_Noreturn void differ(int row, const char *what, unsigned long left, unsigned long right);
+void compare_bytes(int row, const char *what, const void *left, const void *right, size_t bytes);
+
+// Notes an answer that both sides gave, which has to be one that the documents have.
+void see(int row, uint32_t refusal, bool in_step);
+
 // Prints how often each call gave each refusal; whether all that the calls give were seen, in either way.
 bool tell_what_was_seen(void);
+
+// Keeps the file as it is now, to compare later ones with. Compares the file with one that was kept or with itself, or,
+// where it is as calls leave it, with what comes of it by other calls; and with files that are damaged.
+void keep_file(void);
+void ask_comparisons(bool whole);
+
+// Prints what comparisons told of; whether all that they tell of was met.
+bool tell_lists(void);
 
 // A pool of keys for a file that has just begun, and a put of one of them.
 void choose_pool(void);

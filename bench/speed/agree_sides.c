@@ -12,11 +12,21 @@ static const uint32_t answers[ANSWERS] = {0, 1, 2, 3, 4, 5, 6, 7, 8, 9, 10, 13, 
 struct side ours, plain;
 unsigned long calls_made, runs_made, puts_in_runs, ways_there_and_back;
 
-// The rows of the table: the calls, and the puts that stand in runs.
-enum { PUT_IN_RUN = CALLS, ROWS };
 static const char *const names[ROWS] = {
-    "format",  "format of an edition", "find", "put", "remove", "grow", "shrink", "check", "due",
-    "pay run", "put in a run"};
+    "format",
+    "format of an edition",
+    "find",
+    "put",
+    "remove",
+    "grow",
+    "shrink",
+    "check",
+    "due",
+    "pay run",
+    "put in a run",
+    "compare",
+    "compare (second file)",
+};
 static unsigned long seen[2][ROWS][LARGEST + 1]; // by the way that the plain side worked
 
 // The refusals that each call gives by the documents, as bits; for due its two answers.
@@ -34,17 +44,19 @@ static const unsigned expected[ROWS] = {
     1 << 0 | 1 << 1,
     1 << 0 | 1 << 10 | 1 << 15,
     OF_PUT,
+    1 << 0 | 1 << 1 | 1 << 2 | 1 << 4 | 1 << 9 | 1 << 15,
+    1 << 1 | 1 << 2 | 1 << 4 | 1 << 9,
 };
 
-static void differ(int call, const char *what, unsigned long left, unsigned long right) {
+void differ(int row, const char *what, unsigned long left, unsigned long right) {
     const struct reefcushion_slip *at = &plain.slip;
     fprintf(stderr, "%s: %s: ours %lu, plain %lu; the plain slip says n0 %u N %u s %u P %u cap %u edition %u r %u\n",
-            names[call], what, left, right, at->n0, at->groups, at->sweeps, at->pages, at->cap, at->edition_less_1 + 1u,
+            names[row], what, left, right, at->n0, at->groups, at->sweeps, at->pages, at->cap, at->edition_less_1 + 1u,
             at->records);
     exit(1);
 }
 
-static void compare_bytes(int call, const char *what, const void *left, const void *right, size_t bytes) {
+void compare_bytes(int row, const char *what, const void *left, const void *right, size_t bytes) {
     const uint8_t *l = left, *r = right;
     size_t at = 0;
     if (!memcmp(left, right, bytes))
@@ -52,7 +64,7 @@ static void compare_bytes(int call, const char *what, const void *left, const vo
     while (l[at] == r[at])
         at++;
     fprintf(stderr, "byte %lu of ", (unsigned long)at);
-    differ(call, what, l[at], r[at]);
+    differ(row, what, l[at], r[at]);
 }
 
 // The part of the room that is lent, which may be nowhere where nothing is lent.
@@ -114,8 +126,7 @@ static void compare_sides(enum call call, uint32_t left, uint32_t right, size_t 
         compare_bytes(call, "the room for replies", ours.room, plain.room, sizeof plain.room);
 }
 
-// Notes an answer that both sides gave, which has to be one that the documents have.
-static void see(int row, uint32_t refusal, bool in_step) {
+void see(int row, uint32_t refusal, bool in_step) {
     if (refusal > LARGEST || !(expected[row] >> refusal & 1))
         differ(row, "a refusal that isn't given here", refusal, refusal);
     seen[in_step][row][refusal]++;

@@ -179,6 +179,7 @@ int main(int words, char **word) {
         measure(&figures[i], scale);
     }
     measure_editions(scale);
+    measure_comparisons(scale);
     print_head(scale);
     print_calls();
     print_verdict(&calls_to_c);
@@ -188,10 +189,12 @@ int main(int words, char **word) {
     print_runs();
     print_verdict(&runs_to_single_calls);
     print_reasons();
+    print_comparisons(scale);
     print_sizes();
     print_editions();
     print_in_short();
     print_run_in_short();
+    print_comparisons_in_short();
     print_editions_in_short();
     return 0;
 }

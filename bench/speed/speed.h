@@ -43,6 +43,12 @@ struct files make_files(enum style style, uint32_t pages, uint32_t cap);
 struct files one_page_before(const struct files *files);
 void drop_files(struct files *files);
 
+// The parts that files are made of: room for so many pages; room for the sides' copies of a file, and for its keys; and
+// keys put into it, those that come next, until it holds so many records.
+struct file new_file(uint32_t cap);
+struct files files_of(enum style style, struct file first);
+void fill(struct files *files, uint32_t records);
+
 _Noreturn void stop(const char *why);
 void copy_file(struct file *to, const struct file *from);
 void restore(struct files *files);

@@ -54,3 +54,8 @@ struct range range_of(figure *of, int i);
 void measure_editions(unsigned scale);
 void print_editions(void);
 void print_editions_in_short(void);
+
+// Two files compared: of the largest size, with random keys.
+void measure_comparisons(unsigned scale);
+void print_comparisons(unsigned scale);
+void print_comparisons_in_short(void);

@@ -11,7 +11,7 @@ void stop(const char *why) {
     exit(1);
 }
 
-static struct file new_file(uint32_t cap) {
+struct file new_file(uint32_t cap) {
     struct file file = {.bytes = page_start(cap), .area = calloc(cap, PAGE_BYTES)};
     if (!file.area)
         stop("no memory");
@@ -96,8 +96,8 @@ void put_back(struct files *files, const uint64_t *key, uint32_t count) {
         stop("records that were put again left another file");
 }
 
-// Puts keys until the file holds so many; a key without room is left out.
-static void fill(struct files *files, uint32_t records) {
+// A key without room is left out.
+void fill(struct files *files, uint32_t records) {
     while (files->first.slip.records < records) {
         uint64_t key;
         next_fresh(files, &key, 1);
@@ -133,8 +133,9 @@ static void require_grown_alike(const struct files *files, uint32_t pages, uint3
     free(file.area);
 }
 
-static struct files new_files(enum style style, uint32_t pages, uint32_t cap) {
-    struct files files = {.style = style, .first = begin(style, pages, cap)};
+struct files files_of(enum style style, struct file first) {
+    struct files files = {.style = style, .first = first};
+    const uint32_t cap = (uint32_t)(first.bytes / PAGE_BYTES);
     for (int side = 0; side < SIDES; side++)
         files.of[side] = new_file(cap);
     files.held = calloc((size_t)SLOTS * cap, sizeof files.held[0]);
@@ -147,7 +148,7 @@ static struct files new_files(enum style style, uint32_t pages, uint32_t cap) {
 // large full one page by page would take longer than all the measuring. The smaller ones are grown full too, to see
 // that it comes to the same.
 struct files make_files(enum style style, uint32_t pages, uint32_t cap) {
-    struct files files = new_files(style, pages, cap);
+    struct files files = files_of(style, begin(style, pages, cap));
     fill(&files, 48 * pages / 5);
     if (pages <= 512)
         require_grown_alike(&files, pages, cap);
@@ -156,7 +157,8 @@ struct files make_files(enum style style, uint32_t pages, uint32_t cap) {
 }
 
 struct files one_page_before(const struct files *from) {
-    struct files files = new_files(from->style, from->first.slip.pages - 1u, from->first.slip.cap);
+    const struct reefcushion_slip *slip = &from->first.slip;
+    struct files files = files_of(from->style, begin(from->style, slip->pages - 1u, slip->cap));
     for (uint32_t i = 0; i < from->held_count; i++)
         if (put(&files.first, from->held[i]))
             stop("no room one page before");

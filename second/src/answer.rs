@@ -20,7 +20,8 @@ pub const TOO_MANY_PAGES: u16 = 12;
 pub const CLASH: u16 = 13;
 /// A shrink of a file that has the pages it started with: P = n0 x N.
 pub const NOT_GROWN: u16 = 14;
-/// A room that isn't as long as what is to be written there.
+/// A room that isn't as long as the replies of a run, or is shorter than the
+/// list of a comparison.
 pub const WRONG_ROOM: u16 = 15;
 
 /// The kind of a reply.

@@ -50,7 +50,8 @@ pub fn call(call: Call, state: State, area: &mut [u8], row: &mut [u32]) -> Answe
     }
 }
 
-fn refused_early(state: State, area: &[u8]) -> Option<Answer> {
+/// What every call on a file is refused with before any page is judged.
+pub fn refused_early(state: State, area: &[u8]) -> Option<Answer> {
     let refusal = if !state.in_range() {
         OUT_OF_RANGE
     } else if area.len() != state.area_bytes() {

@@ -10,6 +10,7 @@ pub mod bytes;
 pub mod calls;
 pub mod check;
 pub mod commands;
+pub mod differ;
 pub mod expected;
 pub mod figures;
 pub mod home;

@@ -6,17 +6,23 @@
 //! (4), 513 (2), refusal (2), page (2), value (8), run (4), read (4), moved
 //! (4), file (2), taken (4), state (16), due (2); then area, row and room,
 //! each with its length (4) in front. A state: n0, N, s, P, cap, edition (2
-//! each), r (4).
+//! each), r (4). A comparison's second file is the second string: 16 bytes of
+//! its state, then its area.
 
 use crate::answer::Answer;
 use crate::bytes::{eight, four, number, two};
 use crate::calls::Call;
 use crate::commands::{lengths_of, parse};
+use crate::differ::{self, Compared, Site};
 use crate::log::Failure;
 use crate::pay_run::pay_run;
 use crate::state::State;
 use crate::witness::witnessed;
+use states::state_of;
+pub use states::{state_bytes, STATE_BYTES};
 use std::io::{Read, Write};
+
+mod states;
 
 /// The bytes of a record before its strings.
 pub const RECORD_HEAD: usize = 46;
@@ -32,6 +38,7 @@ pub const LONGEST_STRING: usize = 16_400;
 pub const LONGEST_ROW: usize = LONGEST_STRING / COUNT_BYTES;
 pub const DUE_KIND: u16 = 256;
 pub const RUN_KIND: u16 = 264;
+pub const COMPARE_KIND: u16 = 265;
 /// The bytes of a count in a row.
 const COUNT_BYTES: usize = 4;
 
@@ -44,11 +51,12 @@ pub struct Case {
     pub b: u64,
     pub c: u64,
     pub area: Vec<u8>,
-    /// The put records of a run; no other call looks at it.
+    /// The put records of a run, or the second file of a comparison; no other
+    /// call looks at it.
     pub second: Vec<u8>,
     pub row: Vec<u32>,
-    /// Where a run writes its replies; from any other call it comes back as
-    /// it came.
+    /// Where a run writes its replies and a comparison its list; from any other
+    /// call it comes back as it came.
     pub room: Vec<u8>,
 }
 
@@ -72,7 +80,7 @@ impl Default for Case {
 
 impl Case {
     /// The call of this kind, None where there is none: a run is no single
-    /// call, and other kinds are unknown.
+    /// call, a comparison is none on one file, and other kinds are unknown.
     pub fn call(&self) -> Option<Call> {
         let body = [self.a.to_le_bytes(), self.b.to_le_bytes()].concat();
         match self.kind {
@@ -80,6 +88,31 @@ impl Case {
             // The log's commands have the same kinds and the same numbers, a
             // format's edition with eight bytes.
             kind => (!lengths_of(kind).is_empty()).then(|| parse(kind, &body)),
+        }
+    }
+
+    /// The first file, which is the only one of most calls.
+    pub fn first_file(&self) -> Site<'_> {
+        Site {
+            state: self.state,
+            area: &self.area,
+        }
+    }
+
+    /// The second file, None where there isn't even a whole state of it.
+    pub fn second_file(&self) -> Option<Site<'_>> {
+        let (state, area) = self.second.split_at_checked(STATE_BYTES)?;
+        let state = state_of(state);
+        Some(Site { state, area })
+    }
+
+    /// Whether there is something to answer. A comparison without a whole state
+    /// of its second file is no record, as with an unknown kind.
+    fn known(&self) -> bool {
+        match self.kind {
+            RUN_KIND => true,
+            COMPARE_KIND => self.second_file().is_some(),
+            _ => self.call().is_some(),
         }
     }
 
@@ -93,7 +126,7 @@ impl Case {
     pub fn record_with(&self, strings: [&[u8]; RECORD_STRINGS]) -> Vec<u8> {
         let mut bytes = vec![0; 4];
         bytes.extend(self.kind.to_le_bytes());
-        self.push_state(&mut bytes);
+        bytes.extend(state_bytes(self.state));
         for number in [self.a, self.b, self.c] {
             bytes.extend(number.to_le_bytes());
         }
@@ -119,18 +152,9 @@ impl Case {
         if !adds_up || !row.remainder().is_empty() {
             return None;
         }
-        let state = State {
-            n0: two(head, 6),
-            groups: two(head, 8),
-            sweeps: two(head, 10),
-            pages: two(head, 12),
-            cap: two(head, 14),
-            edition: two(head, 16),
-            records: four(head, 18),
-        };
         let case = Case {
             kind: two(head, 4),
-            state,
+            state: state_of(&head[6..]),
             a: eight(head, 22),
             b: eight(head, 30),
             c: eight(head, 38),
@@ -139,33 +163,49 @@ impl Case {
             row: row.map(|count| number(count) as u32).collect(),
             room,
         };
-        (case.kind == RUN_KIND || case.call().is_some()).then_some(case)
+        case.known().then_some(case)
     }
 
     /// Makes the call, leaving area, row, room and state as they are after it,
-    /// and gives the bytes of the reply. An unknown kind has none.
+    /// and gives the bytes of the reply. What is no record has none.
     pub fn answer(&mut self) -> Result<Option<(Answer, Vec<u8>)>, String> {
-        let Some(answer) = self.make()? else {
+        let Some(told) = self.make()? else {
             return Ok(None);
         };
-        self.state = answer.state;
-        Ok(Some((answer, self.reply(&answer))))
+        self.state = told.answer.state;
+        Ok(Some((told.answer, self.reply(&told))))
     }
 
-    fn make(&mut self) -> Result<Option<Answer>, String> {
-        if self.kind == RUN_KIND {
-            let made = pay_run(self.state, &mut self.area, &self.second, &mut self.room);
-            return made.map(Some);
-        }
-        let call = self.call();
-        call.map(|call| witnessed(call, self.state, &mut self.area, &mut self.row))
-            .transpose()
+    fn make(&mut self) -> Result<Option<Compared>, String> {
+        let made = match (self.kind, self.call()) {
+            (COMPARE_KIND, _) => return self.compare(),
+            (RUN_KIND, _) => pay_run(self.state, &mut self.area, &self.second, &mut self.room),
+            (_, Some(call)) => witnessed(call, self.state, &mut self.area, &mut self.row),
+            _ => return Ok(None),
+        };
+        made.map(|answer| Some(answer.into()))
     }
 
-    /// The reply with this answer, once all else is as the call left it.
-    fn reply(&self, answer: &Answer) -> Vec<u8> {
-        // No call tells these yet.
-        let (run, file, taken) = (0u32, 0u16, 0u32);
+    /// Compares the two files, None where there is no second one. Both are lent
+    /// while the room is written, so the room is taken out for that time.
+    fn compare(&mut self) -> Result<Option<Compared>, String> {
+        let mut room = std::mem::take(&mut self.room);
+        let second = self.second_file();
+        let made =
+            second.map(|second| differ::witness::witnessed(self.first_file(), second, &mut room));
+        self.room = room;
+        made.transpose()
+    }
+
+    /// The reply that tells this, once all else is as the call left it.
+    fn reply(&self, told: &Compared) -> Vec<u8> {
+        let Compared {
+            answer,
+            file,
+            taken,
+        } = told;
+        // No call tells a run yet.
+        let run = 0u32;
         let mut bytes = vec![0; 4];
         answer.push_start(&mut bytes);
         bytes.extend(run.to_le_bytes());
@@ -173,25 +213,9 @@ impl Case {
         bytes.extend(answer.moved.to_le_bytes());
         bytes.extend(file.to_le_bytes());
         bytes.extend(taken.to_le_bytes());
-        self.push_state(&mut bytes);
+        bytes.extend(state_bytes(self.state));
         bytes.extend(u16::from(self.state.due()).to_le_bytes());
         with_strings(bytes, &[&self.area, &row_bytes(&self.row), &self.room])
-    }
-
-    fn push_state(&self, bytes: &mut Vec<u8>) {
-        let State {
-            n0,
-            groups,
-            sweeps,
-            pages,
-            cap,
-            edition,
-            records,
-        } = self.state;
-        for number in [n0, groups, sweeps, pages, cap, edition] {
-            bytes.extend(number.to_le_bytes());
-        }
-        bytes.extend(records.to_le_bytes());
     }
 }
 

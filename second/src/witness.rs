@@ -32,7 +32,8 @@ pub fn witnessed(
     Ok(answer)
 }
 
-fn must(holds: bool, what: &str) -> Result<(), String> {
+/// An error with these words where something doesn't hold.
+pub fn must(holds: bool, what: &str) -> Result<(), String> {
     if holds {
         Ok(())
     } else {

@@ -2,6 +2,8 @@
 #pragma once
 #include <stddef.h>
 typedef struct _IO_FILE FILE;
+#define EOF (-1)
+extern FILE *stdin;
 extern FILE *stdout;
 extern FILE *stderr;
 int printf(const char *form, ...);
@@ -12,3 +14,7 @@ int fputs(const char *text, FILE *file);
 int fflush(FILE *file);
 FILE *fopen(const char *name, const char *mode);
 int fclose(FILE *file);
+int getc(FILE *file);
+size_t fread(void *to, size_t size, size_t count, FILE *file);
+size_t fwrite(const void *from, size_t size, size_t count, FILE *file);
+int ferror(FILE *file);

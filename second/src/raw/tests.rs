@@ -1,6 +1,7 @@
 use super::*;
 use crate::commands::hex;
 
+mod comparisons;
 mod editions;
 
 /// What a state that isn't looked at has for its edition.

@@ -2,6 +2,7 @@
 
 use crate::breaks::break_page;
 use crate::chains::chain;
+use crate::comparisons::comparisons;
 use crate::edition_scenes::{misread, wrong_editions};
 use crate::files::{image, of_other_edition, parameters, File};
 use crate::held::held_again;
@@ -10,16 +11,17 @@ use crate::random::Random;
 use crate::runs::{pay_runs, some_run};
 use crate::shrinks::shrinks;
 use crate::sink::Sink;
+use crate::sites::some_comparison;
 use crate::values::offered;
 use crate::wrong::{wrong_asked, wrong_format, wrong_length, wrong_row, wrong_state};
 use second::commands::FORMAT_KIND;
 use second::page::PAGE_BYTES;
-use second::raw::{Case, RUN_KIND};
+use second::raw::{Case, COMPARE_KIND, RUN_KIND};
 use second::state::State;
 
 /// Generates one scene: a file and some calls on it.
 pub fn scene(random: &mut Random, sink: &mut Sink) -> Result<(), String> {
-    match random.index(54) {
+    match random.index(63) {
         0..=2 => chain(random, sink),
         3..=8 => {
             let mut file = image(random);
@@ -37,6 +39,7 @@ pub fn scene(random: &mut Random, sink: &mut Sink) -> Result<(), String> {
         43..=44 => misread(random, sink),
         45 => wrong_editions(random, sink),
         46..=48 => shrinks(random, sink),
+        49..=56 => comparisons(random, sink),
         _ => pay_runs(random, sink),
     }
 }
@@ -44,6 +47,9 @@ pub fn scene(random: &mut Random, sink: &mut Sink) -> Result<(), String> {
 /// A call on a file, with a row of the right length for grow; a shrink may have
 /// one like it, though it needs none.
 pub fn some_call(random: &mut Random, file: &mut File) -> Case {
+    if random.one_in(16) {
+        return some_comparison(random, file);
+    }
     let kind = random.pick(&[
         256, 258, 258, 258, 259, 259, 260, 260, 260, 261, 261, 262, 263, 263, RUN_KIND,
     ]);
@@ -51,8 +57,10 @@ pub fn some_call(random: &mut Random, file: &mut File) -> Case {
 }
 
 pub fn call_of(random: &mut Random, file: &mut File, kind: u16) -> Case {
-    if kind == RUN_KIND {
-        return some_run(random, file);
+    match kind {
+        RUN_KIND => return some_run(random, file),
+        COMPARE_KIND => return some_comparison(random, file),
+        _ => {}
     }
     let entries = if kind == 261 || (kind == 263 && random.one_in(3)) {
         usize::from(file.state.cap)

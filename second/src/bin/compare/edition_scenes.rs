@@ -7,7 +7,8 @@ use crate::random::Random;
 use crate::sink::Sink;
 use crate::wrong::{wrong_asked, wrong_edition};
 use second::commands::FORMAT_KIND;
-use second::raw::Case;
+use second::raw::{Case, DUE_KIND};
+use second::state::State;
 
 /// An image taken for one of the other edition. Where keys have other homes
 /// then, pages are broken, or keys aren't found though they stand there.
@@ -27,6 +28,18 @@ pub fn wrong_editions(random: &mut Random, sink: &mut Sink) -> Result<(), String
         case.state.edition = edition;
         sink.ask(case)?;
     }
+    // As many records as there may be are always due, but for the edition.
+    let records = file.state.most_records() as u32;
+    let state = State {
+        edition: wrong_edition(random),
+        records,
+        ..file.state
+    };
+    sink.ask(Case {
+        kind: DUE_KIND,
+        state,
+        ..Case::default()
+    })?;
     let (a, _) = asking_for(file.state);
     for bytes in 0..=8 {
         sink.ask(Case {
@@ -45,6 +58,7 @@ pub fn wrong_editions(random: &mut Random, sink: &mut Sink) -> Result<(), String
 mod tests {
     use super::*;
     use second::bytes::two;
+    use second::raw::RUN_KIND;
 
     /// All of these are refused, but for due and runs, and nothing is lost of
     /// the edition that came.
@@ -59,7 +73,10 @@ mod tests {
             let came = two(&asked.record, 16);
             let (refusal, left) = (two(&asked.reply, 6), two(&asked.reply, 46));
             assert_eq!(left, came);
-            assert_eq!(refusal, u16::from((257..=263).contains(&asked.kind)));
+            assert_eq!(
+                refusal,
+                u16::from(![DUE_KIND, RUN_KIND].contains(&asked.kind))
+            );
         }
     }
 }

@@ -9,7 +9,7 @@ use second::calls::Call;
 use second::commands::{FORMAT_KIND, HEAD_BYTES, PUT_BYTES, REPLY_BYTES};
 use second::home::home;
 use second::image::standing;
-use second::raw::{Case, DUE_KIND, RUN_KIND};
+use second::raw::{Case, COMPARE_KIND, DUE_KIND, RUN_KIND};
 use second::state::{State, EDITIONS};
 
 /// Accepted calls in either edition, by kind. Of those that look for keys only
@@ -28,7 +28,18 @@ pub const ASKED: u16 = 1024;
 /// How many of its low bytes spelled a right one.
 pub const LOW: u16 = 1025;
 
-const KINDS: &[u16] = &[DUE_KIND, 257, 258, 259, 260, 261, 262, 263, RUN_KIND];
+const KINDS: &[u16] = &[
+    DUE_KIND,
+    257,
+    258,
+    259,
+    260,
+    261,
+    262,
+    263,
+    RUN_KIND,
+    COMPARE_KIND,
+];
 pub const SOME_WRONG: &[u16] = &[0, 3, 257, 258, 65535];
 const SOME_LOW: &[u16] = &[1, 2, 4];
 

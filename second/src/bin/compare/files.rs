@@ -9,6 +9,7 @@ use second::put::put;
 use second::state::State;
 
 /// A file with its area, the keys it holds and a source of further ones.
+#[derive(Clone)]
 pub struct File {
     pub state: State,
     pub area: Vec<u8>,

@@ -1,7 +1,7 @@
 //! The fields that no call looks at yet, filled with anything now and then.
 
 use crate::random::Random;
-use second::raw::{Case, LONGEST_STRING, RUN_KIND};
+use second::raw::{Case, COMPARE_KIND, LONGEST_STRING, RUN_KIND};
 
 /// One in so many cases has another number in a field, and other bytes in a
 /// string.
@@ -10,9 +10,11 @@ const STRINGS: u64 = 6;
 
 /// Fills idle fields of a case; the reply must be the same but for the room.
 pub fn fill(random: &mut Random, case: &mut Case) {
-    // Due, grow, check, shrink and a run take no number at all; format and put
-    // take two.
-    if [256, 261, 262, 263, RUN_KIND].contains(&case.kind) && random.one_in(NUMBERS) {
+    // Due, grow, check, shrink, a run and a comparison take no number at all;
+    // format and put take two.
+    let strings_count = [RUN_KIND, COMPARE_KIND].contains(&case.kind);
+    let no_number = strings_count || [256, 261, 262, 263].contains(&case.kind);
+    if no_number && random.one_in(NUMBERS) {
         case.a = number(random);
     }
     if ![257, 258].contains(&case.kind) && random.one_in(NUMBERS) {
@@ -21,10 +23,10 @@ pub fn fill(random: &mut Random, case: &mut Case) {
     if random.one_in(NUMBERS) {
         case.c = number(random);
     }
-    if case.kind != RUN_KIND && random.one_in(STRINGS) {
+    if !strings_count && random.one_in(STRINGS) {
         case.second = string(random, &case.area);
     }
-    if case.kind != RUN_KIND && random.one_in(STRINGS) {
+    if !strings_count && random.one_in(STRINGS) {
         case.room = string(random, &case.area);
     }
 }
@@ -59,7 +61,7 @@ mod tests {
         let mut random = Random::new(3, 0);
         let mut filled = std::collections::BTreeSet::new();
         for round in 0..2000 {
-            let kind = [256, 257, 258, 259, 260, 261, 262, 263, RUN_KIND][round % 9];
+            let kind = 256 + (round % 10) as u16;
             let mut file = crate::files::image(&mut random);
             let plain = crate::cases::call_of(&mut random, &mut file, kind);
             let mut idle = plain.clone();
@@ -81,8 +83,8 @@ mod tests {
             assert_eq!(reply(idle), expected, "round {round}");
         }
         // All five for due, grow, check and shrink; a is asked of the others and
-        // b of format and put, and a run is asked both strings.
-        assert_eq!(filled.len(), 9 * 5 - 4 - 2 - 2);
+        // b of format and put, and a run and a comparison are asked both strings.
+        assert_eq!(filled.len(), 10 * 5 - 4 - 2 - 2 * 2);
     }
 
     fn reply(mut case: Case) -> Vec<u8> {

@@ -25,6 +25,7 @@ enum Style {
 }
 
 /// A source of keys of one style.
+#[derive(Clone)]
 pub struct Keys(Style);
 
 impl Keys {

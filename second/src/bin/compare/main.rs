@@ -5,23 +5,28 @@
 //! answered by the programs `raw_calls` and `register_log` in DIR, started
 //! with the prefix, and compares every byte. `shortest` writes raw calls to
 //! standard output instead, one for each call and refusal and for each way that
-//! a run or a shrink can take or an edition can count.
+//! a run, a shrink or a comparison can take or an edition can count.
 
 mod breaks;
 mod cases;
 mod chains;
+mod comparison_ways;
+mod comparisons;
 mod edition_scenes;
 mod editions;
 mod endings;
+mod fault_ways;
 mod files;
 mod held;
 mod idle;
 mod keys;
 mod launch;
+mod list_ways;
 mod log_run;
 mod log_ways;
 mod logs;
 mod loose;
+mod other_numbers;
 mod random;
 mod raw_run;
 mod runs;
@@ -31,10 +36,12 @@ mod show;
 mod shrink_ways;
 mod shrinks;
 mod sink;
+mod sites;
 mod table;
 mod values;
 mod ways;
 mod wrong;
+mod wrong_sites;
 
 use launch::Launcher;
 use show::Stop;

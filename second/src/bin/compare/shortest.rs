@@ -1,6 +1,6 @@
 //! One raw call for each call and each refusal it can give, and for each way
-//! that a run or a shrink can take or an edition can count, the shortest of
-//! many: a run small enough to be stored.
+//! that a run, a shrink or a comparison can take or an edition can count, the
+//! shortest of many: a run small enough to be stored.
 
 use crate::cases::scene;
 use crate::random::Random;
@@ -20,7 +20,8 @@ pub fn write(seed: u64, to: &mut impl Write) -> Result<(), String> {
     to.flush().map_err(|error| error.to_string())
 }
 
-/// Records by what they count for. Those of long runs aren't kept.
+/// Records by what they count for. Those of long runs and large files aren't
+/// kept.
 fn pick(seed: u64, calls: u64) -> Result<BTreeMap<Pair, Vec<u8>>, String> {
     let mut picked = BTreeMap::<Pair, Vec<u8>>::new();
     let mut sink = Sink::new(seed, calls);

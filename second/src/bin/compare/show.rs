@@ -4,7 +4,7 @@ use crate::table::name;
 use second::bytes::number;
 use second::commands::REPLY_BYTES;
 use second::page::PAGE_BYTES;
-use second::raw::{REPLY_HEAD, STRING_HEAD};
+use second::raw::{COMPARE_KIND, REPLY_HEAD, STRING_HEAD};
 use std::path::{Path, PathBuf};
 
 /// A field of a reply: its name and how many bytes it has.
@@ -38,6 +38,10 @@ const RAW_STRINGS: [(&str, Field); 3] = [
     ("row", ("count", 4)),
     ("room", ("reply", REPLY_BYTES)),
 ];
+
+/// What the room of a comparison is made of: its records have several lengths,
+/// and all their numbers begin at a whole number of four bytes.
+const LIST_UNIT: Field = ("word", 4);
 
 const LOG_FIELDS: [Field; 9] = [
     ("length", 2),
@@ -85,11 +89,15 @@ fn fields(fields: &[Field], ours: &[u8], theirs: &[u8]) -> String {
 }
 
 /// The strings of a raw reply that differ, each told by its first difference.
-fn strings(ours: &[u8], theirs: &[u8]) -> String {
+fn strings(kind: u16, ours: &[u8], theirs: &[u8]) -> String {
     let (mut our_rest, mut their_rest) = (past_head(ours), past_head(theirs));
     let mut told = String::new();
     for (name, unit) in RAW_STRINGS {
         let (our, their) = (next_string(&mut our_rest), next_string(&mut their_rest));
+        let unit = match (kind, name) {
+            (COMPARE_KIND, "room") => LIST_UNIT,
+            _ => unit,
+        };
         if our != their {
             told += &string_difference(name, unit, our, their);
         }
@@ -133,7 +141,7 @@ pub fn raw_difference(seed: u64, case: u64, kind: u16, ours: &[u8], theirs: &[u8
         "raw call {case} of seed {seed} differs: kind {kind} ({})\n",
         name(kind)
     );
-    title + &fields(&RAW_FIELDS, ours, theirs) + &strings(ours, theirs)
+    title + &fields(&RAW_FIELDS, ours, theirs) + &strings(kind, ours, theirs)
 }
 
 /// A log that the sides answer differently, from the first differing reply.
@@ -210,14 +218,15 @@ mod tests {
             ..Case::default()
         };
         let (_, ours) = case.answer().ok().flatten().expect("due is answered");
-        let told = |at: usize| {
+        let told_of = |kind: u16, at: usize| {
             let mut theirs = ours.clone();
             theirs[at] ^= 0x80;
-            let text = raw_difference(1, 2, 256, &ours, &theirs);
+            let text = raw_difference(1, 2, kind, &ours, &theirs);
             let marked = |line: &&str| line.ends_with('<') || line.contains("differs from");
             let lines: Vec<String> = text.lines().filter(marked).map(str::to_string).collect();
             lines.concat()
         };
+        let told = |at: usize| told_of(256, at);
         for (at, name) in [(5, "kind"), (18, "run"), (30, "file"), (32, "taken")] {
             assert!(told(at).starts_with(name), "{}", told(at));
         }
@@ -229,6 +238,8 @@ mod tests {
         assert!(told(58 + 300 + 4 + 8).starts_with("row of 20 bytes"));
         assert!(told(58 + 300 + 4 + 8).contains("(byte 0 of count 2)"));
         assert!(told(ours.len() - 1).starts_with("room of 7 bytes"));
+        assert!(told(ours.len() - 1).contains("(byte 6 of reply 0)"));
+        assert!(told_of(265, ours.len() - 1).contains("(byte 2 of word 1)"));
         let cut = raw_difference(1, 2, 256, &ours, &ours[..ours.len() - 1]);
         assert!(cut.contains("room of 7 bytes here, 6 there, differs from byte 6"));
         assert!(raw_difference(1, 2, 256, &ours, &[]).contains("nothing"));

@@ -1,5 +1,6 @@
 //! Takes the generated cases, answers each and keeps both in batches.
 
+use crate::comparison_ways::swapped;
 use crate::idle;
 use crate::random::Random;
 use crate::table::Table;
@@ -50,7 +51,10 @@ impl Sink {
         };
         if self.left > 0 {
             self.left -= 1;
-            let pairs = pairs(&after, answer.refusal);
+            let mut pairs = pairs(&after, answer.refusal);
+            // A comparison may be the one before it the other way round.
+            let last = self.asked.last().map(|last| &last.record[..]);
+            pairs.extend(last.and_then(|last| swapped(last, &after, answer.refusal)));
             for &(row, number) in &pairs {
                 self.table.count(row, number);
             }

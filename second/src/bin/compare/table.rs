@@ -1,10 +1,13 @@
 //! How often each call gave each refusal.
 
+use crate::comparison_ways::{self, COMPARISON_PAIRS};
 use crate::editions::{self, EDITION_PAIRS};
+use crate::fault_ways::FAULT_PAIRS;
+use crate::list_ways::LIST_PAIRS;
 use crate::log_ways::{self, LOG_WAYS};
 use crate::shrink_ways::{self, SHRINK_PAIRS};
 use crate::ways::{self, Pair, RUN_PAIRS};
-use second::raw::RUN_KIND;
+use second::raw::{COMPARE_KIND, RUN_KIND};
 use std::collections::BTreeMap;
 use std::fmt;
 
@@ -12,9 +15,9 @@ use std::fmt;
 pub const PROGRAM: u16 = 0;
 
 /// The pairs of call and refusal that the rules make possible for raw calls;
-/// what a run or a shrink can be like and what the editions do is told beside
-/// them.
-pub const CALL_PAIRS: [(u16, &[u16]); 9] = [
+/// what a run, a shrink or a comparison can be like and what the editions do is
+/// told beside them.
+pub const CALL_PAIRS: [(u16, &[u16]); 10] = [
     (256, &[0]),
     (257, &[0, 1, 2]),
     (258, &[0, 1, 2, 4, 6, 7, 9, 13]),
@@ -24,6 +27,7 @@ pub const CALL_PAIRS: [(u16, &[u16]); 9] = [
     (262, &[0, 1, 2, 4, 9]),
     (263, &[0, 1, 2, 4, 9, 14]),
     (RUN_KIND, &[0, 10, 15]),
+    (COMPARE_KIND, &[0, 1, 2, 4, 9, 15]),
 ];
 
 /// Those for logs; what their formats can be like is told beside them. The
@@ -42,7 +46,9 @@ const COMMAND_PAIRS: [(u16, &[u16]); 8] = [
 
 /// All pairs that have to come among raw calls, in their order.
 pub fn raw_pairs() -> Vec<(u16, &'static [u16])> {
-    [&CALL_PAIRS[..], &RUN_PAIRS, &EDITION_PAIRS, &SHRINK_PAIRS].concat()
+    let ways = [&RUN_PAIRS[..], &EDITION_PAIRS, &SHRINK_PAIRS].concat();
+    let of_two = [&LIST_PAIRS[..], &COMPARISON_PAIRS, &FAULT_PAIRS].concat();
+    [&CALL_PAIRS[..], &ways, &of_two].concat()
 }
 
 /// All pairs that have to come among logs.
@@ -71,6 +77,7 @@ pub fn name(kind: u16) -> &'static str {
         262 => "check",
         263 => "shrink",
         RUN_KIND => "pay run",
+        COMPARE_KIND => "comparison",
         way => way_name(way),
     }
 }
@@ -109,7 +116,7 @@ fn way_name(way: u16) -> &'static str {
         log_ways::WRONG_LENGTH => "wrong length",
         log_ways::CUT_FORMAT => "of 14 cut at",
         log_ways::SHRINK_LENGTH => "shrink of",
-        _ => "unknown",
+        of_two => comparison_ways::name(of_two),
     }
 }
 

@@ -1,6 +1,7 @@
 //! What a pay run was like, judged by its bytes: rows of the table beside
 //! those of the calls.
 
+use crate::comparison_ways;
 use crate::editions;
 use crate::shrink_ways;
 use second::answer::BAD_RECORD;
@@ -65,7 +66,7 @@ pub const RUN_PAIRS: [(u16, &[u16]); 12] = [
     (BOTH, &[BAD_RECORD]),
 ];
 
-/// The pairs that an answered case counts for, those for its edition last.
+/// The pairs that an answered case counts for, those for its own kind first.
 pub fn pairs(case: &Case, refusal: u16) -> Vec<Pair> {
     let mut pairs = vec![(case.kind, refusal)];
     if case.kind == RUN_KIND {
@@ -77,12 +78,20 @@ pub fn pairs(case: &Case, refusal: u16) -> Vec<Pair> {
     }
     pairs.extend(editions::pairs(case, refusal));
     pairs.extend(shrink_ways::pairs(case, refusal));
+    pairs.extend(comparison_ways::pairs(case, refusal));
     pairs
 }
 
-/// Whether only long runs count for this pair.
+/// A pair for each way that is so, by its place in the row.
+pub fn each(row: u16, ways: &[bool]) -> Vec<Pair> {
+    let so = (0..).zip(ways).filter(|(_, is_so)| **is_so);
+    so.map(|(way, _)| (row, way)).collect()
+}
+
+/// Whether only long runs or large files count for this pair.
 pub fn takes_many(pair: Pair) -> bool {
-    (ITEMS..=EMPTY_ROOM).contains(&pair.0) && pair.1 >= MANY
+    let many_items = (ITEMS..=EMPTY_ROOM).contains(&pair.0) && pair.1 >= MANY;
+    many_items || comparison_ways::takes_many(pair)
 }
 
 fn size(items: usize) -> u16 {

@@ -3,6 +3,10 @@
 // a file is refused, one record of kind 513.
 use libc::STDOUT_FILENO;
 use reefcushion::reefcushion_compare;
+ghost use mathlib.Core.Path.{_≡_};
+ghost use Prim.Native.Nat.{_≤_};
+ghost use lib.ListN.{length};
+ghost use Rattle.compare_files.specs.Within.{Within};
 
 // The most bytes of a register file, and one more, so that a longer file is known as one.
 const MOST: usize = 1048593;
@@ -17,7 +21,9 @@ enum Loaded {
 }
 
 // The file that an argument names, to the front of a buffer. What can't be read is told on standard error.
-fn load(argument: usize, buffer: &mut [u8]) -> Loaded {
+fn load(argument: usize, buffer: &mut [u8]) -> Loaded
+    ensures { λ r. ⌜ Within (length (now (buffer .entry))) r ⌝ }
+{
     let mut path = io::buffer();
     let n = os::arg(argument, &mut path);
     if os::errno() != 0 {
@@ -35,12 +41,16 @@ fn load(argument: usize, buffer: &mut [u8]) -> Loaded {
 }
 
 // Where the pages of a file begin. A file that is shorter than a state has none, and is refused.
-fn pages_at(count: usize) -> usize {
+fn pages_at(count: usize) -> usize
+    ensures { λ r. ⌜ (r ≤ count) × (r ≤ 16) ⌝ }
+{
     if count < 16 { count } else { 16 }
 }
 
 // The slip of a file: its state, and zeros where an answer stands.
-fn slip_of(file: &[u8]) -> [u8; 40] {
+fn slip_of(file: &[u8]) -> [u8; 40]
+    ensures { λ r. ⌜ 40 ≡ length r ⌝ }
+{
     let mut slip = [0u8; 40];
     bytes::copy(&file[..pages_at(file.len())], &mut slip[..]);
     slip
@@ -48,7 +58,10 @@ fn slip_of(file: &[u8]) -> [u8; 40] {
 
 // One record instead of a list: the refusal, the broken page if there is one, the pages read and the file,
 // as the twenty bytes of a comparison have them.
-fn refused(told: &[u8]) -> [u8; 16] {
+fn refused(told: &[u8]) -> [u8; 16]
+    requires { ⌜ length (now told) ≡ 20 ⌝ }
+    ensures { λ r. ⌜ 16 ≡ length r ⌝ }
+{
     let mut record = [0u8; 16];
     numbers::put_u16(&mut record[..], 0, 16);
     numbers::put_u16(&mut record[..], 2, 513);
@@ -89,15 +102,33 @@ fn tell(first: &[u8], second: &[u8], room: &mut [u8]) {
     }
 }
 
+// Zeros for a file, and for the list.
+fn file_space() -> [u8; MOST]
+    ensures { λ r. ⌜ 1048593 ≡ length r ⌝ }
+{
+    [0; MOST]
+}
+
+fn list_space() -> [u8; ROOM]
+    ensures { λ r. ⌜ 1966096 ≡ length r ⌝ }
+{
+    [0; ROOM]
+}
+
+// Both files, and what differs.
+fn run(first: &mut [u8], second: &mut [u8], room: &mut [u8]) {
+    let Loaded::Bytes { count: here } = load(1, first) else {
+        return;
+    };
+    let Loaded::Bytes { count: there } = load(2, second) else {
+        return;
+    };
+    tell(&first[..here], &second[..there], room);
+}
+
 fn main() {
-    let mut first = [0u8; MOST];
-    let mut second = [0u8; MOST];
-    let mut room = [0u8; ROOM];
-    let Loaded::Bytes { count: here } = load(1, &mut first[..]) else {
-        return;
-    };
-    let Loaded::Bytes { count: there } = load(2, &mut second[..]) else {
-        return;
-    };
-    tell(&first[..here], &second[..there], &mut room[..]);
+    let mut first = file_space();
+    let mut second = file_space();
+    let mut room = list_space();
+    run(&mut first[..], &mut second[..], &mut room[..]);
 }

@@ -56,5 +56,10 @@ slip-answers =
         one = λ κs a y z v w p q. (p .0 ∙⁻¹ q .0, λ i. ((p .1 .0 ∙⁻¹ q .1 .0) i, (tt, tt)));
         does = λ κs a y v p i. record { returned = p .0 i; slip = p .1 .0 i; file = record { layout = sym (call-layout (now (a .0)) (now (a .1 .0)) check) i; state = p .1 .1 i; area = sym (check-area (now (a .0)) (now (a .1 .0))) i } };
       };
+      compare = record {
+        asks-nothing = λ κs a. tt;
+        one = λ κs a y z v w p q. (p .0 ∙⁻¹ q .0, λ i. (tt, (tt, (tt, (tt, ((p .1 .0 ∙⁻¹ q .1 .0) i, ((p .1 .1 ∙⁻¹ q .1 .1) i, tt)))))));
+        does = λ κs a y v p i. record { returned = p .0 i; list = p .1 .0 i; comparison = p .1 .1 i };
+      };
       due = record { asks-nothing = λ κs a. tt; one = λ κs a y z v w p q. (p ∙⁻¹ q, refl); does = λ κs a y v p. p };
     }

@@ -16,8 +16,9 @@ use Rattle.reefcushion.proofs.reefcushion_remove as Remove
 use Rattle.reefcushion.proofs.reefcushion_grow as Grow
 use Rattle.reefcushion.proofs.reefcushion_shrink as Shrink
 use Rattle.reefcushion.proofs.reefcushion_check as Check
+use Rattle.reefcushion.proofs.reefcushion_compare as Compare
 use Rattle.reefcushion.proofs.reefcushion_due as Due
-use Rattle.reefcushion.specs.Slip.{Served, fileIn, served, servedRow, servedRun, servedRoom, dueOn}
+use Rattle.reefcushion.specs.Slip.{Served, fileIn, served, servedRow, servedRun, servedRoom, servedCompare, dueOn}
 
 -- what the code of a call comes to: the file that it leaves is the one that its slip and its area
 -- are
@@ -55,4 +56,8 @@ pub record SlipAnswers : Type 0 where
   pub check : Settled Check.ended Check.Reads.Asked Check.Reads.Learnt
       (λ κs a. served (now (a .0)) (now (a .1 .0)) check)
       (λ κs a y v. came y (v .0) (now (a .1 .0)))
+  -- a comparison reads two slips and two areas, and leaves the room for the list and what it is told in
+  pub compare : Settled Compare.ended Compare.Reads.Asked Compare.Reads.Learnt
+      (λ κs a. servedCompare (now (a .0)) (now (a .1 .0)) (now (a .1 .1 .0)) (now (a .1 .1 .1 .0)) (now (a .1 .1 .1 .1 .0)) (now (a .1 .1 .1 .1 .1 .0)))
+      (λ κs a y v. record { returned = y; list = v .1 .1 .1 .1 .0; comparison = v .1 .1 .1 .1 .1 .0 })
   pub due : Settled Due.ended Due.Reads.Asked Due.Reads.Learnt (λ κs a. dueOn (now (a .0))) (λ κs a y v. y)

@@ -10,7 +10,7 @@ use lib.ListN.{length, drop}
 use borrow.Author.Tests.{eqb-true}
 use Rattle.placing.specs.Image.{All}
 use Rattle.state.specs.State.{all, inRange}
-use Rattle.gates.specs.Gates.{gateOf, growGate, shrinkGate}
+use Rattle.gates.specs.Gates.{gateOf, checkGate, growGate, shrinkGate}
 use Rattle.register.specs.Files.{left}
 use Rattle.demands.specs.Histories.{Kept}
 use Rattle.demands.specs.Demands.{Fresh}
@@ -79,7 +79,7 @@ called d Shrink = refl
 
 -- no call but a format takes a state that is all zero
 before : (space row : List ℕ) (c : Command) → AnswersOne space row c
-unfolding executed left gateOf growGate shrinkGate inRange all
+unfolding executed left gateOf checkGate growGate shrinkGate inRange all
 before space row (Format q cap) = tt
 before space row (Put x) = refl
 before space row (Find k) = refl

@@ -3,3 +3,4 @@ pub mod Rows
 pub mod Reading
 pub mod Sorting
 pub mod Turns
+pub mod Waiting

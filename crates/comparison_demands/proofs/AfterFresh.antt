@@ -10,7 +10,6 @@ use borrow.Author.Tests.{eqb-true, eqb-false, eq-eqb, ne-eqb}
 use lib.Dec.{eqb}
 use lib.ListN.{length}
 use Rattle.layouts.specs.Layout.{Layout, inUse}
-use Rattle.placing.specs.Image.{cat}
 use Rattle.placing.specs.Walks.{seek}
 use Rattle.placing.proofs.Seek.{clash}
 use Rattle.pages.specs.Page.{Record, key, value}
@@ -18,13 +17,10 @@ use Rattle.pages.specs.Area.{areaFrom}
 use Rattle.state.specs.declared.State.{State}
 use Rattle.state.specs.State.{homes}
 use Rattle.walks.proofs.Clean.{clean-pass, read-held}
-use Rattle.gates.specs.declared.Gate.the-variants.{Open}
-use Rattle.gates.specs.Gates.{checkGate}
 use Rattle.register.specs.Files.{File}
 use Rattle.register.proofs.OnImage.{OnImage, on-clean}
 use Rattle.register.proofs.RemadeImage.{check-open}
 use Rattle.demands.specs.Histories.{Kept, stateOf, recordOf, commitOf}
-use Rattle.demands.specs.Demands.{Fresh}
 use Rattle.demands.proofs.Sets.{record-found, commit-found, same-records}
 use Rattle.demands.proofs.Standing.{Stands, fileOf}
 use Rattle.demands.proofs.Demands.{stands}

@@ -1,5 +1,5 @@
 -- What a comparison of any numbers and any bytes comes to.
-use mathlib.Core.Path.{_≡_, refl, sym, ap, _∙_}
+use mathlib.Core.Path.{_≡_, refl}
 use mathlib.Core.Bool.{Bool, true, false, cond}
 use mathlib.Core.Logic.{_↔_}
 use mathlib.Core.List.{List, _++_}
@@ -13,7 +13,6 @@ use Rattle.state.specs.declared.State.{State}
 use Rattle.gates.specs.declared.Gate.{Gate}
 use Rattle.gates.specs.declared.Gate.the-variants.{Open, Shut}
 use Rattle.gates.specs.Gates.{onGate, checkGate}
-use Rattle.comparisons.specs.declared.Compared.{Compared}
 use Rattle.comparisons.specs.declared.Compared.the-variants.{Listed, Short}
 use Rattle.comparisons.specs.Compare.{Outcome, filled, contrasted, compared, comparedNumbers, refusedFile}
 use Rattle.comparison_demands.specs.ComparisonDemands.{listOf, OnAnyBytes}

@@ -19,7 +19,7 @@ use Rattle.demands.specs.Demands.{Fresh}
 use Rattle.two_sets.specs.Differences.{Difference, onlyFirst, onlySecond, unlike, turned, keyOf, differences, differAt}
 use Rattle.differences.specs.Listing.{same, fields, closing, listing}
 use Rattle.comparisons.specs.declared.ComparedNumbers.{ComparedNumbers}
-use Rattle.comparisons.specs.Compare.{Outcome, heldIn, filled, compared, comparedNumbers}
+use Rattle.comparisons.specs.Compare.{heldIn, filled, compared, comparedNumbers}
 
 -- what a comparison of any numbers and any bytes says, in numbers
 abbrev pub said : Layout → State → List ℕ → State → List ℕ → (room : List ℕ) → ComparedNumbers

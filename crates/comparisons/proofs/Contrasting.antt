@@ -1,7 +1,6 @@
 -- Two files that pass: the counts tell how long the list is, and the entries of both, in order and
 -- unpacked, are its records.
 use mathlib.Core.Path.{_≡_, refl, sym, ap, _∙_}
-use mathlib.Core.Bool.{true, false}
 use mathlib.Core.Option.{Option}
 use mathlib.Core.List.{List, [], _∷_, _++_, map, map-append, append-assoc, Permᴰ·symm}
 use Prim.Native.Nat.{ℕ, _+_, _*_, _≤_, _<_}
@@ -26,7 +25,7 @@ use Rattle.two_sets.proofs.Differences.{each-once}
 use Rattle.two_sets.proofs.Counting.{kinds}
 use Rattle.differences.specs.Listing.{same, fields, closing, recordBytes, listing}
 use Rattle.differences.specs.declared.Site.{Site}
-use Rattle.differences.specs.steps.Passes.{D, Walkable, look, ofAll, entryOf}
+use Rattle.differences.specs.steps.Passes.{D, Walkable, look, entryOf}
 use Rattle.differences.specs.steps.Unpacked.{more, unpacked}
 use Rattle.differences.proofs.Meaning.{tells, pass-firsts, pass-seconds, Told, both-told, all-sized, sort-entries, once-entries, records-entries, wide-entries}
 use Rattle.comparisons.specs.declared.Compared.the-variants.{Listed, Short}

@@ -3,10 +3,9 @@ use mathlib.Core.Path.{_≡_, refl, sym, ap, _∙_}
 use mathlib.Core.Bool.{Bool, true, false, cond}
 use mathlib.Core.Option.{Option, none, some}
 use mathlib.Core.List.{List, [], _∷_}
-use Prim.Native.Nat.{ℕ, _+_, _-_, _*_, _≤_}
+use Prim.Native.Nat.{ℕ, _+_, _-_, _≤_}
 use native.Mathlib.Omega.{arith}
 use lib.Dec.{eqb}
-use lib.ListN.{length}
 use Rattle.layouts.specs.Layout.{inUse}
 use Rattle.placing.specs.Image.{cat}
 use Rattle.placing.specs.Lay.{count}
@@ -20,7 +19,7 @@ use Rattle.differences.specs.declared.Site.{Site}
 use Rattle.differences.specs.declared.Tally.{Tally}
 use Rattle.differences.specs.Listing.{same}
 use Rattle.differences.specs.steps.Passes.{D, look, ofAll, isOnly, tallied, Passes}
-use Rattle.differences.proofs.Meaning.{Tells, tells, pass-firsts}
+use Rattle.differences.proofs.Meaning.{tells, pass-firsts}
 use Rattle.comparisons.specs.declared.Counts.{Counts}
 use Rattle.comparisons.specs.Compare.{heldIn}
 use Rattle.comparisons.specs.steps.Past.{siteOf, countsOf}

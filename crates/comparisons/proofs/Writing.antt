@@ -1,8 +1,8 @@
 -- The entries of both files in a row: written one after the other, sorted where they stand, and unpacked.
 use mathlib.Core.Path.{_≡_, refl, sym, ap, _∙_}
-use mathlib.Core.Bool.{Bool, true, false}
+use mathlib.Core.Bool.{Bool}
 use mathlib.Core.Option.{Option}
-use mathlib.Core.List.{List, [], _∷_, _++_, map, append-nil, Permᴰ·symm}
+use mathlib.Core.List.{List, [], _++_, map, append-nil, Permᴰ·symm}
 use Prim.Native.Nat.{ℕ, _+_, _-_, _*_, _/_, _≤_}
 use native.Mathlib.Omega.{arith}
 use borrow.Rule.Slice.PartMut.{putMid}
@@ -21,10 +21,10 @@ use Rattle.entries.specs.steps.Entries.{size, entriesIn, rowBytes, rank}
 use Rattle.entries.proofs.Entries.{SizedEntry}
 use Rattle.entries.proofs.Rows.{row-length, row-append, entries-row}
 use Rattle.differences.specs.declared.Tally.{Tally}
-use Rattle.differences.specs.steps.Passes.{D, ofAll, entryOf, fitted, Passes}
+use Rattle.differences.specs.steps.Passes.{ofAll, entryOf, Passes}
 use Rattle.differences.specs.steps.Unpacked.{more, unpacked, wide}
 use Rattle.differences.proofs.Fitting.{fitted-all}
-use Rattle.differences.proofs.Passing.{passes-many, passes-length}
+use Rattle.differences.proofs.Passing.{passes-many}
 use Rattle.comparisons.specs.steps.Past.{Sortable}
 
 -- a row without room is that of no entries

@@ -1,12 +1,12 @@
 -- Entries written to a row one after the other, as far as they have room.
 use mathlib.Core.Path.{_≡_, refl, sym, ap, _∙_}
 use mathlib.Core.Bool.{Bool, true, false, cond}
-use mathlib.Core.List.{List, [], _∷_, _++_, append-nil}
+use mathlib.Core.List.{List, [], _∷_, _++_}
 use Prim.Native.Nat.{ℕ, suc, _+_, _*_, _≤_, _<_}
 use native.Mathlib.Nat.{add-zero}
 use native.Mathlib.Omega.{arith}
-use borrow.Author.Tests.{leb-true, le-leb, lt-leb, eq-eqb, ne-eqb}
-use lib.Dec.{leb, eqb}
+use borrow.Author.Tests.{leb-true, le-leb, lt-leb, ne-eqb}
+use lib.Dec.{leb}
 use lib.ListN.{length}
 use Rattle.numbers.specs.Little.{written}
 use Rattle.numbers.proofs.Laws.{written-nil, written-length, written-written}
@@ -14,7 +14,6 @@ use Rattle.pages.specs.Page.{Record}
 use Rattle.entries.specs.declared.Entry.{Entry}
 use Rattle.entries.specs.steps.Entries.{size, entryBytes, rowBytes}
 use Rattle.entries.proofs.Entries.{length-entry}
-use Rattle.entries.proofs.Rows.{row-length}
 use Rattle.differences.specs.steps.Passes.{marked, entriesOf, fitted}
 
 -- the ways of one entry

@@ -4,7 +4,7 @@ use mathlib.Core.Path.{_≡_, refl, sym, ap, _∙_}
 use mathlib.Core.Bool.{Bool, true, false, cond}
 use mathlib.Core.Option.{Option}
 use mathlib.Core.List.{List, [], _∷_, _++_, append-assoc, append-nil}
-use Prim.Native.Nat.{ℕ, suc, _+_, _-_, _*_, _/_, _≤_, _<_}
+use Prim.Native.Nat.{ℕ, _+_, _-_, _*_, _/_, _≤_, _<_}
 use native.Mathlib.Nat.{add-assoc}
 use native.Mathlib.Omega.{arith}
 use borrow.Author.Tests.{eq-eqb, ne-eqb}
@@ -12,7 +12,7 @@ use lib.Dec.{eqb}
 use lib.ListN.{length, take, drop}
 use lib.Seq.{take-all, drop-drop}
 use Rattle.numbers.specs.Little.{bytesOf, written}
-use Rattle.numbers.specs.Fields.{Field, width, encode}
+use Rattle.numbers.specs.Fields.{width, encode}
 use Rattle.numbers.proofs.Laws.{written-length, written-front, written-after, written-written}
 use Rattle.numbers.proofs.Records.{length-encode, encode-append, puts-written}
 use Rattle.layouts.specs.Layout.{inUse}
@@ -23,7 +23,6 @@ use Rattle.entries.specs.steps.Entries.{size, fields, entryBytes, entryAt, entr
 use Rattle.entries.proofs.Entries.{length-entry}
 use Rattle.entries.proofs.Reading.{Whole, left-first, left-none}
 use Rattle.differences.specs.Listing.{closing}
-use Rattle.differences.specs.steps.Passes.{marked}
 use Rattle.differences.specs.steps.Unpacked.{more, orVacant, entryFields, unpacked, wide}
 
 -- five numbers that were written are the closing record

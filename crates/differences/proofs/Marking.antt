@@ -1,9 +1,8 @@
 -- The kind of the difference that one record makes, and its entry.
-use mathlib.Core.Path.{_≡_, refl, sym, ap, _∙_}
+use mathlib.Core.Path.{_≡_, refl, sym}
 use mathlib.Core.Bool.{Bool, true, false, cond, not, _||_, false≢true}
 use mathlib.Core.Option.{Option, none, some}
 use mathlib.Core.List.{List, [], _∷_, map}
-use Prim.Native.Nat.{ℕ}
 use lib.Dec.{eqb}
 use Rattle.placing.specs.Lay.{one, count}
 use Rattle.pages.specs.Page.{Record, value}

@@ -1,13 +1,12 @@
 -- The entries of what differs, in order of their keys and unpacked, are the records of the list.
-use mathlib.Core.Path.{_≡_, refl, sym, ap, _∙_}
+use mathlib.Core.Path.{_≡_, refl, ap, _∙_}
 use mathlib.Core.Bool.{Bool, true, false, cond}
 use mathlib.Core.Option.{Option, none, some}
 use mathlib.Core.List.{List, [], _∷_, _++_, map, Permᴰ·symm}
-use Prim.Native.Nat.{ℕ, suc, _+_, _*_, _^_, _≤_, _<_}
+use Prim.Native.Nat.{ℕ, _+_, _*_, _^_, _<_}
 use native.Mathlib.Omega.{arith}
 use borrow.Author.Tests.{leb-true, leb-false, le-leb, lt-leb}
 use lib.Dec.{eqb, leb}
-use lib.ListN.{length}
 use Rattle.numbers.specs.Fields.{encode}
 use Rattle.layouts.specs.Layout.{inUse}
 use Rattle.placing.specs.Image.{All, Distinct}

@@ -3,14 +3,14 @@ use mathlib.Core.Path.{_≡_, refl, sym, ap, subst, _∙_}
 use mathlib.Core.Bool.{Bool, true, false, cond, _||_}
 use mathlib.Core.Option.{Option, none, some}
 use mathlib.Core.List.{List, [], _∷_, _++_, map, map-append, append-assoc, append-nil}
-use Prim.Native.Nat.{ℕ, zero, suc, _+_, _-_, _*_, _≤_, _<_}
+use Prim.Native.Nat.{ℕ, zero, suc, _+_, _-_, _*_, _≤_}
 use native.Mathlib.Nat.{add-zero, zero-add}
 use native.Mathlib.Numerals.{add-one}
 use native.Mathlib.Omega.{arith}
 use lib.Dec.{eqb}
 use lib.ListN.{length, drop, getD, length-append, length-map}
 use lib.Seq.{getD-drop}
-use Rattle.layouts.specs.Layout.{Layout, inUse}
+use Rattle.layouts.specs.Layout.{inUse}
 use Rattle.placing.specs.Image.{cat}
 use Rattle.placing.specs.Lay.{one, count}
 use Rattle.pages.specs.declared.Page.{Page}
@@ -20,13 +20,12 @@ use Rattle.pages.specs.Area.{partAt, heldFrom}
 use Rattle.pages.proofs.Memory.{page-records, page-count}
 use Rattle.pages.proofs.Seeking.{paired-length}
 use Rattle.pages.proofs.Read.{held-twelve}
-use Rattle.entries.specs.declared.Entry.{Entry}
 use Rattle.entries.specs.steps.Entries.{size}
-use Rattle.two_sets.specs.Differences.{onlyFirst, onlySecond, unlike, isUnlike, ofFirst, ofSecond}
+use Rattle.two_sets.specs.Differences.{onlyFirst, onlySecond, unlike, isUnlike}
 use Rattle.two_sets.proofs.Counting.{count-append}
 use Rattle.differences.specs.declared.Tally.{Tally}
 use Rattle.differences.specs.Listing.{same}
-use Rattle.differences.specs.steps.Passes.{D, ofOne, ofAll, kindIn, entryOf, entriesOf, fitted, isOnly, tallied, Passes}
+use Rattle.differences.specs.steps.Passes.{D, ofOne, ofAll, kindIn, entryOf, entriesOf, fitted, isOnly, Passes}
 use Rattle.differences.proofs.Marking.{one-marked}
 use Rattle.differences.proofs.Fitting.{fitted-length, fitted-append}
 

@@ -1,6 +1,6 @@
 -- The turns of a search: over a page's records, and over the pages.
 use mathlib.Core.Path.{_≡_, refl, sym, ap, _∙_}
-use mathlib.Core.Bool.{Bool, true, false, cond, _||_}
+use mathlib.Core.Bool.{Bool, true, false, cond}
 use mathlib.Core.Option.{Option, none, some}
 use mathlib.Core.List.{List, [], _∷_}
 use Prim.Native.Nat.{ℕ, zero, suc, _+_, _-_, _*_, _^_, _≤_, _<_}
@@ -12,10 +12,7 @@ use lib.Dec.{eqb, ltb}
 use lib.ListN.{length, drop, getD}
 use Rattle.numbers.specs.Little.{Bytes}
 use Rattle.layouts.specs.Layout.{Layout, slotsOf, slotAt}
-use Rattle.homes.specs.declared.Shape.{Shape}
-use Rattle.homes.specs.Homes.{Ready, homeIn}
-use Rattle.homes.proofs.Homes.{home-below}
-use Rattle.placing.specs.Lay.{ranked, rankOf, rankIn}
+use Rattle.placing.specs.Lay.{rankOf, rankIn}
 use Rattle.placing.specs.Walks.{orElse, seek, lastAfter, endsOn, find, findIn}
 use Rattle.placing.proofs.Rank.{seek-key}
 use Rattle.pages.specs.Page.{Record, key, rank, recordIn, recordsFrom, recordsIn, countIn}

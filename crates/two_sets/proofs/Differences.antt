@@ -1,22 +1,20 @@
 -- The list of differences is set by the two record sets, and says at each key what differs there.
-use mathlib.Core.Path.{_≡_, refl, sym, ap, subst, _∙_}
+use mathlib.Core.Path.{_≡_, refl, sym, _∙_}
 use mathlib.Core.Bool.{Bool, true, false, cond}
 use mathlib.Core.Logic.{_↔_}
 use mathlib.Core.Option.{Option, none, some}
-use mathlib.Core.List.{List, [], _∷_, _++_, List·Permᴰ, List·Permᴰ·trans, Permᴰ·symm}
-use Prim.Native.Nat.{ℕ, suc, _+_, _<_}
-use native.Mathlib.Omega.{arith}
+use mathlib.Core.List.{List, [], _∷_, _++_, List·Permᴰ, Permᴰ·symm}
+use Prim.Native.Nat.{ℕ, _+_}
 use lib.Dec.{eqb}
-use lib.ListN.{length, length-append}
-use borrow.Author.Tests.{eqb-true, eqb-false, eq-eqb, ne-eqb}
+use borrow.Author.Tests.{eqb-true, eqb-false, eq-eqb}
 use Rattle.placing.specs.Image.{All, Distinct}
-use Rattle.placing.specs.Lay.{sort, one, count, Sorted}
+use Rattle.placing.specs.Lay.{one, Sorted}
 use Rattle.placing.specs.Walks.{orElse, seek}
-use Rattle.placing.proofs.Lists.{all-map, all-append}
+use Rattle.placing.proofs.Lists.{all-append}
 use Rattle.placing.proofs.Seek.{clash, seek-append, seek-ne, ne-seek}
 use Rattle.placing.proofs.Seek as Seeks
-use Rattle.placing.proofs.Perms.{perm-all, perm-count, perm-seek, perm-distinct, sorted-unique, sort-perm, sort-sorted}
-use Rattle.two_sets.specs.Differences.{Difference, onlyFirst, onlySecond, unlike, isOnlyFirst, isOnlySecond, isUnlike, turned, keyOf, ofFirst, ofSecond, firsts, seconds, differences, differAt}
+use Rattle.placing.proofs.Perms.{perm-all, perm-seek, perm-distinct, sort-perm, sort-sorted}
+use Rattle.two_sets.specs.Differences.{Difference, onlyFirst, onlySecond, unlike, turned, keyOf, ofFirst, ofSecond, firsts, seconds, differences, differAt}
 
 -- what is found has the key that was sought
 pub seek-is : {R : Type 0} (key : R → ℕ) (k : ℕ) (s : List R) (x : R) → seek key k s ≡ some x → key x ≡ k
@@ -118,14 +116,6 @@ module _ {R : Type 0} (key : R → ℕ) (same : R → R → Bool) where
   pub differences-rise : (xs ys : List R) → Distinct key xs → Distinct key ys → Sorted (keyOf key) (differences key same xs ys)
   unfolding differences
   differences-rise xs ys d e = sort-sorted (keyOf key) (firsts key same xs ys ++ seconds key same xs ys) (each-once xs ys d e)
-
-  -- a permutation of the differences in order of key is the list
-  pub sorted-list : (xs ys : List R) (ds : List D) → Distinct key xs → Distinct key ys → List·Permᴰ ds (firsts key same xs ys ++ seconds key same xs ys) → Sorted (keyOf key) ds
-      → ds ≡ differences key same xs ys
-  unfolding differences
-  sorted-list xs ys ds d e p k =
-      sorted-unique (keyOf key) ds (sort (keyOf key) (firsts key same xs ys ++ seconds key same xs ys))
-      (List·Permᴰ·trans p (Permᴰ·symm (sort-perm (keyOf key) (firsts key same xs ys ++ seconds key same xs ys)))) k (differences-rise xs ys d e)
 
   -- what is found at a key among one record's differences
   abbrev firstAt : Option R → Option R → Option D

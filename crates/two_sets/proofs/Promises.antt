@@ -1,5 +1,4 @@
 -- What is promised of the differences between two record sets holds.
-use mathlib.Core.Path.{_≡_}
 use mathlib.Core.Bool.{Bool}
 use Prim.Native.Nat.{ℕ}
 use Rattle.two_sets.specs.Promises.{TwoSetsPromises}

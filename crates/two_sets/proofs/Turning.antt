@@ -4,13 +4,11 @@ use mathlib.Core.Bool.{Bool, true, false, cond}
 use mathlib.Core.Option.{Option, none, some, Option·map}
 use mathlib.Core.List.{List, [], _∷_, map}
 use Prim.Native.Nat.{ℕ, _<_}
-use native.Mathlib.Omega.{arith}
 use lib.Dec.{eqb}
-use borrow.Author.Tests.{eqb-true}
 use Rattle.placing.specs.Image.{All, Distinct}
 use Rattle.placing.specs.Lay.{Sorted}
 use Rattle.placing.specs.Walks.{seek}
-use Rattle.two_sets.specs.Differences.{Difference, onlyFirst, onlySecond, unlike, turned, keyOf, differences, differAt}
+use Rattle.two_sets.specs.Differences.{Difference, unlike, turned, keyOf, differences, differAt}
 use Rattle.two_sets.proofs.Differences.{differences-at, differences-rise, differences-keys, only-list}
 
 module _ {R : Type 0} (key : R → ℕ) where

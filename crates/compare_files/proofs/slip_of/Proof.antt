@@ -1,5 +1,4 @@
 -- `compare_files::slip_of` meets its contract: the state lies in the file, and fits a slip.
-use mathlib.Core.Path.{sym}
 use native.Mathlib.Omega.{arith}
 use borrow.Author.Needs.{needs}
 use denote.Ref.{now}

@@ -1,7 +1,7 @@
 -- `comparisons::contrast` meets its contract: the counts tell how long the list is, and the room takes it
 -- or doesn't.
 use denote.Ref.{now}
-use mathlib.Core.Path.{_≡_, refl, sym, _∙_}
+use mathlib.Core.Path.{refl, sym, _∙_}
 use mathlib.Core.List.{List}
 use native.Mathlib.Omega.{arith}
 use borrow.Author.Needs.{needs}

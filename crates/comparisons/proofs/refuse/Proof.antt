@@ -1,6 +1,5 @@
 -- `comparisons::refuse` meets its contract: a refusal that read no page counts none.
 use mathlib.Core.Path.{_≡_, ap, sym, _∙_}
-use Prim.Native.Nat.{ℕ}
 use native.Mathlib.Omega.{arith}
 use borrow.Author.Needs.{needs}
 use Rattle.state.specs.declared.Numbers.{Numbers}

@@ -1,5 +1,4 @@
 -- `comparisons::site_of` meets its contract.
-use mathlib.Core.Path.{_≡_}
 use borrow.Author.Needs.{needs}
 use Rattle.layouts.specs.Layout.{inUse}
 use Rattle.state.proofs.Ranges.{in-shape}

@@ -15,7 +15,7 @@ use Rattle.entries.specs.declared.Entry.{Entry}
 use Rattle.entries.specs.steps.Entries.{size, rowBytes}
 use Rattle.differences.specs.steps.Passes.{look, ofAll, entryOf}
 use Rattle.differences.specs.steps.Unpacked.{unpacked}
-use Rattle.differences.proofs.Passing.{file-few, passes-length}
+use Rattle.differences.proofs.Passing.{file-few}
 use Rattle.comparisons.proofs.Writing.{none-written, pass-many, pass-written, first-fits, second-fits, part-lies, part-whole, part-once, back-ready, back-entries}
 use Rattle.comparisons.proofs.write_list.Statement.{statement}
 use Rattle.comparisons.proofs.write_list.Tie as tie

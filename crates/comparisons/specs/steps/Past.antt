@@ -4,7 +4,6 @@ use mathlib.Core.Path.{_≡_}
 use mathlib.Core.Bool.{true, false}
 use mathlib.Core.List.{List, _++_, map}
 use lib.ListN.{length}
-use Rattle.layouts.specs.Layout.{inUse}
 use Rattle.homes.specs.Homes.{shapeOf}
 use Rattle.placing.specs.Image.{All, Distinct}
 use Rattle.placing.specs.Lay.{count}

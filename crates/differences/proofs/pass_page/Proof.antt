@@ -1,14 +1,11 @@
 -- `differences::pass_page` meets its contract. The loop's invariant: the first i records are passed. The
 -- measure is how many are left.
 use denote.Ref.{now}
-use mathlib.Core.Path.{_≡_, refl, sym, ap, subst, _∙_}
-use mathlib.Core.List.{List}
-use Prim.Native.Nat.{ℕ, _+_, _-_, _*_, _≤_}
+use mathlib.Core.Path.{refl}
+use Prim.Native.Nat.{_+_, _-_, _≤_}
 use native.Mathlib.Omega.{arith}
 use borrow.Author.Needs.{needs}
-use Rattle.pages.specs.Page.{Record}
 use Rattle.pages.specs.steps.Slots.{paired, recordsOf}
-use Rattle.pages.proofs.Seeking.{paired-length}
 use Rattle.differences.specs.steps.Passes.{look, Passes}
 use Rattle.differences.proofs.Passing.{tallyOf, passes-none, passes-few, passes-length, page-few, page-turn, page-end}
 use Rattle.differences.proofs.pass_page.Statement.{statement}

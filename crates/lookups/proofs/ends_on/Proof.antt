@@ -1,6 +1,6 @@
 -- `lookups::ends_on` meets its contract: of a full page the last record decides.
 use denote.Ref.{now}
-use mathlib.Core.Path.{_≡_, ap, _∙_}
+use mathlib.Core.Path.{_∙_}
 use Prim.Native.Nat.{_-_, _<_}
 use native.Mathlib.Omega.{arith}
 use borrow.Author.Needs.{needs}
@@ -8,7 +8,7 @@ use Rattle.layouts.specs.Layout.{slotsOf}
 use Rattle.layouts.proofs.Lying.{slots-few}
 use Rattle.homes.specs.Homes.{homeIn}
 use Rattle.placing.specs.Lay.{ranked}
-use Rattle.pages.specs.Page.{recordIn, countIn}
+use Rattle.pages.specs.Page.{countIn}
 use Rattle.pages.proofs.Read.{slot-lies}
 use Rattle.lookups.proofs.Looking.{ends-short, ends-last}
 use Rattle.lookups.proofs.ends_on.Statement.{statement}

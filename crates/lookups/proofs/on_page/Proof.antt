@@ -5,12 +5,10 @@ use mathlib.Core.Path.{_≡_, ap, _∙_}
 use Prim.Native.Nat.{_-_, _≤_}
 use native.Mathlib.Omega.{arith}
 use borrow.Author.Needs.{needs}
-use Rattle.layouts.specs.Layout.{slotAt}
 use Rattle.placing.specs.Walks.{seek}
-use Rattle.pages.specs.declared.Record.{Record}
 use Rattle.pages.specs.Page.{key, recordIn, recordsFrom, recordsIn}
 use Rattle.pages.proofs.Read.{slot-lies}
-use Rattle.lookups.proofs.Looking.{Sifted, sifted-none, sifted-here, sifted-on, sifted-all}
+use Rattle.lookups.proofs.Looking.{sifted-none, sifted-here, sifted-on, sifted-all}
 use Rattle.lookups.proofs.on_page.Statement.{statement}
 use Rattle.lookups.proofs.on_page.Tie as tie
 

@@ -1,6 +1,6 @@
 -- `reefcushion::reefcushion_compare` meets its contract: `comparisons::compare` on the states that the
 -- slips bring, told in its own bytes.
-use mathlib.Core.Path.{_≡_, refl, ap, _∙_}
+use mathlib.Core.Path.{refl, ap, _∙_}
 use denote.Ref.{now}
 use borrow.Author.Needs.{needs}
 use Rattle.comparisons.specs.declared.ComparedNumbers.{ComparedNumbers}

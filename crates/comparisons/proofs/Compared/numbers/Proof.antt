@@ -1,5 +1,5 @@
 -- `comparisons::Compared::numbers` meets its contract.
-use mathlib.Core.Path.{_≡_, sym, ap, _∙_}
+use mathlib.Core.Path.{sym, ap, _∙_}
 use borrow.Author.Needs.{needs}
 use Rattle.comparisons.specs.Compare.{comparedNumbers}
 use Rattle.comparisons.proofs.Compared.numbers.Statement.{statement}

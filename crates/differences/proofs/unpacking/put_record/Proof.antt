@@ -1,15 +1,14 @@
 -- `differences::unpacking::put_record` meets its contract: the entry itself, or one with the second
 -- value behind it.
 use denote.Ref.{now}
-use mathlib.Core.Path.{_≡_, sym, ap, _∙_}
-use native.Mathlib.Omega.{arith}
+use mathlib.Core.Path.{_≡_, ap, _∙_}
 use borrow.Author.Needs.{needs}
 use Rattle.lookups.specs.steps.Told.{heldBy}
 use Rattle.lookups.proofs.Looking.{by-told}
 use Rattle.pages.specs.Page.{key}
 use Rattle.differences.specs.steps.Passes.{look}
 use Rattle.differences.specs.steps.Unpacked.{orVacant}
-use Rattle.differences.proofs.InPlace.{record-fits, short-put, long-fits, long-after, long-put}
+use Rattle.differences.proofs.InPlace.{record-fits, short-put, long-after, long-put}
 use Rattle.differences.proofs.unpacking.put_record.Statement.{statement}
 use Rattle.differences.proofs.unpacking.put_record.Tie as tie
 

@@ -3,7 +3,6 @@
 use denote.Ref.{now}
 use Prim.Native.Nat.{_-_}
 use native.Mathlib.Omega.{arith}
-use borrow.Author.Needs.{needs}
 use lib.ListN.{length}
 use Rattle.differences.specs.steps.Passes.{look}
 use Rattle.differences.proofs.InPlace.{Unpacking, unpacking-start, one-more, next-fits, unpacking-turn, unpacking-end}

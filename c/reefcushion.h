@@ -213,7 +213,7 @@ struct reefcushion_comparison {
     uint16_t file;    /* the file that a refusal 1, 2, 4 or 9 is about, 1 or 2; else 0 */
     uint16_t page;    /* the broken page of refusal 4, in that file; else 0 */
     uint16_t zeros;   /* written as 0 */
-    uint32_t read;    /* how many pages were looked at, over both files */
+    uint32_t read;    /* how many pages were looked at, over both files; 0 with refusals 1 and 2 of either */
     uint32_t length;  /* how many bytes the list took; 0 after any refusal */
     uint32_t wanted;  /* how many bytes the whole list takes: after success and after 15; else 0 */
 };
@@ -225,7 +225,8 @@ REEFCUSHION_ASSERT(sizeof(struct reefcushion_comparison) == 20, "a comparison is
 
    How much room a list takes is told by a comparison with no room, list_bytes 0: it is refused with 15, and `wanted` says
    how many bytes to lend; 20 for each record of both files and 16 more are always enough. The call works in the lent room
-   and takes no other memory. Its time goes up with the number of records, and for those that differ as that of a sort.
+   and takes no other memory. On ordinary files its time goes up with the number of records, and for those that differ as
+   that of a sort; where very many keys have one home, with the length of a search there too.
 
    100, the first file's 1, 2, 4 or 9, the second's 1, 2, 4 or 9, then 15 exactly where the room is shorter than the list.
    After any of them the room is as it was and `length` is 0. */

@@ -78,7 +78,7 @@ fn write(output: &[u8]) {
     }
 }
 
-// The list of two files, or the refusal.
+// The list of two files, or the refusal. No list is longer than the room that it was written to.
 fn tell(first: &[u8], second: &[u8], room: &mut [u8]) {
     let here = slip_of(first);
     let there = slip_of(second);

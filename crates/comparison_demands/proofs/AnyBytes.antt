@@ -1,21 +1,29 @@
 -- What a comparison of any numbers and any bytes comes to.
-use mathlib.Core.Path.{_≡_, refl}
+use mathlib.Core.Path.{_≡_, refl, sym, _∙_}
 use mathlib.Core.Bool.{Bool, true, false, cond}
 use mathlib.Core.Logic.{_↔_}
 use mathlib.Core.List.{List, _++_}
-use Prim.Native.Nat.{ℕ, _+_, _≤_, _<_}
+use Prim.Native.Nat.{ℕ, _+_, _*_, _≤_, _<_}
 use native.Mathlib.Omega.{arith}
 use borrow.Author.Tests.{leb-true, leb-false}
-use lib.Dec.{leb}
+use lib.Dec.{leb, eqb}
 use lib.ListN.{length, drop}
 use Rattle.layouts.specs.Layout.{Layout}
 use Rattle.state.specs.declared.State.{State}
+use Rattle.state.specs.declared.Answer.{Answer}
+use Rattle.state.specs.declared.Answer.the-variants.{Accepted, OutOfRange, WrongArea}
+use Rattle.state.specs.State.{inRange}
+use Rattle.state.specs.Answer.{numbers}
+use Rattle.state.proofs.Ranges.{ranged}
 use Rattle.gates.specs.declared.Gate.{Gate}
 use Rattle.gates.specs.declared.Gate.the-variants.{Open, Shut}
-use Rattle.gates.specs.Gates.{onGate, checkGate}
+use Rattle.gates.specs.Gates.{onGate, gateOf, imageGate, checkGate}
+use Rattle.gates.proofs.Gating.{shut-refuses}
+use Rattle.gates.proofs.Judging.{pages-refuse}
+use Rattle.changes.specs.Changes.{done}
 use Rattle.comparisons.specs.declared.Compared.the-variants.{Listed, Short}
 use Rattle.comparisons.specs.Compare.{Outcome, filled, contrasted, compared, comparedNumbers, refusedFile}
-use Rattle.comparison_demands.specs.ComparisonDemands.{listOf, OnAnyBytes}
+use Rattle.comparison_demands.specs.ComparisonDemands.{said, listOf, checks, Told, OnAnyBytes}
 
 abbrev refusal : Outcome → ℕ
 refusal o = comparedNumbers (o .answer) .numbers .refusal
@@ -54,6 +62,34 @@ module _ (read : ℕ) (list room : List ℕ) where
       go true = refl
       go false = refl
 
+-- the gate of a file, as a check tells it
+module _ (f : Layout) (s : State) (area : List ℕ) where
+  opened : gateOf f s (length area) ≡ Open → inRange f s ≡ true
+  unfolding gateOf
+  opened k = ranges (inRange f s) refl k
+    where
+      ranges : (u : Bool) → inRange f s ≡ u → cond u (cond (eqb (length area) (256 * s .cap)) Open (Shut WrongArea)) (Shut OutOfRange) ≡ Open → inRange f s ≡ true
+      ranges true p r = p
+      ranges false p r = absurd (let z : _≡_ {A = ℕ} 0 1 = cc in omega arith)
+
+  refuses : (why : Answer) → checkGate f s area ≡ Shut why → numbers why .refusal ≡ 0 → ⊥
+  unfolding checkGate
+  refuses why = go (gateOf f s (length area)) refl
+    where
+      go : (g : Gate) → gateOf f s (length area) ≡ g → onGate g Shut (imageGate f s area) ≡ Shut why → numbers why .refusal ≡ 0 → ⊥
+      go (Shut z) e q = shut-refuses f s (length area) why (sym (e ∙ q)) .1
+      go Open e q = pages-refuse f s area (ranged f s (opened e) .cap-high) why (sym q) .1
+
+  accepted-open : checks f s area .refusal ≡ 0 → checkGate f s area ≡ Open
+  accepted-open e = go (checkGate f s area) refl e
+    where
+      go : (g : Gate) → checkGate f s area ≡ g → numbers (onGate g (done s) (done s (Accepted 0 (s .cap) 0)) .answer) .refusal ≡ 0 → g ≡ Open
+      go Open q k = refl
+      go (Shut why) q k = absurd (refuses why q k)
+
+  shut-checks : (why : Answer) → checkGate f s area ≡ Shut why → checks f s area ≡ numbers why
+  shut-checks why q = rw q
+
 module _ (f : Layout) (s : State) (area : List ℕ) (t : State) (other room : List ℕ) where
   passed : checkGate f s area ≡ Open → checkGate f t other ≡ Open → compared f s area t other room ≡ filled (s .cap + t .cap) (listOf f s area t other) room
   unfolding compared contrasted
@@ -68,9 +104,28 @@ module _ (f : Layout) (s : State) (area : List ℕ) (t : State) (other room : Li
       go Open (Shut why) n = (refl, refl)
       go Open Open n = filled-keeps (s .cap + t .cap) (listOf f s area t other) room n
 
+  -- a file that is refused
+  first-told : (checks f s area .refusal ≡ 0 → ⊥) → Told (said f s area t other room) 1 0 (checks f s area)
+  unfolding compared
+  first-told n = go (checkGate f s area) refl
+    where
+      go : (g : Gate) → checkGate f s area ≡ g → Told (said f s area t other room) 1 0 (checks f s area)
+      go Open q = absurd (n (rw q))
+      go (Shut why) q = rw (shut-checks f s area why q, q) (record { file = refl; refusal = refl; page = refl; read = refl })
+
+  second-told : checks f s area .refusal ≡ 0 → (checks f t other .refusal ≡ 0 → ⊥) → Told (said f s area t other room) 2 (s .cap) (checks f t other)
+  unfolding compared
+  second-told e n = go (checkGate f t other) refl
+    where
+      go : (g : Gate) → checkGate f t other ≡ g → Told (said f s area t other room) 2 (s .cap) (checks f t other)
+      go Open q = absurd (n (rw q))
+      go (Shut why) q = rw (shut-checks f t other why q, accepted-open f s area e, q) (record { file = refl; refusal = refl; page = refl; read = refl })
+
   pub any-bytes : OnAnyBytes f s area t other room
   any-bytes = record {
+    first = first-told;
+    second = second-told;
     unchanged = keeps;
-    short = λ e g. rw (passed e g) (filled-short (s .cap + t .cap) (listOf f s area t other) room);
-    wanted = λ e g. rw (passed e g) (filled-wanted (s .cap + t .cap) (listOf f s area t other) room);
+    short = λ e g. rw (passed (accepted-open f s area e) (accepted-open f t other g)) (filled-short (s .cap + t .cap) (listOf f s area t other) room);
+    wanted = λ e g. rw (passed (accepted-open f s area e) (accepted-open f t other g)) (filled-wanted (s .cap + t .cap) (listOf f s area t other) room);
   }

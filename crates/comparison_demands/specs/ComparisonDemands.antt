@@ -11,15 +11,16 @@ use Rattle.placing.specs.Lay.{Sorted}
 use Rattle.placing.specs.Walks.{seek}
 use Rattle.pages.specs.Page.{Record, key}
 use Rattle.state.specs.declared.State.{State}
-use Rattle.gates.specs.declared.Gate.the-variants.{Open}
-use Rattle.gates.specs.Gates.{checkGate}
+use Rattle.state.specs.declared.Numbers.{Numbers}
+use Rattle.state.specs.Answer.{numbers}
+use Rattle.register.specs.Calls.{checked}
 use Rattle.register.specs.Files.{File}
 use Rattle.demands.specs.Histories.{Kept, recordOf, commitOf}
 use Rattle.demands.specs.Demands.{Fresh}
 use Rattle.two_sets.specs.Differences.{Difference, onlyFirst, onlySecond, unlike, turned, keyOf, differences, differAt}
 use Rattle.differences.specs.Listing.{same, fields, closing, listing}
 use Rattle.comparisons.specs.declared.ComparedNumbers.{ComparedNumbers}
-use Rattle.comparisons.specs.Compare.{heldIn, filled, compared, comparedNumbers}
+use Rattle.comparisons.specs.Compare.{heldIn, filled, compared, comparedNumbers, readOver}
 
 -- what a comparison of any numbers and any bytes says, in numbers
 abbrev pub said : Layout → State → List ℕ → State → List ℕ → (room : List ℕ) → ComparedNumbers
@@ -29,17 +30,30 @@ said f s area t other room = comparedNumbers (compared f s area t other room .an
 abbrev pub listOf : Layout → State → List ℕ → State → List ℕ → List ℕ
 listOf f s area t other = listing f (differences key same (heldIn f s area) (heldIn f t other))
 
+-- what a check of one file says, in numbers; "refusal 0 means accepted" (01)
+abbrev pub checks : Layout → State → List ℕ → Numbers
+checks f s area = numbers (checked f s area .answer)
+
+-- a refusal of a file: check's, with the broken page if there is one, and the pages read over both files
+pub record Told (n : ComparedNumbers) (which before : ℕ) (c : Numbers) : Type 0 where
+  pub file : n .file ≡ which
+  pub refusal : n .numbers .refusal ≡ c .refusal
+  pub page : n .numbers .page ≡ c .page
+  pub read : n .numbers .read ≡ readOver before (c .read)
+
 -- Of any numbers and any bytes
 pub record OnAnyBytes (f : Layout) (s : State) (area : List ℕ) (t : State) (other room : List ℕ) : Type 0 where
+  -- "each file's 1, 2, 4 and 9 as check gives them, the first file's before the second's"
+  pub first : (checks f s area .refusal ≡ 0 → ⊥) → Told (said f s area t other room) 1 0 (checks f s area)
+  pub second : checks f s area .refusal ≡ 0 → (checks f t other .refusal ≡ 0 → ⊥) → Told (said f s area t other room) 2 (s .cap) (checks f t other)
   -- "after any of them the room is unchanged and the length is 0"
   pub unchanged : (said f s area t other room .numbers .refusal ≡ 0 → ⊥) → (compared f s area t other room .room ≡ room) × (said f s area t other room .taken ≡ 0)
-  -- "15 exactly when the room is shorter than the whole list", of files that pass their checks; and no
-  -- other refusal then
-  pub short : checkGate f s area ≡ Open → checkGate f t other ≡ Open
+  -- "then 15 exactly when the room is shorter than the whole list", and no other refusal then
+  pub short : checks f s area .refusal ≡ 0 → checks f t other .refusal ≡ 0
       → ((said f s area t other room .numbers .refusal ≡ 15) ↔ (length room < length (listOf f s area t other)))
       × ((said f s area t other room .numbers .refusal ≡ 0) ↔ (length (listOf f s area t other) ≤ length room))
   -- then how many bytes are wanted is told, whether or not they are there
-  pub wanted : checkGate f s area ≡ Open → checkGate f t other ≡ Open → said f s area t other room .wanted ≡ length (listOf f s area t other)
+  pub wanted : checks f s area .refusal ≡ 0 → checks f t other .refusal ≡ 0 → said f s area t other room .wanted ≡ length (listOf f s area t other)
 
 -- two files of one page layout, each after a fresh history, with what they keep: parameters, lent sizes,
 -- pages grown to and editions may be any
@@ -54,8 +68,8 @@ differing a b = differences key same (a .held) (b .held)
 
 -- Of such files
 pub record Lists (a b : Kept) (f g : File) : Type 0 where
-  -- a comparison lists what differs between "the records that the accepted puts and removals leave", and
-  -- is refused for room alone
+  -- a comparison lists what differs between the records that accepted puts and removals leave, and is
+  -- refused for room alone
   pub lists : (room : List ℕ) → compared (a .layout) (f .state) (f .area) (g .state) (g .area) room ≡ filled (a .cap + b .cap) (listing (a .layout) (differing a b)) room
   -- "exactly the differences": of every request, what the list says of it
   pub says : (k : ℕ) → seek (keyOf key) k (differing a b) ≡ differAt key same (recordOf k (a .held)) (recordOf k (b .held))

@@ -12,11 +12,10 @@ use Rattle.numbers.specs.Little.{written}
 use Rattle.numbers.specs.Fields.{encode}
 use Rattle.numbers.proofs.Records.{length-encode}
 use Rattle.layouts.specs.Layout.{inUse}
-use Rattle.placing.specs.Image.{All, cat}
+use Rattle.placing.specs.Image.{All}
 use Rattle.placing.specs.Lay.{count, sort}
 use Rattle.placing.proofs.Perms.{perm-all, perm-length, perm-count, sort-perm}
 use Rattle.pages.specs.Page.{Record, key}
-use Rattle.pages.specs.Area.{heldFrom}
 use Rattle.entries.specs.declared.Entry.{Entry}
 use Rattle.entries.specs.steps.Entries.{size, rank}
 use Rattle.state.specs.declared.State.{State}
@@ -105,10 +104,11 @@ module _ (s : State) (area : List ℕ) (t : State) (other : List ℕ) (k : Known
   told = both-told in-second xs ys (k .small) (m .small) (tells in-second ys xs (m .looks) (k .small))
 
   abbrev bothEntries : List Entry
-  bothEntries = entriesOfBoth (siteOf s) area xs (siteOf t) other ys
+  bothEntries = entriesOfBoth (siteOf s) area (siteOf t) other
 
   -- the entries are those of the differences
   entries : bothEntries ≡ map entryOf raw
+  unfolding heldIn
   entries =
       let in-first : ℕ → Option Record = look (siteOf s) area in
       let a = pass-firsts in-second xs ys (tells in-second ys xs (m .looks) (k .small)) in
@@ -141,13 +141,12 @@ module _ (s : State) (area : List ℕ) (t : State) (other : List ℕ) (k : Known
   -- the same of what the code has of the two files
   module _ (here there : Site) (e : here ≡ siteOf s) (f : there ≡ siteOf t) where
     abbrev written-entries : List Entry
-    written-entries = entriesOfBoth here area (cat (heldFrom inUse area (here .cap) 0) []) there other (cat (heldFrom inUse other (there .cap) 0) [])
+    written-entries = entriesOfBoth here area there other
 
     pub walks-both : Walkable area here × Walkable other there
     walks-both = (rw e (k .walks), rw f (m .walks))
 
     same-entries : written-entries ≡ bothEntries
-    unfolding heldIn
     same-entries = rw (e, f)
 
     pub sorted-written : unpacked (look there other) (sort rank written-entries) ≡ recordBytes inUse (differences key same xs ys)

@@ -9,7 +9,7 @@ use Rattle.state.specs.Answer.{numbers}
 use Rattle.gates.specs.declared.Gate.{Gate}
 use Rattle.gates.specs.declared.Gate.the-variants.{Open, Shut}
 use Rattle.gates.specs.Gates.{checkGate}
-use Rattle.gates.specs.steps.Past.{Whole}
+use Rattle.gates.specs.steps.Past.{Refuses, Whole}
 use Rattle.comparisons.specs.declared.Compared.{Compared}
 use Rattle.comparisons.specs.declared.Compared.the-variants.{Refused}
 use Rattle.comparisons.specs.Compare.{Outcome, contrasted, compared, readOver}
@@ -28,7 +28,7 @@ Comes r room o = (r ≡ o .answer) × (room ≡ o .room)
 
 -- a refusal at the gate has read no more than all pages
 pub gate-few : (s : State) (area : List ℕ) (g : Gate) → Whole inUse s area g → (why : Answer) → g ≡ Shut why → numbers why .read ≤ 4096
-gate-few s area g w why e = rw e at w
+gate-few s area g w why e = let r : Refuses why = rw e at w in r .0
 
 module _ (s : State) (area : List ℕ) (t : State) (other room : List ℕ) (g : Gate) (e : g ≡ checkGate inUse s area) where
   pub first-shut : (why : Answer) → g ≡ Shut why → (r : Compared) → r ≡ Refused 1 why (readOver 0 (numbers why .read)) → Comes r room (compared inUse s area t other room)

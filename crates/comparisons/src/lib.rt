@@ -11,14 +11,11 @@ use state::Numbers;
 use state::State;
 ghost use mathlib.Core.Path.{_≡_};
 ghost use mathlib.Core.Bool.{true};
-ghost use mathlib.Core.List.{[]};
 ghost use Prim.Native.Nat.{_+_, _≤_};
 ghost use lib.ListN.{length};
 ghost use Rattle.layouts.specs.Layout.{inUse};
-ghost use Rattle.placing.specs.Image.{cat};
 ghost use Rattle.placing.specs.Lay.{sort};
 ghost use Rattle.pages.specs.Page.{key};
-ghost use Rattle.pages.specs.Area.{heldFrom};
 ghost use Rattle.entries.specs.steps.Entries.{rank};
 ghost use Rattle.state.specs.State.{inRange};
 ghost use Rattle.state.specs.Answer as answers;
@@ -96,8 +93,8 @@ fn count_all(first: State, area: &[u8], second: State, other: &[u8]) -> Counts
 // sorted by key, and unpacked. Where nothing differs there is no second look at the files.
 fn write_list(row: &mut [u8], base: usize, area: &[u8], here: Site, other: &[u8], there: Site)
     requires { ⌜ Walkable (now area) here × Walkable (now other) there × (base ≤ 1000000) ⌝ }
-    requires { ⌜ Sortable (now row) base (entriesOfBoth here (now area) (cat (heldFrom inUse (now area) (here .cap) 0) []) there (now other) (cat (heldFrom inUse (now other) (there .cap) 0) [])) ⌝ }
-    ensures { λ _. ⌜ now (row .exit) ≡ unpacked (look there (now (other .entry))) (sort rank (entriesOfBoth here (now (area .entry)) (cat (heldFrom inUse (now (area .entry)) (here .cap) 0) []) there (now (other .entry)) (cat (heldFrom inUse (now (other .entry)) (there .cap) 0) []))) ⌝ }
+    requires { ⌜ Sortable (now row) base (entriesOfBoth here (now area) there (now other)) ⌝ }
+    ensures { λ _. ⌜ now (row .exit) ≡ unpacked (look there (now (other .entry))) (sort rank (entriesOfBoth here (now (area .entry)) there (now (other .entry)))) ⌝ }
 {
     if row.len() == 0 {
         return;

@@ -2,7 +2,7 @@
 use mathlib.Core.Path.{_≡_, sym, ap}
 use mathlib.Core.Bool.{Bool, true, false, cond}
 use mathlib.Core.List.{List}
-use Prim.Native.Nat.{ℕ, _*_, _≤_, _<_}
+use Prim.Native.Nat.{ℕ, _*_, _<_}
 use native.Mathlib.Omega.{arith}
 use lib.Dec.{eqb}
 use lib.ListN.{length}
@@ -13,14 +13,13 @@ use Rattle.state.specs.declared.State.{State}
 use Rattle.state.specs.declared.Answer.{Answer}
 use Rattle.state.specs.declared.Answer.the-variants.{OutOfRange, WrongArea, WrongRow, AtCap, AtStart}
 use Rattle.state.specs.State.{inRange}
-use Rattle.state.specs.Answer.{numbers}
 use Rattle.state.specs.Promises.{Ranged}
 use Rattle.state.proofs.Ranges.{ranged}
 use Rattle.gates.specs.declared.Gate.{Gate}
 use Rattle.gates.specs.declared.Gate.the-variants.{Open, Shut}
 use Rattle.gates.specs.Gates.{gateOf, imageGate, checkGate, growEntry, growGate, shrinkEntry, shrinkGate}
-use Rattle.gates.proofs.Judging.{pages-few}
-use Rattle.gates.specs.steps.Past.{OpenFor, OpenImage, Whole, EnteredToGrow, EnteredToShrink}
+use Rattle.gates.proofs.Judging.{pages-refuse}
+use Rattle.gates.specs.steps.Past.{OpenFor, OpenImage, Refuses, Whole, EnteredToGrow, EnteredToShrink}
 
 module _ (form : Layout) (s : State) (n : ℕ) where
   -- a number out of range
@@ -54,18 +53,18 @@ module _ (form : Layout) (s : State) (area : List ℕ) (g : Gate) (gate : g ≡ 
   check-pages e i k = rw (k, ← gate, e)
 
 -- and what is known past it, or of its refusal
-pub shut-few : (form : Layout) (s : State) (n : ℕ) (why : Answer) → Shut why ≡ gateOf form s n → numbers why .read ≤ 4096
+pub shut-refuses : (form : Layout) (s : State) (n : ℕ) (why : Answer) → Shut why ≡ gateOf form s n → Refuses why
 unfolding gateOf
-shut-few form s n why e = go (inRange form s) (eqb n (256 * s .cap)) e
+shut-refuses form s n why e = go (inRange form s) (eqb n (256 * s .cap)) e
   where
-    go : (u v : Bool) → Shut why ≡ cond u (cond v Open (Shut WrongArea)) (Shut OutOfRange) → numbers why .read ≤ 4096
+    go : (u v : Bool) → Shut why ≡ cond u (cond v Open (Shut WrongArea)) (Shut OutOfRange) → Refuses why
     go true true q = absurd (let z : _≡_ {A = ℕ} 1 0 = cc in omega arith)
-    go true false q = let z : why ≡ WrongArea = cc in rw z (omega arith)
-    go false v q = let z : why ≡ OutOfRange = cc in rw z (omega arith)
+    go true false q = let z : why ≡ WrongArea = cc in rw z (omega arith, λ p. omega arith)
+    go false v q = let z : why ≡ OutOfRange = cc in rw z (omega arith, λ p. omega arith)
 
 pub whole : (form : Layout) (s : State) (area : List ℕ) → inRange form s ≡ true → length area ≡ 256 * s .cap → (i : Gate) → i ≡ imageGate form s area → Whole form s area i
 whole form s area r l Open k = (r, l, sym k)
-whole form s area r l (Shut why) k = pages-few form s area (ranged form s r .cap-high) why k
+whole form s area r l (Shut why) k = pages-refuse form s area (ranged form s r .cap-high) why k
 
 pub past-check : (form : Layout) (s : State) (area : List ℕ) (g : Gate) → Whole form s area g → g ≡ Open → OpenImage form s area
 past-check form s area g k e = rw e at k

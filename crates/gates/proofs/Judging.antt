@@ -32,10 +32,10 @@ use Rattle.state.specs.declared.State.{State}
 use Rattle.state.specs.declared.Answer.{Answer}
 use Rattle.state.specs.declared.Answer.the-variants.{Broken, NotImage}
 use Rattle.state.specs.State.{homes}
-use Rattle.state.specs.Answer.{numbers}
 use Rattle.gates.specs.declared.Gate.{Gate}
 use Rattle.gates.specs.declared.Gate.the-variants.{Open, Shut}
 use Rattle.gates.specs.Gates.{imageOf, imageGate}
+use Rattle.gates.specs.steps.Past.{Refuses}
 
 -- the lowest broken page is one of those looked at
 lowest-below : (a b : ℕ) (ps : List (Option (List Record))) → lowestBroken a ps ≡ some b → b < a + length ps
@@ -57,17 +57,17 @@ sick-below form h area cap v a t e = go (lowestBroken 0 (pagesFrom form h area c
         let w : b ≡ a = cc in
         omega (arith, lowest-below 0 b (pagesFrom form h area cap 0) q, pages-length form h area cap 0)
 
--- and the pages refuse no more than they are
-pub pages-few : (form : Layout) (s : State) (area : List ℕ) → s .cap ≤ 4096 → (why : Answer) → Shut why ≡ imageGate form s area → numbers why .read ≤ 4096
+-- and what the pages refuse is refused after no more than all of them
+pub pages-refuse : (form : Layout) (s : State) (area : List ℕ) → s .cap ≤ 4096 → (why : Answer) → Shut why ≡ imageGate form s area → Refuses why
 unfolding imageGate
-pages-few form s area c why e = go (surveyed form (homes s) area (s .cap)) refl e
+pages-refuse form s area c why e = go (surveyed form (homes s) area (s .cap)) refl e
   where
-    tests : (u : Bool) → Shut why ≡ cond u Open (Shut (NotImage (s .cap))) → numbers why .read ≤ 4096
+    tests : (u : Bool) → Shut why ≡ cond u Open (Shut (NotImage (s .cap))) → Refuses why
     tests true q = absurd (let z : _≡_ {A = ℕ} 1 0 = cc in omega arith)
-    tests false q = let z : why ≡ NotImage (s .cap) = cc in rw z c
+    tests false q = let z : why ≡ NotImage (s .cap) = cc in rw z (c, λ p. omega arith)
 
-    go : (v : Verdict) → v ≡ surveyed form (homes s) area (s .cap) → Shut why ≡ imageOf s v → numbers why .read ≤ 4096
-    go (verdicts.Broken a) t q = let z : why ≡ Broken a (suc a) = cc in rw z (omega (arith, sick-below form (homes s) area (s .cap) (verdicts.Broken a) a t refl))
+    go : (v : Verdict) → v ≡ surveyed form (homes s) area (s .cap) → Shut why ≡ imageOf s v → Refuses why
+    go (verdicts.Broken a) t q = let z : why ≡ Broken a (suc a) = cc in rw z (omega (arith, sick-below form (homes s) area (s .cap) (verdicts.Broken a) a t refl), λ p. omega arith)
     go (Whole image records) t q = tests (image && eqb records (s .r)) q
 
 module _ (s : State) (v : Verdict) where

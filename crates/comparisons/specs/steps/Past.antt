@@ -2,12 +2,14 @@
 use Prim.Native.Nat.{ℕ, _+_, _*_}
 use mathlib.Core.Path.{_≡_}
 use mathlib.Core.Bool.{true, false}
-use mathlib.Core.List.{List, _++_, map}
+use mathlib.Core.List.{List, [], _++_, map}
 use lib.ListN.{length}
+use Rattle.layouts.specs.Layout.{inUse}
 use Rattle.homes.specs.Homes.{shapeOf}
-use Rattle.placing.specs.Image.{All, Distinct}
+use Rattle.placing.specs.Image.{All, Distinct, cat}
 use Rattle.placing.specs.Lay.{count}
 use Rattle.pages.specs.Page.{Record}
+use Rattle.pages.specs.Area.{heldFrom}
 use Rattle.entries.specs.declared.Entry.{Entry}
 use Rattle.entries.specs.steps.Entries.{size, rank}
 use Rattle.entries.proofs.Entries.{SizedEntry}
@@ -22,9 +24,13 @@ use Rattle.comparisons.specs.declared.Counts.{Counts}
 abbrev pub siteOf : State → Site
 siteOf s = record { cap = s .cap; shape = shapeOf (s .params) (s .p) }
 
--- the entries of what two passes meet, over the records xs of one area and ys of another
-abbrev pub entriesOfBoth : (here : Site) (area : List ℕ) (xs : List Record) (there : Site) (other : List ℕ) (ys : List Record) → List Entry
-entriesOfBoth here area xs there other ys = map entryOf (ofAll true (look there other) xs) ++ map entryOf (ofAll false (look here area) ys)
+-- the records on the pages of an area
+abbrev pub onPages : Site → List ℕ → List Record
+onPages site area = cat (heldFrom inUse area (site .cap) 0) []
+
+-- the entries of what a pass over each of two areas meets
+abbrev pub entriesOfBoth : (here : Site) (area : List ℕ) (there : Site) (other : List ℕ) → List Entry
+entriesOfBoth here area there other = map entryOf (ofAll true (look there other) (onPages here area)) ++ map entryOf (ofAll false (look here area) (onPages there other))
 
 -- a row that these entries fill from `base` on, with as much free before them as they grow
 pub record Sortable (row : List ℕ) (base : ℕ) (es : List Entry) : Type 0 where

@@ -2,7 +2,7 @@
 use denote.Ref.{now}
 use mathlib.Core.Path.{sym, _∙_}
 use borrow.Author.Needs.{needs}
-use Rattle.gates.proofs.Gating.{past, shut-few, check-shut, check-pages, whole}
+use Rattle.gates.proofs.Gating.{past, shut-refuses, check-shut, check-pages, whole}
 use Rattle.gates.proofs.check_gate.Statement.{statement}
 use Rattle.gates.proofs.check_gate.Tie as tie
 
@@ -13,7 +13,7 @@ returns : tie.Need-returns
 returns c =
     let e = c .before .before .before in
     let a = e .before .before .args in
-    (check-shut (a .layout) (a .state) (now (a .area)) _ (e .enter .ensures .0) _ (c .before .gate .given .1), shut-few (a .layout) (a .state) _ _ (sym (c .before .gate .given .1) ∙ e .enter .ensures .0))
+    (check-shut (a .layout) (a .state) (now (a .area)) _ (e .enter .ensures .0) _ (c .before .gate .given .1), shut-refuses (a .layout) (a .state) _ _ (sym (c .before .gate .given .1) ∙ e .enter .ensures .0))
 
 returns-2 : tie.Need-returns-2
 returns-2 c =

@@ -8,6 +8,7 @@ use Rattle.layouts.specs.Layout.{Layout}
 use Rattle.homes.specs.Homes.{firstPages}
 use Rattle.state.specs.declared.State.{State}
 use Rattle.state.specs.State.{inRange}
+use Rattle.state.specs.declared.Answer.{Answer}
 use Rattle.state.specs.Answer.{numbers}
 use Rattle.gates.specs.declared.Gate.{Gate}
 use Rattle.gates.specs.declared.Gate.the-variants.{Open, Shut}
@@ -22,10 +23,14 @@ OpenFor f s n (Shut why) = Unit {0}
 abbrev pub OpenImage : Layout → State → List ℕ → Type 0
 OpenImage f s area = (inRange f s ≡ true) × (length area ≡ 256 * s .cap) × (imageGate f s area ≡ Open)
 
--- which is what is known past the gate of a check; a refusal there has read no more than all pages
+-- an answer that refuses, after no more than all pages
+abbrev pub Refuses : Answer → Type 0
+Refuses why = (numbers why .read ≤ 4096) × (numbers why .refusal ≡ 0 → ⊥)
+
+-- what is known past the gate of a check, or of its refusal
 abbrev pub Whole : Layout → State → List ℕ → Gate → Type 0
 Whole f s area Open = OpenImage f s area
-Whole f s area (Shut why) = numbers why .read ≤ 4096
+Whole f s area (Shut why) = Refuses why
 
 -- what is known past the entry of a growth, before its image is judged
 abbrev pub EnteredToGrow : Layout → State → (m n : ℕ) → Gate → Type 0

@@ -11,8 +11,7 @@ use Rattle.comparisons.proofs.compare.Tie as tie
 refuse-requires : tie.Need-refuse-requires
 refuse-requires c κs =
     let g = c .before .before .before in
-    let a = g .before .before .before .before .args in
-    (omega arith, gate-few (a .first) (now (a .area)) _ (g .check-gate .ensures .1) _ (c .before .gate .given .1))
+    (omega arith, gate-few _ _ _ (g .check-gate .ensures .1) _ (c .before .gate .given .1))
 
 refuse-requires-2 : tie.Need-refuse-requires-2
 refuse-requires-2 c κs =
@@ -20,8 +19,7 @@ refuse-requires-2 c κs =
     let h = t .before .before in
     let g = h .before .before .before in
     let s = g .before .before .before .before in
-    let a = s .args in
-    (omega (arith, s .good), gate-few (a .second) (now (a .other)) _ (h .check-gate2 .ensures .1) _ (t .gate2 .given .1))
+    (omega (arith, s .good), gate-few _ _ _ (h .check-gate2 .ensures .1) _ (t .gate2 .given .1))
 
 contrast-requires : tie.Need-contrast-requires
 contrast-requires c κs =
@@ -30,7 +28,7 @@ contrast-requires c κs =
     let o = h .before in
     let g = o .before .before in
     let a = g .before .before .before .before .args in
-    (past-check inUse (a .first) (now (a .area)) _ (g .check-gate .ensures .1) (o .enum-told .given .1), past-check inUse (a .second) (now (a .other)) _ (h .check-gate2 .ensures .1) (t .enum-told2 .given .1))
+    (past-check inUse (a .first) (now (a .area)) (g .check-gate .result) (g .check-gate .ensures .1) (o .enum-told .given .1), past-check inUse (a .second) (now (a .other)) (h .check-gate2 .result) (h .check-gate2 .ensures .1) (t .enum-told2 .given .1))
 
 returns : tie.Need-returns
 returns c =

@@ -47,13 +47,15 @@ struct reefcushion_slip {
     uint16_t edition_less_1; /* the file's edition, 1 or 2, less 1 */
     uint32_t records;        /* r, records held, at most 12 x cap */
     /* the answer */
-    uint64_t value;   /* the commit that is held: of an accepted find, and of refusals 6 and 13; else 0 */
+    uint64_t value;   /* the commit that is held: of an accepted find, and of refusals 6 and 13; of a merge's refusal 13, the
+                         lowest clashing key; else 0 */
     uint32_t read;    /* how many pages were looked at */
     uint32_t moved;   /* put, remove: how often a held record went to a neighbouring page; grow, shrink: records whose
                          page differs; else 0 */
     uint16_t refusal; /* the number that the call returned */
     uint16_t page;    /* the broken page of refusal 4; else 0 */
-    uint32_t zeros;   /* written as 0 */
+    uint16_t file;    /* of a merge: the file that a refusal 1, 2, 3, 4 or 9 is about, 1 or 2; else 0 */
+    uint16_t zeros;   /* written as 0 */
 };
 
 REEFCUSHION_ASSERT(sizeof(struct reefcushion_slip) == 40, "a slip is 40 bytes");
@@ -79,11 +81,13 @@ enum reefcushion_refusal {
     REEFCUSHION_BROKEN = 4,       /* a page that was looked at is broken; its address is in `page` */
     REEFCUSHION_ABSENT = 5,       /* the key isn't held */
     REEFCUSHION_HELD = 6,         /* a repeat: the key is held already, with the value offered; it is in `value` too */
-    REEFCUSHION_NO_ROOM = 7,      /* put, grow: no room on the lent pages, each record at its home page or a higher one */
+    REEFCUSHION_NO_ROOM = 7,      /* put, grow, merge: no room on the lent pages, each record at its home page or a higher
+                                     one */
     REEFCUSHION_AT_CAP = 8,       /* all lent pages are grown to */
     REEFCUSHION_NOT_IMAGE = 9,    /* the count, or the order of the records on the pages, is wrong */
     REEFCUSHION_NOT_PUTS = 10,    /* a run's bytes aren't whole put records, each with the right length and kind */
-    REEFCUSHION_CLASH = 13,       /* a clash: the key is held with another value, which is in `value` */
+    REEFCUSHION_CLASH = 13,       /* a clash: the key is held with another value, which is in `value`; merge: both files hold
+                                     a key with two values, and the lowest such key is in `value` */
     REEFCUSHION_AT_START = 14,    /* the file has the pages that it started with, n0 x N */
     REEFCUSHION_WRONG_ROOM = 15,  /* the room for a run's replies isn't 28 bytes a record; the room for a comparison's list
                                      is shorter than the list */
@@ -235,6 +239,25 @@ uint32_t reefcushion_compare(const void *slip, size_t slip_bytes, const void *ar
                              size_t other_area_bytes, void *list, size_t list_bytes, void *comparison,
                              size_t comparison_bytes);
 
+/* The other file's records into the living one, which `slip` and `area` are: it ends as the one image of both record sets
+   with its own parameters, edition, P and cap. A record that both hold with one value counts once. Each file is checked
+   first; they may have other parameters, sizes and editions. The other file is never written, nor its slip.
+
+   The row is room for cap counts of the living file, as for grow, whatever stands in it: it is untouched by every refusal
+   but 7, and after success or 7 it holds, page by page, how many records of both files together have their home there. An
+   empty other file changes no page. `records` grew by as many as were added; the other file's records beyond those were
+   held already.
+
+   The records are laid anew in the living area, which takes no other memory and, in every case, some r log r steps for r
+   records of both files: putting them one by one comes to the same bytes.
+
+   100, the living file's 1 and 2, the row's 3, the living file's 4 and 9, the other's 1, 2, 4 and 9, then 13 where both hold
+   a key with two values, then 7. `file` says which file a refusal 1, 2, 3, 4 or 9 is about; `read` counts the pages of
+   both, and is 0 with 1, 2 and 3 of either. */
+uint32_t reefcushion_merge(void *slip, size_t slip_bytes, void *area, size_t area_bytes, const void *other_slip,
+                           size_t other_slip_bytes, const void *other_area, size_t other_area_bytes, uint32_t *row,
+                           size_t row_counts);
+
 /* 1 where growth is due (5 x records > 48 x pages), else 0; 0 too where slip_bytes isn't 40 or a number of the state is out
    of range. It leaves the slip as it is. */
 uint32_t reefcushion_due(const void *slip, size_t slip_bytes);
@@ -250,7 +273,7 @@ uint32_t reefcushion_due(const void *slip, size_t slip_bytes);
    pub struct Slip {
        pub n0: u16, pub groups: u16, pub sweeps: u16, pub pages: u16, pub cap: u16,
        pub edition_less_1: u16, pub records: u32,
-       pub value: u64, pub read: u32, pub moved: u32, pub refusal: u16, pub page: u16, pub zeros: u32,
+       pub value: u64, pub read: u32, pub moved: u32, pub refusal: u16, pub page: u16, pub file: u16, pub zeros: u16,
    }
 
    #[repr(C)]
@@ -277,6 +300,9 @@ uint32_t reefcushion_due(const void *slip, size_t slip_bytes);
                               other_slip: *const Slip, other_slip_bytes: usize, other_area: *const u8,
                               other_area_bytes: usize, list: *mut u8, list_bytes: usize,
                               comparison: *mut Comparison, comparison_bytes: usize) -> u32;
+       fn reefcushion_merge(slip: *mut Slip, slip_bytes: usize, area: *mut u8, area_bytes: usize,
+                            other_slip: *const Slip, other_slip_bytes: usize, other_area: *const u8,
+                            other_area_bytes: usize, row: *mut u32, row_counts: usize) -> u32;
        fn reefcushion_due(slip: *const Slip, slip_bytes: usize) -> u32;
    } */
 

@@ -24,12 +24,13 @@ use Rattle.demands.specs.Histories.{Kept, stateOf, recordOf, commitOf}
 use Rattle.demands.proofs.Sets.{record-found, commit-found, same-records}
 use Rattle.demands.proofs.Standing.{Stands, fileOf}
 use Rattle.demands.proofs.Demands.{stands}
+use Rattle.sites.specs.Held.{same, heldIn}
 use Rattle.two_sets.specs.Differences.{unlike, keyOf, differences, differAt}
 use Rattle.two_sets.specs.Promises.{SetsPromises}
 use Rattle.two_sets.proofs.Promises.{two-sets-promises}
 use Rattle.two_sets.proofs.Counting.{balance}
-use Rattle.differences.specs.Listing.{same, listing}
-use Rattle.comparisons.specs.Compare.{heldIn, filled, contrasted, compared}
+use Rattle.differences.specs.Listing.{listing}
+use Rattle.comparisons.specs.Compare.{filled, contrasted, compared}
 use Rattle.comparisons.proofs.Contrasting.{list-length}
 use Rattle.comparison_demands.specs.ComparisonDemands.{TwoFresh, differing, Lists}
 

@@ -17,10 +17,11 @@ use Rattle.register.specs.Calls.{checked}
 use Rattle.register.specs.Files.{File}
 use Rattle.demands.specs.Histories.{Kept, recordOf, commitOf}
 use Rattle.demands.specs.Demands.{Fresh}
+use Rattle.sites.specs.Held.{same, heldIn, readOver}
 use Rattle.two_sets.specs.Differences.{Difference, onlyFirst, onlySecond, unlike, turned, keyOf, differences, differAt}
-use Rattle.differences.specs.Listing.{same, fields, closing, listing}
+use Rattle.differences.specs.Listing.{fields, closing, listing}
 use Rattle.comparisons.specs.declared.ComparedNumbers.{ComparedNumbers}
-use Rattle.comparisons.specs.Compare.{heldIn, filled, compared, comparedNumbers, readOver}
+use Rattle.comparisons.specs.Compare.{filled, compared, comparedNumbers}
 
 -- what a comparison of any numbers and any bytes says, in numbers
 abbrev pub said : Layout → State → List ℕ → State → List ℕ → (room : List ℕ) → ComparedNumbers

@@ -19,19 +19,21 @@ use Rattle.pages.specs.Page.{Record, key}
 use Rattle.entries.specs.declared.Entry.{Entry}
 use Rattle.entries.specs.steps.Entries.{size, rank}
 use Rattle.state.specs.declared.State.{State}
+use Rattle.sites.specs.declared.Site.{Site}
+use Rattle.sites.specs.Held.{same, heldIn}
+use Rattle.sites.specs.steps.Sites.{Walkable, look, siteOf}
+use Rattle.sites.proofs.Known.{Known}
 use Rattle.two_sets.specs.Differences.{onlyFirst, onlySecond, unlike, isOnlyFirst, isOnlySecond, isUnlike, keyOf, firsts, seconds, differences}
 use Rattle.two_sets.proofs.Differences.{each-once}
 use Rattle.two_sets.proofs.Counting.{kinds}
-use Rattle.differences.specs.Listing.{same, fields, closing, recordBytes, listing}
-use Rattle.differences.specs.declared.Site.{Site}
-use Rattle.differences.specs.steps.Passes.{D, Walkable, look, entryOf}
+use Rattle.differences.specs.Listing.{fields, closing, recordBytes, listing}
+use Rattle.differences.specs.steps.Passes.{D, entryOf}
 use Rattle.differences.specs.steps.Unpacked.{more, unpacked}
 use Rattle.differences.proofs.Meaning.{tells, pass-firsts, pass-seconds, Told, both-told, all-sized, sort-entries, once-entries, records-entries, wide-entries}
 use Rattle.comparisons.specs.declared.Compared.the-variants.{Listed, Short}
 use Rattle.comparisons.specs.declared.Counts.{Counts}
-use Rattle.comparisons.specs.Compare.{heldIn, filled}
-use Rattle.comparisons.specs.steps.Past.{siteOf, entriesOfBoth, Sortable, countsOf}
-use Rattle.comparisons.proofs.Known.{Known}
+use Rattle.comparisons.specs.Compare.{filled}
+use Rattle.comparisons.specs.steps.Past.{entriesOfBoth, Sortable, countsOf}
 
 -- a record of the list is as long as a slot, and one of two values longer by the second
 length-records : (ds : List D) → length (recordBytes inUse ds) ≡ size * length ds + more * count isUnlike ds

@@ -13,17 +13,17 @@ use Rattle.placing.specs.Walks.{seek}
 use Rattle.pages.specs.Page.{Record, key, value}
 use Rattle.pages.specs.Area.{heldFrom}
 use Rattle.state.specs.declared.State.{State}
+use Rattle.sites.specs.declared.Site.{Site}
+use Rattle.sites.specs.Held.{same, heldIn}
+use Rattle.sites.specs.steps.Sites.{look, siteOf}
+use Rattle.sites.proofs.Known.{Known}
 use Rattle.two_sets.specs.Differences.{isOnlyFirst, isOnlySecond, isUnlike, unlike, ofFirst, firsts, differences}
 use Rattle.two_sets.proofs.Counting.{count-append, Balance, balance}
-use Rattle.differences.specs.declared.Site.{Site}
 use Rattle.differences.specs.declared.Tally.{Tally}
-use Rattle.differences.specs.Listing.{same}
-use Rattle.differences.specs.steps.Passes.{D, look, ofAll, isOnly, tallied, Passes}
+use Rattle.differences.specs.steps.Passes.{D, ofAll, isOnly, tallied, Passes}
 use Rattle.differences.proofs.Meaning.{tells, pass-firsts}
 use Rattle.comparisons.specs.declared.Counts.{Counts}
-use Rattle.comparisons.specs.Compare.{heldIn}
-use Rattle.comparisons.specs.steps.Past.{siteOf, countsOf}
-use Rattle.comparisons.proofs.Known.{Known}
+use Rattle.comparisons.specs.steps.Past.{countsOf}
 
 -- what the first file's pass meets of one file is of the first
 only-first : (x : Record) (o : Option Record) → count isOnly (ofFirst key same x o) ≡ count isOnlyFirst (ofFirst key same x o)

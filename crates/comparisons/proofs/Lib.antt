@@ -1,4 +1,3 @@
-pub mod Known
 pub mod Counting
 pub mod Writing
 pub mod Contrasting

@@ -1,7 +1,7 @@
 -- The ways out of a comparison.
 use mathlib.Core.Path.{_≡_, refl}
 use mathlib.Core.List.{List}
-use Prim.Native.Nat.{ℕ, zero, suc, _+_, _≤_}
+use Prim.Native.Nat.{ℕ}
 use Rattle.layouts.specs.Layout.{inUse}
 use Rattle.state.specs.declared.State.{State}
 use Rattle.state.specs.declared.Answer.{Answer}
@@ -9,26 +9,14 @@ use Rattle.state.specs.Answer.{numbers}
 use Rattle.gates.specs.declared.Gate.{Gate}
 use Rattle.gates.specs.declared.Gate.the-variants.{Open, Shut}
 use Rattle.gates.specs.Gates.{checkGate}
-use Rattle.gates.specs.steps.Past.{Refuses, Whole}
+use Rattle.sites.specs.Held.{readOver}
 use Rattle.comparisons.specs.declared.Compared.{Compared}
 use Rattle.comparisons.specs.declared.Compared.the-variants.{Refused}
-use Rattle.comparisons.specs.Compare.{Outcome, contrasted, compared, readOver}
-
--- a refusal that read no page, and one that did
-pub over-none : (before own : ℕ) → own ≡ 0 → 0 ≡ readOver before own
-over-none before own e = rw e
-
-pub over-some : (before own : ℕ) → (own ≡ 0 → ⊥) → before + own ≡ readOver before own
-over-some before zero e = absurd (e refl)
-over-some before (suc n) e = refl
+use Rattle.comparisons.specs.Compare.{Outcome, contrasted, compared}
 
 -- an answer and a room are those of an outcome
 abbrev pub Comes : Compared → List ℕ → Outcome → Type 0
 Comes r room o = (r ≡ o .answer) × (room ≡ o .room)
-
--- a refusal at the gate has read no more than all pages
-pub gate-few : (s : State) (area : List ℕ) (g : Gate) → Whole inUse s area g → (why : Answer) → g ≡ Shut why → numbers why .read ≤ 4096
-gate-few s area g w why e = let r : Refuses why = rw e at w in r .0
 
 module _ (s : State) (area : List ℕ) (t : State) (other room : List ℕ) (g : Gate) (e : g ≡ checkGate inUse s area) where
   pub first-shut : (why : Answer) → g ≡ Shut why → (r : Compared) → r ≡ Refused 1 why (readOver 0 (numbers why .read)) → Comes r room (compared inUse s area t other room)

@@ -1,27 +1,22 @@
 -- The comparison of two files (02, request 6), for any page layout, any numbers and any bytes. What is
 -- quoted is the request's, or 01's where that is said.
-use Prim.Native.Nat.{ℕ, zero, suc, _+_}
+use Prim.Native.Nat.{ℕ, _+_}
 use mathlib.Core.Bool.{cond}
-use mathlib.Core.List.{List, [], _++_}
+use mathlib.Core.List.{List, _++_}
 use lib.ListN.{length, drop}
 use lib.Dec.{leb}
 use Rattle.layouts.specs.Layout.{Layout}
-use Rattle.placing.specs.Image.{cat}
-use Rattle.pages.specs.Page.{Record, key}
-use Rattle.pages.specs.Area.{heldFrom}
+use Rattle.pages.specs.Page.{key}
 use Rattle.state.specs.declared.State.{State}
 use Rattle.state.specs.declared.Answer.{Answer}
 use Rattle.state.specs.Answer.{told, numbers}
 use Rattle.gates.specs.Gates.{onGate, checkGate}
+use Rattle.sites.specs.Held.{heldIn, same, readOver}
 use Rattle.two_sets.specs.Differences.{differences}
-use Rattle.differences.specs.Listing.{same, listing}
+use Rattle.differences.specs.Listing.{listing}
 use Rattle.comparisons.specs.declared.Compared.{Compared}
 use Rattle.comparisons.specs.declared.Compared.the-variants.{Listed, Refused, Short}
 use Rattle.comparisons.specs.declared.ComparedNumbers.{ComparedNumbers}
-
--- the records that a file holds
-unfoldable pub heldIn : Layout → State → List ℕ → List Record
-heldIn f s area = cat (heldFrom f area (s .cap) 0) []
 
 -- what a comparison comes to: its answer, and the room afterwards. Neither file is written.
 pub record Outcome : Type 0 where
@@ -39,12 +34,6 @@ filled read list room =
 -- where both files pass: all pages of both have been judged
 unfoldable pub contrasted : Layout → State → List ℕ → State → List ℕ → (room : List ℕ) → Outcome
 contrasted f s area t other room = filled (s .cap + t .cap) (listing f (differences key same (heldIn f s area) (heldIn f t other))) room
-
--- 01: ""Pages read" is the number of distinct pages judged", over both files; but "refusals 1, 2, .. read
--- 0", though pages of the first file were judged before
-abbrev pub readOver : (before own : ℕ) → ℕ
-readOver before zero = 0
-readOver before (suc n) = before + suc n
 
 -- a file that is refused, after so many pages of the other; "after any of them the room is unchanged"
 abbrev pub refusedFile : (file before : ℕ) → (room : List ℕ) → Answer → Outcome

@@ -1,32 +1,30 @@
 // What differs between two registers: the list of differences, rising by key, in lent room. It takes no
 // other memory: the entries of what differs are sorted in the room and unpacked there.
-use differences::Site;
 use differences::unpacking;
 use differences::unpacking::MORE;
 use gates::Gate;
 use layouts::IN_USE;
 use layouts::WIDTH;
+use sites::Site;
 use state::Answer;
 use state::Numbers;
 use state::State;
 ghost use mathlib.Core.Path.{_≡_};
-ghost use mathlib.Core.Bool.{true};
 ghost use Prim.Native.Nat.{_+_, _≤_};
 ghost use lib.ListN.{length};
 ghost use Rattle.layouts.specs.Layout.{inUse};
 ghost use Rattle.placing.specs.Lay.{sort};
 ghost use Rattle.pages.specs.Page.{key};
 ghost use Rattle.entries.specs.steps.Entries.{rank};
-ghost use Rattle.state.specs.State.{inRange};
 ghost use Rattle.state.specs.Answer as answers;
 ghost use Rattle.gates.specs.steps.Past.{OpenImage};
+ghost use Rattle.sites.specs.Held.{same, heldIn, readOver};
+ghost use Rattle.sites.specs.steps.Sites.{Walkable, look};
 ghost use Rattle.two_sets.specs.Differences.{differences};
-ghost use Rattle.differences.specs.Listing.{same};
-ghost use Rattle.differences.specs.steps.Passes.{Walkable, look};
 ghost use Rattle.differences.specs.steps.Unpacked.{unpacked};
 ghost use Rattle.comparisons.specs.declared.Compared.the-variants.{Refused};
-ghost use Rattle.comparisons.specs.Compare.{heldIn, contrasted, compared, readOver, comparedNumbers};
-ghost use Rattle.comparisons.specs.steps.Past.{siteOf, entriesOfBoth, Sortable, countsOf};
+ghost use Rattle.comparisons.specs.Compare.{contrasted, compared, comparedNumbers};
+ghost use Rattle.comparisons.specs.steps.Past.{entriesOfBoth, Sortable, countsOf};
 
 // What a comparison comes to: a list of so many bytes; a file that is refused, the first or the second;
 // or a room shorter than the list, which wants so many bytes. `read` counts the pages of both files.
@@ -52,18 +50,6 @@ pub struct Counts {
     pub both: u32,
 }
 
-// What a search needs of a file.
-fn site_of(state: State) -> Site
-    requires { ⌜ inRange inUse state ≡ true ⌝ }
-    ensures { λ r. ⌜ r ≡ siteOf state ⌝ }
-{
-    let shape = state.shape();
-    Site {
-        cap: state.cap as usize,
-        shape,
-    }
-}
-
 // The three counts, by one pass over the first file: those only in the second are as many as it holds
 // beyond those that both do.
 fn count_all(first: State, area: &[u8], second: State, other: &[u8]) -> Counts
@@ -71,7 +57,7 @@ fn count_all(first: State, area: &[u8], second: State, other: &[u8]) -> Counts
     ensures { λ r. ⌜ r ≡ countsOf (differences key same (heldIn inUse first (now (area .entry))) (heldIn inUse second (now (other .entry)))) ⌝ }
     ensures few { λ r. ⌜ (r .first + r .both ≤ 49152) × (r .second + r .both ≤ 49152) ⌝ }
 {
-    let site = site_of(second);
+    let site = sites::site_of(second);
     let mut none = [0; 0];
     let t = differences::pass(
         &mut none[..],
@@ -122,20 +108,19 @@ fn contrast(first: State, area: &[u8], second: State, other: &[u8], room: &mut [
             read,
         };
     }
-    let here = site_of(first);
-    let there = site_of(second);
+    let here = sites::site_of(first);
+    let there = sites::site_of(second);
     write_list(&mut room[..top], base, area, here, other, there);
     unpacking::put_closing(room, top, n.first, n.second, n.both);
     Compared::Listed { length, read }
 }
 
-// A file refused, after so many pages of the other. A refusal that looks at no page counts none.
+// A file refused, after so many pages of the other.
 fn refuse(file: u16, why: Answer, before: u32) -> Compared
     requires { ⌜ (before ≤ 65535) × (answers.numbers why .read ≤ 4096) ⌝ }
     ensures { λ r. ⌜ r ≡ Refused file why (readOver before (answers.numbers why .read)) ⌝ }
 {
-    let own = why.numbers().read;
-    let read = if own == 0 { 0 } else { before + own };
+    let read = sites::read_over(before, why);
     Compared::Refused { file, why, read }
 }
 

@@ -19,8 +19,9 @@ use Rattle.pages.specs.Small.{Small}
 use Rattle.entries.specs.declared.Entry.{Entry}
 use Rattle.entries.specs.steps.Entries.{size, rank}
 use Rattle.entries.proofs.Entries.{SizedEntry}
+use Rattle.sites.specs.Held.{same}
 use Rattle.two_sets.specs.Differences.{onlyFirst, onlySecond, unlike, isUnlike, keyOf, ofFirst, ofSecond, firsts, seconds}
-use Rattle.differences.specs.Listing.{same, fields, recordBytes}
+use Rattle.differences.specs.Listing.{fields, recordBytes}
 use Rattle.differences.specs.steps.Passes.{D, ofAll, entryOf}
 use Rattle.differences.specs.steps.Unpacked.{entryFields, unpacked, wide}
 

@@ -21,10 +21,10 @@ use Rattle.pages.proofs.Memory.{page-records, page-count}
 use Rattle.pages.proofs.Seeking.{paired-length}
 use Rattle.pages.proofs.Read.{held-twelve}
 use Rattle.entries.specs.steps.Entries.{size}
+use Rattle.sites.specs.Held.{same}
 use Rattle.two_sets.specs.Differences.{onlyFirst, onlySecond, unlike, isUnlike}
 use Rattle.two_sets.proofs.Counting.{count-append}
 use Rattle.differences.specs.declared.Tally.{Tally}
-use Rattle.differences.specs.Listing.{same}
 use Rattle.differences.specs.steps.Passes.{D, ofOne, ofAll, kindIn, entryOf, entriesOf, fitted, isOnly, Passes}
 use Rattle.differences.proofs.Marking.{one-marked}
 use Rattle.differences.proofs.Fitting.{fitted-length, fitted-append}

@@ -1,18 +1,12 @@
 -- The list of what differs between two files, in bytes (02, request 6), over any layout. What is quoted
 -- is the request's.
 use Prim.Native.Nat.{ℕ, _+_}
-use mathlib.Core.Bool.{Bool}
 use mathlib.Core.List.{List, [], _∷_, _++_}
-use lib.Dec.{eqb}
 use Rattle.numbers.specs.Fields.{Field, width, encode}
 use Rattle.layouts.specs.Layout.{Layout, widthOf}
 use Rattle.placing.specs.Lay.{count}
-use Rattle.pages.specs.Page.{Record, key, value, payload, slot}
+use Rattle.pages.specs.Page.{Record, key, payload, slot}
 use Rattle.two_sets.specs.Differences.{Difference, onlyFirst, onlySecond, unlike, isOnlyFirst, isOnlySecond, isUnlike}
-
--- two records of one key say the same where they have one value
-abbrev pub same : Record → Record → Bool
-same x y = eqb (value x) (value y)
 
 -- "kind 769 for a record only in the first, 770 for one only in the second .., 771 for a key in both
 -- with two values"
@@ -25,9 +19,9 @@ module _ (f : Layout) where
   -- a record of the list. Of one file: "each key and value, length 20", as a slot of a page has them.
   -- Of both: "key, first value, second value, length 28", longer by the second value
   abbrev pub fields : Difference Record → List Field
-  fields (onlyFirst x) = slot f 769 x
-  fields (onlySecond y) = slot f 770 y
-  fields (unlike x y) = (2, widthOf f + width (payload f y)) ∷ (2, 771) ∷ (8, key x) ∷ (payload f x ++ payload f y)
+  fields (onlyFirst x) = slot f (kindOf (onlyFirst x)) x
+  fields (onlySecond y) = slot f (kindOf (onlySecond y)) y
+  fields (unlike x y) = (2, widthOf f + width (payload f y)) ∷ (2, kindOf (unlike x y)) ∷ (8, key x) ∷ (payload f x ++ payload f y)
 
   abbrev pub recordBytes : List (Difference Record) → List ℕ
   recordBytes [] = []

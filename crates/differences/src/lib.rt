@@ -3,12 +3,12 @@
 pub mod unpacking;
 
 use entries::Entry;
-use homes::Shape;
 use layouts::IN_USE;
 use layouts::WIDTH;
 use lookups::Sought;
 use pages::Page;
 use pages::Record;
+use sites::Site;
 ghost use mathlib.Core.Path.{_≡_};
 ghost use mathlib.Core.List.{[], _∷_};
 ghost use Prim.Native.Nat.{_+_, _*_, _≤_};
@@ -21,7 +21,8 @@ ghost use Rattle.pages.specs.Page.{Record, key};
 ghost use Rattle.pages.specs.steps.Slots.{recordsOf};
 ghost use Rattle.pages.specs.Area.{heldFrom};
 ghost use Rattle.lookups.specs.steps.Told.{heldBy};
-ghost use Rattle.differences.specs.steps.Passes.{Walkable, look, ofOne, kindIn, fitted, entriesOf, Passes};
+ghost use Rattle.sites.specs.steps.Sites.{Walkable, look};
+ghost use Rattle.differences.specs.steps.Passes.{ofOne, kindIn, fitted, entriesOf, Passes};
 
 // The kinds of the list.
 const ONLY_FIRST: u16 = 769;
@@ -29,12 +30,6 @@ const ONLY_FIRST: u16 = 769;
 const ONLY_SECOND: u16 = 770;
 
 const UNLIKE: u16 = 771;
-
-// What a search needs of a file beside its pages.
-pub struct Site {
-    pub cap: usize,
-    pub shape: Shape,
-}
 
 // How many records the other file lacks, and how many it holds with another value.
 pub struct Tally {
@@ -97,7 +92,7 @@ fn pass_one(
     requires { ⌜ Walkable (now other) site × (home ≡ homeIn (site .shape) (key x)) × (at ≤ 4194304) ⌝ }
     ensures { λ r. ⌜ Passes first (look site (now (other .entry))) (x ∷ []) (now (row .entry)) at r (now (row .exit)) ⌝ }
 {
-    let held = lookups::look(other, site.cap, IN_USE, site.shape, home, x.key);
+    let held = sites::seek(other, site, home, x.key);
     let kind = kind_of(held, first, x);
     put_marked(row, at, kind, x);
     Tally {

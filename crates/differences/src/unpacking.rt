@@ -1,12 +1,11 @@
 // Sorted entries made the records of the list, in place: upward from the start of a row, as the entries
 // at its end are read.
-use crate::Site;
 use crate::UNLIKE;
 use entries::Entry;
-use layouts::IN_USE;
 use layouts::WIDTH;
 use lookups::Sought;
 use pages::Record;
+use sites::Site;
 ghost use mathlib.Core.Path.{_≡_};
 ghost use Prim.Native.Nat.{_+_, _-_, _*_, _/_, _≤_};
 ghost use lib.ListN.{length, drop};
@@ -16,8 +15,8 @@ ghost use Rattle.layouts.specs.Layout.{inUse};
 ghost use Rattle.pages.specs.Page.{payload};
 ghost use Rattle.lookups.specs.steps.Told.{heldBy};
 ghost use Rattle.entries.specs.steps.Entries.{size, entriesIn};
+ghost use Rattle.sites.specs.steps.Sites.{Walkable, look};
 ghost use Rattle.differences.specs.Listing.{closing};
-ghost use Rattle.differences.specs.steps.Passes.{Walkable, look};
 ghost use Rattle.differences.specs.steps.Unpacked.{more, orVacant, entryFields, unpacked, wide};
 
 // The bytes of a second value.
@@ -59,7 +58,7 @@ fn put_record(row: &mut [u8], at: usize, e: Entry, other: &[u8], site: Site) -> 
     let first = e.held;
     let shape = site.shape;
     let home = shape.home(first.key);
-    let sought = lookups::look(other, site.cap, IN_USE, shape, home, first.key);
+    let sought = sites::seek(other, site, home, first.key);
     let second = record_of(sought);
     let long = Entry {
         home: (WIDTH + MORE) as u16,

@@ -2,3 +2,9 @@ pub mod Differences
 pub mod Turning
 pub mod Counting
 pub mod Promises
+pub mod Union
+pub mod Clash
+pub mod Lowest
+pub mod Rooms
+pub mod OneByOne
+pub mod UnionPromises

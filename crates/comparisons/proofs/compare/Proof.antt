@@ -4,7 +4,8 @@ use native.Mathlib.Omega.{arith}
 use borrow.Author.Needs.{needs}
 use Rattle.layouts.specs.Layout.{inUse}
 use Rattle.gates.proofs.Gating.{past-check}
-use Rattle.comparisons.proofs.Ways.{gate-few, first-shut, second-shut, both-open}
+use Rattle.sites.proofs.Reading.{gate-few}
+use Rattle.comparisons.proofs.Ways.{first-shut, second-shut, both-open}
 use Rattle.comparisons.proofs.compare.Statement.{statement}
 use Rattle.comparisons.proofs.compare.Tie as tie
 

@@ -8,11 +8,11 @@ use borrow.Author.Needs.{needs}
 use lib.Seq.{length-take-le}
 use Rattle.layouts.specs.Layout.{inUse}
 use Rattle.pages.specs.Page.{key}
+use Rattle.sites.specs.Held.{same, heldIn}
+use Rattle.sites.proofs.Known.{Known, known}
 use Rattle.two_sets.specs.Differences.{differences}
-use Rattle.differences.specs.Listing.{same}
 use Rattle.differences.specs.steps.Passes.{D}
-use Rattle.comparisons.specs.Compare.{heldIn, contrasted}
-use Rattle.comparisons.proofs.Known.{Known, known}
+use Rattle.comparisons.specs.Compare.{contrasted}
 use Rattle.comparisons.proofs.Contrasting.{topOf, room-short, room-filled, walks-both, sorted-written, sortable-written}
 use Rattle.comparisons.proofs.contrast.Statement.{statement}
 use Rattle.comparisons.proofs.contrast.Tie as tie

@@ -4,10 +4,9 @@ use native.Mathlib.Omega.{arith}
 use borrow.Author.Needs.{needs}
 use Rattle.layouts.specs.Layout.{inUse}
 use Rattle.pages.specs.Page.{key}
+use Rattle.sites.specs.Held.{same, heldIn}
+use Rattle.sites.proofs.Known.{Known, known}
 use Rattle.two_sets.specs.Differences.{differences}
-use Rattle.differences.specs.Listing.{same}
-use Rattle.comparisons.specs.Compare.{heldIn}
-use Rattle.comparisons.proofs.Known.{Known, known}
 use Rattle.comparisons.proofs.Counting.{Counted, counted}
 use Rattle.comparisons.proofs.count_all.Statement.{statement}
 use Rattle.comparisons.proofs.count_all.Tie as tie

@@ -1,32 +1,14 @@
--- `comparisons::refuse` meets its contract: a refusal that read no page counts none.
-use mathlib.Core.Path.{_≡_, ap, sym, _∙_}
-use native.Mathlib.Omega.{arith}
-use borrow.Author.Needs.{needs}
-use Rattle.state.specs.declared.Numbers.{Numbers}
-use Rattle.state.specs.Answer.{numbers}
+-- `comparisons::refuse` meets its contract.
+use mathlib.Core.Path.{ap}
 use Rattle.comparisons.specs.declared.Compared.the-variants.{Refused}
-use Rattle.comparisons.proofs.Ways.{over-none, over-some}
 use Rattle.comparisons.proofs.refuse.Statement.{statement}
 use Rattle.comparisons.proofs.refuse.Tie as tie
 
--- what the answer says that it read
-own : (c : tie.After-numbers) → c .numbers .result .read ≡ numbers (c .before .args .why) .read
-own c = ap (λ (n : Numbers). n .read) (c .numbers .ensures)
-
-add-read : tie.Need-add-read
-add-read c = let n = c .before in omega (arith, own n, n .before .pre .0, n .before .pre .1)
+read-over-requires : tie.Need-read-over-requires
+read-over-requires c κs = c .pre
 
 returns : tie.Need-returns
-returns c =
-    let n = c .before in
-    let a = n .before .args in
-    ap (Refused (a .file) (a .why)) (over-none (a .before) (numbers (a .why) .read) (sym (own n) ∙ c .if1 .taken))
-
-returns-2 : tie.Need-returns-2
-returns-2 c =
-    let n = c .before in
-    let a = n .before .args in
-    rw (← own n) (ap (Refused (a .file) (a .why)) (over-some (a .before) (n .numbers .result .read) (c .if1 .left)))
+returns c = let a = c .before .args in ap (Refused (a .file) (a .why)) (c .read-over .ensures)
 
 pub refuse-spec : {M : Type 1} → statement M
-refuse-spec = tie.close (tie.spec (λ c κs. search needs) add-read returns returns-2)
+refuse-spec = tie.close (tie.spec read-over-requires returns)

@@ -13,7 +13,8 @@ use Rattle.pages.specs.Area.{heldFrom}
 use Rattle.numbers.specs.Little.{written}
 use Rattle.entries.specs.declared.Entry.{Entry}
 use Rattle.entries.specs.steps.Entries.{size, rowBytes}
-use Rattle.differences.specs.steps.Passes.{look, ofAll, entryOf}
+use Rattle.sites.specs.steps.Sites.{look}
+use Rattle.differences.specs.steps.Passes.{ofAll, entryOf}
 use Rattle.differences.specs.steps.Unpacked.{unpacked}
 use Rattle.differences.proofs.Passing.{file-few}
 use Rattle.comparisons.proofs.Writing.{none-written, pass-many, pass-written, first-fits, second-fits, part-lies, part-whole, part-once, back-ready, back-entries}

@@ -2,31 +2,19 @@
 use Prim.Native.Nat.{ℕ, _+_, _*_}
 use mathlib.Core.Path.{_≡_}
 use mathlib.Core.Bool.{true, false}
-use mathlib.Core.List.{List, [], _++_, map}
+use mathlib.Core.List.{List, _++_, map}
 use lib.ListN.{length}
-use Rattle.layouts.specs.Layout.{inUse}
-use Rattle.homes.specs.Homes.{shapeOf}
-use Rattle.placing.specs.Image.{All, Distinct, cat}
+use Rattle.placing.specs.Image.{All, Distinct}
 use Rattle.placing.specs.Lay.{count}
-use Rattle.pages.specs.Page.{Record}
-use Rattle.pages.specs.Area.{heldFrom}
 use Rattle.entries.specs.declared.Entry.{Entry}
 use Rattle.entries.specs.steps.Entries.{size, rank}
 use Rattle.entries.proofs.Entries.{SizedEntry}
-use Rattle.state.specs.declared.State.{State}
+use Rattle.sites.specs.declared.Site.{Site}
+use Rattle.sites.specs.steps.Sites.{onPages, look}
 use Rattle.two_sets.specs.Differences.{isOnlyFirst, isOnlySecond, isUnlike}
-use Rattle.differences.specs.declared.Site.{Site}
-use Rattle.differences.specs.steps.Passes.{D, look, ofAll, entryOf}
+use Rattle.differences.specs.steps.Passes.{D, ofAll, entryOf}
 use Rattle.differences.specs.steps.Unpacked.{more, wide}
 use Rattle.comparisons.specs.declared.Counts.{Counts}
-
--- what a search needs of a file
-abbrev pub siteOf : State → Site
-siteOf s = record { cap = s .cap; shape = shapeOf (s .params) (s .p) }
-
--- the records on the pages of an area
-abbrev pub onPages : Site → List ℕ → List Record
-onPages site area = cat (heldFrom inUse area (site .cap) 0) []
 
 -- the entries of what a pass over each of two areas meets
 abbrev pub entriesOfBoth : (here : Site) (area : List ℕ) (there : Site) (other : List ℕ) → List Entry

@@ -9,7 +9,8 @@ use borrow.Author.Needs.{needs}
 use Rattle.layouts.specs.Layout.{inUse}
 use Rattle.placing.specs.Image.{cat}
 use Rattle.pages.specs.Area.{heldFrom}
-use Rattle.differences.specs.steps.Passes.{look, Passes}
+use Rattle.sites.specs.steps.Sites.{look}
+use Rattle.differences.specs.steps.Passes.{Passes}
 use Rattle.differences.proofs.Passing.{tallyOf, passes-none, passes-few, passes-length, file-few, file-turn, file-end, page-most}
 use Rattle.differences.proofs.pass.Statement.{statement}
 use Rattle.differences.proofs.pass.Tie as tie

@@ -5,20 +5,17 @@ use borrow.Author.Needs.{needs}
 use Rattle.lookups.specs.steps.Told.{heldBy}
 use Rattle.lookups.proofs.Looking.{by-told}
 use Rattle.pages.specs.Page.{key}
-use Rattle.differences.specs.steps.Passes.{look}
+use Rattle.sites.specs.steps.Sites.{look}
 use Rattle.differences.proofs.Passing.{passes-one}
 use Rattle.differences.proofs.pass_one.Statement.{statement}
 use Rattle.differences.proofs.pass_one.Tie as tie
 
-look-requires : tie.Need-look-requires
-look-requires c κs =
-    let p = c .before .before .pre in
-    (p .0 .few, p .0 .long, p .0 .ready, p .0 .grown, p .1)
+seek-requires : tie.Need-seek-requires
+seek-requires c κs = let p = c .before .before .pre in (p .0, p .1)
 
 -- what the search told is what the other area tells of the key
-looked : (c : tie.After-look) → let a = c .before .before .before .args in look (a .site) (now (a .other)) (key (a .x)) ≡ heldBy (c .look .result)
-unfolding look
-looked c = sym (by-told _) ∙ ap heldBy (sym (c .look .ensures))
+looked : (c : tie.After-seek) → let a = c .before .before .before .args in look (a .site) (now (a .other)) (key (a .x)) ≡ heldBy (c .seek .result)
+looked c = sym (by-told _) ∙ ap heldBy (sym (c .seek .ensures))
 
 returns : tie.Need-returns
 returns c =
@@ -32,7 +29,7 @@ pub pass-one-spec : {M : Type 1} → statement M
 pass-one-spec =
     tie.close
     (tie.spec
-    look-requires
+    seek-requires
     (λ c κs. search needs)
     (λ c κs. search needs)
     (λ c κs. search needs)

@@ -6,7 +6,8 @@ use Prim.Native.Nat.{_+_, _-_, _≤_}
 use native.Mathlib.Omega.{arith}
 use borrow.Author.Needs.{needs}
 use Rattle.pages.specs.steps.Slots.{paired, recordsOf}
-use Rattle.differences.specs.steps.Passes.{look, Passes}
+use Rattle.sites.specs.steps.Sites.{look}
+use Rattle.differences.specs.steps.Passes.{Passes}
 use Rattle.differences.proofs.Passing.{tallyOf, passes-none, passes-few, passes-length, page-few, page-turn, page-end}
 use Rattle.differences.proofs.pass_page.Statement.{statement}
 use Rattle.differences.proofs.pass_page.Tie as tie

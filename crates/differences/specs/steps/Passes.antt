@@ -1,5 +1,5 @@
 -- A pass over the records of one file, each sought in the other: how many differ, and their entries.
-use Prim.Native.Nat.{ℕ, _+_, _*_, _≤_}
+use Prim.Native.Nat.{ℕ, _+_}
 use mathlib.Core.Path.{_≡_}
 use mathlib.Core.Bool.{Bool, true, false, cond}
 use mathlib.Core.Option.{Option}
@@ -7,32 +7,17 @@ use mathlib.Core.List.{List, [], _∷_, _++_, map}
 use lib.Dec.{leb, eqb}
 use lib.ListN.{length}
 use Rattle.numbers.specs.Little.{written}
-use Rattle.layouts.specs.Layout.{inUse, slotsOf}
-use Rattle.homes.specs.Homes.{Ready, homeIn}
 use Rattle.placing.specs.Lay.{count}
-use Rattle.placing.specs.Walks.{findIn}
 use Rattle.pages.specs.Page.{Record, key}
-use Rattle.pages.specs.Area.{heldFrom}
 use Rattle.entries.specs.declared.Entry.{Entry}
 use Rattle.entries.specs.steps.Entries.{size, entryBytes}
 use Rattle.two_sets.specs.Differences.{Difference, onlyFirst, onlySecond, unlike, isUnlike, ofFirst, ofSecond}
-use Rattle.differences.specs.declared.Site.{Site}
+use Rattle.sites.specs.Held.{same}
 use Rattle.differences.specs.declared.Tally.{Tally}
-use Rattle.differences.specs.Listing.{same, kindOf}
+use Rattle.differences.specs.Listing.{kindOf}
 
 abbrev pub D : Type 0
 D = Difference Record
-
--- an area in which a key can be sought
-pub record Walkable (area : List ℕ) (site : Site) : Type 0 where
-  pub few : site .cap ≤ 4096
-  pub long : length area ≡ 256 * site .cap
-  pub ready : Ready (site .shape)
-  pub grown : site .shape .p ≤ site .cap
-
--- what an area tells of a key
-unfoldable pub look : Site → List ℕ → (k : ℕ) → Option Record
-look site area k = findIn key (homeIn (site .shape)) (slotsOf inUse) k (heldFrom inUse area (site .cap) 0)
 
 -- what a record comes to, of the first file or of the second, by what the other holds at its key
 abbrev pub ofOne : (first : Bool) → Record → Option Record → List D

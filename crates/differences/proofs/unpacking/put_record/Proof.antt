@@ -6,7 +6,7 @@ use borrow.Author.Needs.{needs}
 use Rattle.lookups.specs.steps.Told.{heldBy}
 use Rattle.lookups.proofs.Looking.{by-told}
 use Rattle.pages.specs.Page.{key}
-use Rattle.differences.specs.steps.Passes.{look}
+use Rattle.sites.specs.steps.Sites.{look}
 use Rattle.differences.specs.steps.Unpacked.{orVacant}
 use Rattle.differences.proofs.InPlace.{record-fits, short-put, long-after, long-put}
 use Rattle.differences.proofs.unpacking.put_record.Statement.{statement}
@@ -26,10 +26,8 @@ returns c =
     let a = s .args in
     short-put (look (a .site) (now (a .other))) (a .e) (now (a .row)) (a .at) (s .pre .1) _ (i .if1 .taken) (p .put-entry .ensures)
 
-look-requires : tie.Need-look-requires
-look-requires c κs =
-    let p = c .before .before .before .before .before .before .before .pre in
-    (p .0 .few, p .0 .long, p .0 .ready, p .0 .grown, c .home .ensures)
+seek-requires : tie.Need-seek-requires
+seek-requires c κs = (c .before .before .before .before .before .before .before .pre .0, c .home .ensures)
 
 put-entry-requires-2 : tie.Need-put-entry-requires-2
 put-entry-requires-2 c κs =
@@ -48,10 +46,9 @@ put-payload-requires c κs =
 
 -- the second record is what the other area tells of the key
 second : (c : tie.After-record-of) → let a = c .before .before .before .before .before .before .before .before .before .args in c .record-of .result ≡ orVacant (look (a .site) (now (a .other)) (key (a .e .held)))
-unfolding look
 second c =
     let a = c .before .before .before .before .before .before .before .before .before .args in
-    c .record-of .ensures ∙ ap (λ x. orVacant (heldBy x)) (c .before .look .ensures) ∙ ap orVacant (by-told (look (a .site) (now (a .other)) (key (a .e .held))))
+    c .record-of .ensures ∙ ap (λ x. orVacant (heldBy x)) (c .before .seek .ensures) ∙ ap orVacant (by-told (look (a .site) (now (a .other)) (key (a .e .held))))
 
 returns-2 : tie.Need-returns-2
 returns-2 c =
@@ -72,7 +69,7 @@ put-record-spec =
     (λ c. search needs)
     returns
     (λ c κs. search needs)
-    look-requires
+    seek-requires
     (λ c κs. search needs)
     (λ c. search needs)
     (λ c. search needs)

@@ -4,7 +4,7 @@ use denote.Ref.{now}
 use Prim.Native.Nat.{_-_}
 use native.Mathlib.Omega.{arith}
 use lib.ListN.{length}
-use Rattle.differences.specs.steps.Passes.{look}
+use Rattle.sites.specs.steps.Sites.{look}
 use Rattle.differences.proofs.InPlace.{Unpacking, unpacking-start, one-more, next-fits, unpacking-turn, unpacking-end}
 use Rattle.differences.proofs.unpacking.unpack.Statement.{statement}
 use Rattle.differences.proofs.unpacking.unpack.Tie as tie

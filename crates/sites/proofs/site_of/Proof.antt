@@ -1,9 +1,9 @@
--- `comparisons::site_of` meets its contract.
+-- `sites::site_of` meets its contract.
 use borrow.Author.Needs.{needs}
 use Rattle.layouts.specs.Layout.{inUse}
 use Rattle.state.proofs.Ranges.{in-shape}
-use Rattle.comparisons.proofs.site_of.Statement.{statement}
-use Rattle.comparisons.proofs.site_of.Tie as tie
+use Rattle.sites.proofs.site_of.Statement.{statement}
+use Rattle.sites.proofs.site_of.Tie as tie
 
 shape-requires : tie.Need-shape-requires
 shape-requires c κs = in-shape inUse (c .args .state) (c .pre)

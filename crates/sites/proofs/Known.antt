@@ -20,9 +20,8 @@ use Rattle.state.specs.Promises.{Ranged}
 use Rattle.state.proofs.Ranges.{ranged, in-shape}
 use Rattle.gates.specs.steps.Past.{OpenImage}
 use Rattle.gates.proofs.Judging.{open-good, held-set, held-image}
-use Rattle.differences.specs.steps.Passes.{Walkable, look}
-use Rattle.comparisons.specs.Compare.{heldIn}
-use Rattle.comparisons.specs.steps.Past.{siteOf}
+use Rattle.sites.specs.Held.{heldIn}
+use Rattle.sites.specs.steps.Sites.{siteOf, Walkable, look}
 
 -- what any bytes hold fits a record
 held-small : (area : List ℕ) → Bytes area → (n a : ℕ) → 256 * (a + n) ≤ length area → All (Small inUse) (cat (heldFrom inUse area n a) [])
@@ -45,11 +44,12 @@ module _ (s : State) (area : List ℕ) (b : Bytes area) (g : OpenImage inUse s a
       let k = open-good inUse s area (g .2) in
       let w : Ranged inUse s = ranged inUse s (g .0) in
       let set = held-set inUse s area b (g .1) k in
+      let image = held-image inUse s area b (g .1) k in
       record {
         range = w;
         set = set;
         small = held-small area b (s .cap) 0 (omega (arith, g .1));
         count = k .count;
-        looks = λ j l. find-image key (homes s) _ j l set (held-image inUse s area b (g .1) k);
-        walks = record { few = w .cap-high; long = g .1; ready = in-shape inUse s (g .0); grown = w .p-high };
+        looks = λ j l. find-image key (homes s) _ j l set image;
+        walks = record { few = w .cap-high; long = g .1; ready = in-shape inUse s (g .0); grown = w .p-high; image = image };
       }

@@ -7,10 +7,9 @@ use native.Mathlib.Omega.{arith}
 use lib.Dec.{leb}
 use lib.ListN.{length, drop, length-map}
 use Rattle.placing.specs.Image.{All, cat, Distinct, RecordSet}
-use Rattle.placing.specs.Lay.{rankIn, ins, sort, upTo, lay, taken, Sorted}
+use Rattle.placing.specs.Lay.{rankIn, ins, sort, upTo, lay, taken}
 use Rattle.placing.proofs.Lists.{all-map₂, all-append}
-use Rattle.placing.proofs.Perms.{perm-all, perm-length, perm-upTo, sort-perm, sort-sorted}
-use Rattle.placing.proofs.Taken.{taken-cong}
+use Rattle.placing.proofs.Perms.{perm-all, sort-perm}
 use Rattle.placing.proofs.Rank.{distinct-rank}
 use Rattle.pages.specs.Page.{Record, key, homeFor}
 use Rattle.entries.specs.declared.Entry.{Entry}
@@ -118,23 +117,9 @@ module _ (h : ℕ → ℕ) (ps : List (List Record)) where
   pub pages-distinct : RecordSet key (cat ps []) → Distinct rank (taggedFrom h 0 ps)
   pages-distinct f = distinct-records h (taggedFrom h 0 ps) (pages-right h 0 ps) (rw (pages-records h 0 ps) f)
 
-  pub pages-sorted : RecordSet key (cat ps []) → Sorted rank (sort rank (taggedFrom h 0 ps))
-  pages-sorted f = sort-sorted rank (taggedFrom h 0 ps) (pages-distinct f)
-
   pub pages-length : length (taggedFrom h 0 ps) ≡ length (cat ps [])
   pages-length = sym (length-map (taggedFrom h 0 ps) recordIn) ∙ ap length (pages-records h 0 ps)
 
   -- and have room where the records have it
-  pub pages-room : (n : ℕ) → taken (homeFor h) slots (cat ps []) n ≡ length (cat ps [])
-      → taken home slots (sort rank (taggedFrom h 0 ps)) n ≡ length (sort rank (taggedFrom h 0 ps))
-  pages-room n e =
-      let s : List Entry = taggedFrom h 0 ps in
-      let t : taken home slots s n ≡ taken (homeFor h) slots (cat ps []) n = taken-records h slots s (pages-right h 0 ps) n ∙ rw (pages-records h 0 ps) in
-      omega (
-        arith,
-        t,
-        e,
-        pages-length,
-        perm-length (sort-perm rank s),
-        taken-cong home slots (sort rank s) s (λ j. perm-upTo home j (sort-perm rank s)) n,
-      )
+  pub pages-room : (n : ℕ) → taken (homeFor h) slots (cat ps []) n ≡ length (cat ps []) → taken home slots (taggedFrom h 0 ps) n ≡ length (taggedFrom h 0 ps)
+  pages-room n e = taken-records h slots (taggedFrom h 0 ps) (pages-right h 0 ps) n ∙ rw (pages-records h 0 ps) (e ∙ sym pages-length)

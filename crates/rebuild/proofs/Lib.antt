@@ -5,4 +5,5 @@ pub mod Packing
 pub mod Commuting
 pub mod Moved
 pub mod Fitting
+pub mod InOrder
 pub mod Anew

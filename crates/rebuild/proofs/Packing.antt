@@ -3,10 +3,10 @@
 use mathlib.Core.Path.{_≡_, refl, sym, ap, _∙_}
 use mathlib.Core.List.{List, [], _∷_, _++_, append-assoc, append-nil}
 use Prim.Native.Nat.{ℕ, zero, suc, _+_, _-_, _*_, _≤_, _<_}
-use native.Mathlib.Nat.{add-assoc, sub-self, sub-zero}
+use native.Mathlib.Nat.{add-assoc, zero-add, sub-self, sub-zero}
 use native.Mathlib.Omega.{arith}
-use lib.ListN.{length, take, drop, getD, length-append, length-take, length-drop, take-append-drop}
-use lib.Seq.{take-all, take-take, drop-at, take-append-le, drop-append-le, length-take-le, getD-drop}
+use lib.ListN.{length, take, drop, getD, length-append, length-take, length-drop, take-append-drop, drop-of-length-le}
+use lib.Seq.{take-take, drop-at, take-append-le, drop-append-le, length-take-le, getD-drop}
 use Rattle.numbers.specs.Little.{written}
 use Rattle.numbers.proofs.Laws.{written-nil}
 use Rattle.layouts.specs.Layout.{inUse}
@@ -17,13 +17,12 @@ use Rattle.pages.specs.steps.Slots.{paired, recordsOf}
 use Rattle.pages.specs.Area.{partAt, heldFrom}
 use Rattle.pages.specs.steps.Known.{KnownAt}
 use Rattle.pages.proofs.Memory.{page-count, page-records}
-use Rattle.pages.proofs.Read.{held-few}
 use Rattle.pages.proofs.Seeking.{paired-length}
 use Rattle.entries.specs.declared.Entry.{Entry}
 use Rattle.entries.specs.steps.Entries.{size, entryBytes, rowBytes}
 use Rattle.entries.proofs.Rows.{row-length, row-append}
 use Rattle.rebuild.specs.steps.Rebuild.{slots, tagged, taggedFrom, packed}
-use Rattle.rebuild.proofs.Tags.{tagged-append, tagged-length, entries-few}
+use Rattle.rebuild.proofs.Tags.{tagged-append, tagged-length}
 
 -- two writes, the second where it ends at the first, are one
 written-before : (l : List ℕ) (at : ℕ) (v w : List ℕ) → at + length v ≤ length l
@@ -80,23 +79,42 @@ page-done l m h a b i ks vs us z e =
     let y : i ≡ 0 = omega arith in
     sym (written-nil l b) ∙ ap (λ (n : ℕ). written l b (rows h a n ks vs us)) (sym y) ∙ e
 
+-- n pages from address a on, of which page i holds `part i`
+abbrev pub partsFrom : (ℕ → List Record) → (n a : ℕ) → List (List Record)
+partsFrom part zero a = []
+partsFrom part (suc n) a = part a ∷ partsFrom part n (suc a)
+
+-- what stands on the pages of an area
+abbrev pub onPage : List ℕ → ℕ → List Record
+onPage l a = recordsIn inUse (partAt l a)
+
+pub parts-held : (l : List ℕ) (n a : ℕ) → partsFrom (onPage l) n a ≡ heldFrom inUse l n a
+parts-held l zero a = refl
+parts-held l (suc n) a = ap (λ (ps : List (List Record)). onPage l a ∷ ps) (parts-held l n (suc a))
+
+-- twelve entries a page at most, which take less than its bytes
+parts-few : (h : ℕ → ℕ) (part : ℕ → List Record) → ((i : ℕ) → length (part i) ≤ slots) → (n a : ℕ) → length (taggedFrom h a (partsFrom part n a)) ≤ slots * n
+parts-few h part few zero a = omega arith
+parts-few h part few (suc n) a =
+    omega (arith, length-append (tagged h a (part a)) (taggedFrom h (suc a) (partsFrom part n (suc a))), tagged-length h a (part a), few a, parts-few h part few n (suc a))
+
 -- the entries of the pages from a on
-abbrev pub upward : (ℕ → ℕ) → (cap : ℕ) → List ℕ → ℕ → List Entry
-upward h cap l a = taggedFrom h a (heldFrom inUse l (cap - a) a)
+abbrev pub upward : (ℕ → List Record) → (ℕ → ℕ) → (cap a : ℕ) → List Entry
+upward part h cap a = taggedFrom h a (partsFrom part (cap - a) a)
 
--- the pages from a on are packed in m, and the others stand as in l
-pub record Above (h : ℕ → ℕ) (cap : ℕ) (l : List ℕ) (a at : ℕ) (m : List ℕ) : Type 0 where
+-- the pages from a on are packed in m below `top`, and all else stands as in l
+pub record Above (part : ℕ → List Record) (h : ℕ → ℕ) (cap : ℕ) (l : List ℕ) (top a at : ℕ) (m : List ℕ) : Type 0 where
   pub within : a ≤ cap
-  pub begins : at + size * length (upward h cap l a) ≡ 256 * cap
-  pub bytes : m ≡ take at l ++ rowBytes (upward h cap l a)
+  pub begins : at + size * length (upward part h cap a) ≡ top
+  pub bytes : m ≡ take at l ++ (rowBytes (upward part h cap a) ++ drop top l)
 
-pub above-start : (h : ℕ → ℕ) (cap : ℕ) (l : List ℕ) → length l ≡ 256 * cap → Above h cap l cap (256 * cap) l
-above-start h cap l n =
-    let e : upward h cap l cap ≡ [] = rw (sub-self cap) in
+pub above-start : (part : ℕ → List Record) (h : ℕ → ℕ) (cap : ℕ) (l : List ℕ) (top : ℕ) → Above part h cap l top cap top l
+above-start part h cap l top =
+    let e : upward part h cap cap ≡ [] = rw (sub-self cap) in
     record {
       within = omega arith;
       begins = rw e (omega arith);
-      bytes = sym (rw (e, append-nil) (take-all (256 * cap) l (omega arith)));
+      bytes = rw e (sym (take-append-drop top l));
     }
 
 -- a part that lies in the first of two lists
@@ -105,29 +123,30 @@ unfolding partAt
 part-front s t b h =
     rw (drop-append-le (256 * b) s t (omega arith)) (take-append-le 256 (drop (256 * b) s) t (omega (arith, length-drop (256 * b) s)))
 
-module _ (h : ℕ → ℕ) (cap : ℕ) (l : List ℕ) (a at : ℕ) (m : List ℕ) (n : length l ≡ 256 * cap) (s : Above h cap l a at m) where
-  -- twelve entries take less than a page
-  pub above-room : 256 * a ≤ at
-  above-room = omega (arith, s .begins, s .within, entries-few h l (cap - a) a)
-
-  pub above-length : length m ≡ 256 * cap
+module _ (part : ℕ → List Record) (h : ℕ → ℕ) (cap : ℕ) (l : List ℕ) (top a at : ℕ) (m : List ℕ) (n : top ≤ length l) (s : Above part h cap l top a at m) where
+  pub above-length : length m ≡ length l
   above-length =
       rw (s .bytes)
-      (omega (arith, length-append (take at l) (rowBytes (upward h cap l a)), length-take at l, row-length (upward h cap l a), s .begins))
+      (omega (arith, length-append (take at l) (rowBytes (upward part h cap a) ++ drop top l), length-append (rowBytes (upward part h cap a)) (drop top l), length-drop top l, length-take at l, row-length (upward part h cap a), s .begins))
 
-  -- a page below is read as it stood
-  below-same : (b : ℕ) → b < a → partAt m b ≡ partAt l b
-  below-same b k =
-      let t : length (take at l) ≡ at = length-take-le at l (omega (arith, s .begins)) in
-      ap (λ (x : List ℕ). partAt x b) (s .bytes)
-      ∙ part-front (take at l) (rowBytes (upward h cap l a)) b (omega (arith, above-room))
-      ∙ sym (part-front (take at l) (drop at l) b (omega (arith, above-room)))
-      ∙ rw take-append-drop
+  -- where all pages lie below the top, twelve entries take less than a page
+  module _ (few : (i : ℕ) → length (part i) ≤ slots) (high : top ≡ 256 * cap) where
+    pub above-room : 256 * a ≤ at
+    above-room = omega (arith, s .begins, s .within, parts-few h part few (cap - a) a)
 
-  -- so what is known of it is known still
-  pub known-below : (new : NewHomes) → ((b : ℕ) → b < cap → KnownAt inUse new l b) → (b : ℕ) → b < a → KnownAt inUse new m b
-  known-below new w zero k = rw (below-same 0 k) (w 0 (omega (arith, s .within)))
-  known-below new w (suc b) k = rw (below-same (suc b) k, below-same b (omega arith)) (w (suc b) (omega (arith, s .within)))
+    -- so a page below is read as it stood
+    pub below-same : (b : ℕ) → b < a → partAt m b ≡ partAt l b
+    below-same b k =
+        let t : length (take at l) ≡ at = length-take-le at l (omega (arith, s .begins)) in
+        ap (λ (x : List ℕ). partAt x b) (s .bytes)
+        ∙ part-front (take at l) (rowBytes (upward part h cap a) ++ drop top l) b (omega (arith, above-room))
+        ∙ sym (part-front (take at l) (drop at l) b (omega (arith, above-room)))
+        ∙ rw take-append-drop
+
+    -- and what is known of it is known still
+    pub known-below : (new : NewHomes) → ((b : ℕ) → b < cap → KnownAt inUse new l b) → (b : ℕ) → b < a → KnownAt inUse new m b
+    known-below new w zero k = rw (below-same 0 k) (w 0 (omega (arith, s .within)))
+    known-below new w (suc b) k = rw (below-same (suc b) k, below-same b (omega arith)) (w (suc b) (omega (arith, s .within)))
 
 -- rows written below those that stand at the end
 rows-below : (l v w : List ℕ) (at to : ℕ) → at ≤ length l → to + length v ≡ at → written (take at l ++ w) to v ≡ take to l ++ (v ++ w)
@@ -137,46 +156,63 @@ rows-below l v w at to h e =
     rw (e, take-append-le to (take at l) w (omega arith), take-take to at l (omega arith), drop-at (take at l) w at t)
 
 -- one page more
-upward-more : (h : ℕ → ℕ) (cap : ℕ) (l : List ℕ) (a : ℕ) → 0 < a → a ≤ cap
-    → upward h cap l (a - 1) ≡ tagged h (a - 1) (recordsIn inUse (partAt l (a - 1))) ++ upward h cap l a
-upward-more h cap l a z k =
+upward-more : (part : ℕ → List Record) (h : ℕ → ℕ) (cap a : ℕ) → 0 < a → a ≤ cap → upward part h cap (a - 1) ≡ tagged h (a - 1) (part (a - 1)) ++ upward part h cap a
+upward-more part h cap a z k =
     let e : cap - (a - 1) ≡ suc (cap - a) = omega arith in
     let f : suc (a - 1) ≡ a = omega arith in
     rw (e, f)
 
--- a turn packs the next page below
-pub above-turn : (h : ℕ → ℕ) (cap : ℕ) (l : List ℕ) (a at : ℕ) (m : List ℕ) (p : Page) (to : ℕ) (k : List ℕ)
-    → length l ≡ 256 * cap → Above h cap l a at m → 0 < a → p ≡ inMemory (recordsIn inUse (partAt m (a - 1)))
-    → to ≡ at - size * p .count → k ≡ written m (at - size * p .count) (rowBytes (tagged h (a - 1) (recordsOf p)))
-    → Above h cap l (a - 1) to k
-above-turn h cap l a at m p to k n s z e f g =
-    let room : 256 * a ≤ at = above-room h cap l a at m n s in
-    let few : length rs ≤ slots = held-few inUse (partAt l (a - 1)) in
-    let many : p .count ≡ length rs = page-count p rs held in
-    let more : upward h cap l (a - 1) ≡ tagged h (a - 1) rs ++ upward h cap l a = upward-more h cap l a z (s .within) in
-    let sum : length (upward h cap l (a - 1)) ≡ length rs + length (upward h cap l a) =
-    rw more (omega (arith, length-append (tagged h (a - 1) rs) (upward h cap l a), tagged-length h (a - 1) rs)) in
-    record {
-      within = omega (arith, s .within);
-      begins = omega (arith, s .begins);
-      bytes =
-          g
-          ∙ rw (← f, page-records p rs held, s .bytes, more, row-append (tagged h (a - 1) rs) (upward h cap l a))
-          (rows-below l (rowBytes (tagged h (a - 1) rs)) (rowBytes (upward h cap l a)) at to (omega (arith, s .begins))
-          (omega (arith, row-length (tagged h (a - 1) rs), tagged-length h (a - 1) rs)));
-    }
+-- where there is room for all from the first on, there is for those of one page more
+upward-room : (part : ℕ → List Record) (h : ℕ → ℕ) (n a : ℕ) → length (taggedFrom h a (partsFrom part n a)) ≤ length (taggedFrom h 0 (partsFrom part (a + n) 0))
+upward-room part h n a = go a 0 (omega arith)
   where
-    rs : List Record
-    rs = recordsIn inUse (partAt l (a - 1))
+    go : (k i : ℕ) → i + k ≡ a → length (taggedFrom h a (partsFrom part n a)) ≤ length (taggedFrom h i (partsFrom part (k + n) i))
+    go zero i e = let z : i ≡ a = omega arith in rw (z, zero-add n) (omega arith)
+    go (suc k) i e =
+        let d : suc k + n ≡ suc (k + n) = omega arith in
+        rw d (omega (arith, length-append (tagged h i (part i)) (taggedFrom h (suc i) (partsFrom part (k + n) (suc i))), go k (suc i) (omega arith)))
 
-    held : p ≡ inMemory rs
-    held = e ∙ ap (λ (x : List ℕ). inMemory (recordsIn inUse x)) (below-same h cap l a at m n s (a - 1) (omega arith))
+-- a turn packs the next page below, which has room
+module _ (part : ℕ → List Record) (h : ℕ → ℕ) (cap : ℕ) (l : List ℕ) (top a at : ℕ) (m : List ℕ) (n : top ≤ length l) (s : Above part h cap l top a at m) (z : 0 < a)
+    (p : Page) (e : p ≡ inMemory (part (a - 1))) where
+  sum : length (upward part h cap (a - 1)) ≡ length (part (a - 1)) + length (upward part h cap a)
+  sum = rw (upward-more part h cap a z (s .within)) (omega (arith, length-append (tagged h (a - 1) (part (a - 1))) (upward part h cap a), tagged-length h (a - 1) (part (a - 1))))
+
+  pub turn-room : size * length (taggedFrom h 0 (partsFrom part cap 0)) ≤ top → size * p .count ≤ at
+  turn-room all =
+      let q : a - 1 + (cap - (a - 1)) ≡ cap = omega (arith, s .within) in
+      let most : length (upward part h cap (a - 1)) ≤ length (taggedFrom h 0 (partsFrom part cap 0)) = rw q at (upward-room part h (cap - (a - 1)) (a - 1)) in
+      omega (arith, all, most, sum, s .begins, page-count p (part (a - 1)) e)
+
+  module _ (to : ℕ) (k : List ℕ) (fits : size * p .count ≤ at) (f : to ≡ at - size * p .count)
+      (g : k ≡ written m (at - size * p .count) (rowBytes (tagged h (a - 1) (recordsOf p)))) where
+    pub above-turn : Above part h cap l top (a - 1) to k
+    above-turn =
+        let many : p .count ≡ length (part (a - 1)) = page-count p (part (a - 1)) e in
+        record {
+          within = omega (arith, s .within);
+          begins = omega (arith, s .begins, sum);
+          bytes =
+              g
+              ∙ rw (← f, page-records p (part (a - 1)) e, s .bytes, upward-more part h cap a z (s .within), row-append (tagged h (a - 1) (part (a - 1))) (upward part h cap a), append-assoc)
+              (rows-below l (rowBytes (tagged h (a - 1) (part (a - 1)))) (rowBytes (upward part h cap a) ++ drop top l) at to (omega (arith, s .begins))
+              (omega (arith, row-length (tagged h (a - 1) (part (a - 1))), tagged-length h (a - 1) (part (a - 1)))));
+        }
 
 -- after the last turn all pages are packed
-pub above-end : (h : ℕ → ℕ) (cap : ℕ) (l : List ℕ) (a at : ℕ) (m : List ℕ) → Above h cap l a at m → a ≤ 0
-    → (at ≡ 256 * cap - size * length (packed h cap l)) × (m ≡ take at l ++ rowBytes (packed h cap l))
-unfolding packed
-above-end h cap l a at m s z =
+pub above-end : (part : ℕ → List Record) (h : ℕ → ℕ) (cap : ℕ) (l : List ℕ) (top a at : ℕ) (m : List ℕ) → Above part h cap l top a at m → a ≤ 0
+    → let es = taggedFrom h 0 (partsFrom part cap 0) in (at ≡ top - size * length es) × (m ≡ take at l ++ (rowBytes es ++ drop top l))
+above-end part h cap l top a at m s z =
     let y : a ≡ 0 = omega arith in
-    let e : upward h cap l a ≡ taggedFrom h 0 (heldFrom inUse l cap 0) = rw (y, sub-zero) in
+    let e : upward part h cap a ≡ taggedFrom h 0 (partsFrom part cap 0) = rw (y, sub-zero) in
     (rw (← e) (omega (arith, s .begins)), rw (← e) (s .bytes))
+
+-- the pages of an area among them
+pub packed-end : (h : ℕ → ℕ) (cap : ℕ) (source l : List ℕ) (top a at : ℕ) (m : List ℕ) → Above (onPage source) h cap l top a at m → a ≤ 0
+    → (at ≡ top - size * length (packed h cap source)) × (m ≡ take at l ++ (rowBytes (packed h cap source) ++ drop top l))
+unfolding packed
+packed-end h cap source l top a at m s z = rw (parts-held source cap 0) at (above-end (onPage source) h cap l top a at m s z)
+
+-- nothing stands behind the end
+pub none-behind : (v l : List ℕ) (n : ℕ) → length l ≡ n → v ++ drop n l ≡ v
+none-behind v l n e = rw (drop-of-length-le l {i = n} (omega arith)) (append-nil v)

@@ -12,16 +12,16 @@ ghost use mathlib.Core.Path.{_≡_};
 ghost use mathlib.Core.Bool.{not};
 ghost use mathlib.Core.List.{[], _++_, map};
 ghost use Prim.Native.Nat.{ℕ, _+_, _-_, _*_, _/_, _≤_, _<_};
-ghost use lib.ListN.{length, take, drop};
+ghost use lib.ListN.{length, take, drop, getD};
 ghost use lib.Dec.{eqb};
 ghost use Rattle.numbers.specs.Little.{written};
 ghost use Rattle.layouts.specs.Layout.{inUse};
 ghost use Rattle.homes.specs.Homes.{Ready, homeIn};
 ghost use Rattle.homes.specs.steps.NewHomes.{Usable, newHome};
-ghost use Rattle.placing.specs.Image.{RecordSet, cat};
-ghost use Rattle.placing.specs.Lay.{one, lay, taken, Sorted};
+ghost use Rattle.placing.specs.Image.{Distinct, RecordSet, cat};
+ghost use Rattle.placing.specs.Lay.{one, sort, lay, taken, Sorted};
 ghost use Rattle.placing.specs.Rows.{strayed};
-ghost use Rattle.pages.specs.Page.{key, homeFor, padded};
+ghost use Rattle.pages.specs.Page.{key, homeFor};
 ghost use Rattle.pages.specs.steps.Slots.{recordsOf};
 ghost use Rattle.pages.specs.Area.{heldFrom, areaFrom};
 ghost use Rattle.pages.specs.steps.Known.{KnownAt};
@@ -38,7 +38,7 @@ pub struct Took {
 
 // The records of page a with their homes as entries, the last first, downward from `top`; the
 // answer is where they begin.
-fn pack_page(
+pub fn pack_page(
     area: &mut [u8],
     page: Page,
     homes: [u64; 12],
@@ -46,7 +46,7 @@ fn pack_page(
     shape: Shape,
     top: usize,
 ) -> usize
-    requires { ⌜ (page .count ≤ 12) × (a < 4096) × (size * page .count ≤ top) × (top ≤ length (now area)) × Ready shape × (homes ≡ padded (map (homeFor (homeIn shape)) (recordsOf page))) ⌝ }
+    requires { ⌜ (page .count ≤ 12) × (a < 4096) × (size * page .count ≤ top) × (top ≤ length (now area)) × Ready shape × ((i : ℕ) → i < page .count → getD homes i 0 ≡ homeIn shape (getD (page .keys) i 0)) ⌝ }
     ensures { λ r. ⌜ r ≡ top - size * page .count ⌝ }
     ensures { λ r. ⌜ now (area .exit) ≡ written (now (area .entry)) (top - size * page .count) (rowBytes (tagged (homeIn shape) a (recordsOf page))) ⌝ }
 {
@@ -129,6 +129,26 @@ fn strange(from: u16, a: usize) -> u32
     if from as usize == a { 0 } else { 1 }
 }
 
+// All records of another area as entries, in the order of its pages, below what stands from `top` on; the
+// answer is where they begin.
+pub fn pack_below(area: &mut [u8], top: usize, source: &[u8], cap: usize, shape: Shape) -> usize
+    requires { ⌜ (cap ≤ 4096) × (length (now source) ≡ 256 * cap) × Ready shape × (top ≤ length (now area)) × (size * length (packed (homeIn shape) cap (now source)) ≤ top) ⌝ }
+    ensures { λ r. ⌜ r ≡ top - size * length (packed (homeIn shape) cap (now (source .entry))) ⌝ }
+    ensures { λ r. ⌜ now (area .exit) ≡ take r (now (area .entry)) ++ (rowBytes (packed (homeIn shape) cap (now (source .entry))) ++ drop top (now (area .entry))) ⌝ }
+{
+    let mut at = top;
+    let mut a = cap;
+    while 0 < a {
+        a -= 1;
+        let page = pages::parse_at(source, a, IN_USE);
+        let count = page.count;
+        let keys = page.keys;
+        let homes = pages::homes_of(count, keys, shape);
+        at = pack_page(area, page, homes, a, shape, at);
+    }
+    at
+}
+
 // Sorted entries at the top end of an area laid on its pages; the answer is how many came from
 // another page. Where all have room, a page ends below the first entry that is not yet read.
 pub fn unpack(area: &mut [u8], cap: usize, base: usize) -> u32
@@ -150,6 +170,17 @@ pub fn unpack(area: &mut [u8], cap: usize, base: usize) -> u32
     moved
 }
 
+// The entries at the top end of an area sorted and laid on its pages; the answer is how many came from
+// another page. `end` and `apart` say where they stand out of order, as the sorting takes it.
+pub fn lay_anew(area: &mut [u8], cap: usize, base: usize, end: u16, apart: bool) -> u32
+    requires { ⌜ (cap ≤ 4096) × (length (now area) ≡ 256 * cap) × (base ≤ 256 * cap) × (256 * cap ≡ base + size * ((256 * cap - base) / size)) ⌝ }
+    requires { let es = entriesIn (drop base (now area)) in ⌜ Distinct rank es × (taken home slots es cap ≡ length es) ⌝ }
+    ensures { λ r. let ps = lay home slots cap 0 (sort rank (entriesIn (drop base (now (area .entry))))) in ⌜ (r ≡ hopsFrom 0 ps) × (now (area .exit) ≡ areaFrom inUse 0 (map (map recordIn) ps)) ⌝ }
+{
+    entries::sort_row(&mut area[base..], end, apart);
+    unpack(area, cap, base)
+}
+
 // The records of an area laid anew, each at its new home; the answer is how many lie on another
 // page.
 pub fn rebuild(area: &mut [u8], cap: usize, new: NewHomes) -> u32
@@ -159,6 +190,5 @@ pub fn rebuild(area: &mut [u8], cap: usize, new: NewHomes) -> u32
 {
     let base = pack(area, cap, new);
     let apart = (new.apart as u64) < new.shape.p;
-    entries::sort_row(&mut area[base..], new.apart, apart);
-    unpack(area, cap, base)
+    lay_anew(area, cap, base, new.apart, apart)
 }

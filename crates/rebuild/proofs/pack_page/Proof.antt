@@ -3,17 +3,14 @@
 -- It says so of any homes that stand in the row, since the loop doesn't see the shape. The measure
 -- is how many records are left.
 use mathlib.Core.Path.{_≡_, refl, _∙_}
-use mathlib.Core.List.{map}
-use Prim.Native.Nat.{ℕ, _+_, _-_, _*_, _≤_}
+use Prim.Native.Nat.{ℕ, _+_, _-_, _*_, _≤_, _<_}
 use native.Mathlib.Omega.{arith}
 use borrow.Author.Needs.{needs}
-use lib.ListN.{length}
+use lib.ListN.{length, getD}
 use Rattle.numbers.specs.Little.{written}
 use Rattle.entries.specs.steps.Entries.{size}
 use Rattle.homes.specs.Homes.{homeIn}
-use Rattle.pages.specs.Page.{homeFor, padded}
-use Rattle.pages.specs.steps.Slots.{paired, recordsOf}
-use Rattle.pages.proofs.Seeking.{homes-key}
+use Rattle.pages.specs.steps.Slots.{recordsOf}
 use Rattle.rebuild.proofs.Tags.{home-small}
 use Rattle.rebuild.proofs.Packing.{rows, page-turn, page-done}
 use Rattle.rebuild.proofs.pack_page.Statement.{statement}
@@ -22,7 +19,7 @@ use Rattle.rebuild.proofs.pack_page.Tie as tie
 abbrev Inv-loop : tie.InvT-loop
 Inv-loop area₀ a top homes keys values runs at₀ i₀ area at i =
     (i ≤ i₀) × (at ≡ top - size * i₀ + size * i) × (length area ≡ length area₀)
-    × ((h : ℕ → ℕ) → homes ≡ padded (map (homeFor h) (paired i₀ keys values runs))
+    × ((h : ℕ → ℕ) → ((j : ℕ) → j < i₀ → getD homes j 0 ≡ h (getD keys j 0))
     → written area (top - size * i₀) (rows h a i keys values runs) ≡ written area₀ (top - size * i₀) (rows h a i₀ keys values runs))
 
 abbrev μ-loop : tie.MeasureT-loop
@@ -32,12 +29,9 @@ loop-holds : tie.Need-loop-holds Inv-loop μ-loop
 loop-holds c = (omega arith, omega arith, refl, λ h e. refl)
 
 cast-t19 : tie.Need-cast-t19 Inv-loop μ-loop
-unfolding recordsOf
 cast-t19 c =
     let start = c .before .before .before .before .before .before in
-    let p = start .args .page in
-    let is = homes-key (homeIn (start .args .shape)) (p .count) (p .keys) (p .values) (p .runs) _ (start .pre .5) (c .before .loop .i - 1) (omega arith) in
-    record { fits = home-small (start .args .shape) _ _ (start .pre .4) is }
+    record { fits = home-small (start .args .shape) _ _ (start .pre .4) (start .pre .5 (c .before .loop .i - 1) (omega arith)) }
 
 loop-again : tie.Need-loop-again Inv-loop μ-loop
 loop-again c =
@@ -45,11 +39,11 @@ loop-again c =
     let turn = called .before .before in
     let l = turn .before .loop in
     let start = turn .before .before .before .before .before .before in
-    let p = start .args .page in (
+    (
       omega arith,
       omega arith,
       search needs,
-      λ h e. page-turn (l .area) _ h (start .args .a) _ (l .i) _ _ _ _ _ (turn .loop-test .taken) (omega arith) (omega arith) (homes-key h (p .count) (p .keys) (p .values) (p .runs) _ e (l .i - 1) (omega arith)) (called .put-entry .ensures) ∙ l .inv .3 h e,
+      λ h e. page-turn (l .area) _ h (start .args .a) _ (l .i) _ _ _ _ _ (turn .loop-test .taken) (omega arith) (omega arith) (e (l .i - 1) (omega arith)) (called .put-entry .ensures) ∙ l .inv .3 h e,
     )
 
 returns : tie.Need-returns Inv-loop μ-loop

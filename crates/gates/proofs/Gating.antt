@@ -17,9 +17,9 @@ use Rattle.state.specs.Promises.{Ranged}
 use Rattle.state.proofs.Ranges.{ranged}
 use Rattle.gates.specs.declared.Gate.{Gate}
 use Rattle.gates.specs.declared.Gate.the-variants.{Open, Shut}
-use Rattle.gates.specs.Gates.{gateOf, imageGate, checkGate, growEntry, growGate, shrinkEntry, shrinkGate}
+use Rattle.gates.specs.Gates.{gateOf, imageGate, checkGate, rowEntry, mergeGate, growEntry, growGate, shrinkEntry, shrinkGate}
 use Rattle.gates.proofs.Judging.{pages-refuse}
-use Rattle.gates.specs.steps.Past.{OpenFor, OpenImage, Refuses, Whole, EnteredToGrow, EnteredToShrink}
+use Rattle.gates.specs.steps.Past.{OpenFor, OpenImage, Refuses, Whole, EnteredWithRow, OpenWithRow, EnteredToGrow, EnteredToShrink}
 
 module _ (form : Layout) (s : State) (n : ℕ) where
   -- a number out of range
@@ -69,22 +69,63 @@ whole form s area r l (Shut why) k = pages-refuse form s area (ranged form s r .
 pub past-check : (form : Layout) (s : State) (area : List ℕ) (g : Gate) → Whole form s area g → g ≡ Open → OpenImage form s area
 past-check form s area g k e = rw e at k
 
--- what a growth refuses before it looks at a page, with an area of m bytes and a row of n counts
+-- what a call refuses that is lent a row, before it looks at a page
 module _ (form : Layout) (s : State) (m n : ℕ) (g : Gate) (gate : g ≡ gateOf form s m) where
-  -- as every call does
-  pub entry-shut : (why : Answer) → g ≡ Shut why → Shut why ≡ growEntry form s m n
-  entry-shut why e = rw (← gate, e)
+  pub lent-shut : (why : Answer) → g ≡ Shut why → Shut why ≡ rowEntry form s m n
+  lent-shut why e = rw (← gate, e)
 
   module _ (e : g ≡ Open) where
+    pub lent-row : (n ≡ s .cap → ⊥) → Shut WrongRow ≡ rowEntry form s m n
+    lent-row f = rw (← gate, e, ne-eqb n (s .cap) f)
+
+    pub lent-open : n ≡ s .cap → Open ≡ rowEntry form s m n
+    lent-open f = rw (← gate, e, eq-eqb n (s .cap) f)
+
+-- what is known past it
+pub past-row : (form : Layout) (s : State) (m n : ℕ) (g : Gate) → EnteredWithRow form s m n g → g ≡ Open → (inRange form s ≡ true) × (m ≡ 256 * s .cap) × (n ≡ s .cap)
+past-row form s m n g k e = rw e at k
+
+pub row-refuses : (form : Layout) (s : State) (m n : ℕ) (g : Gate) → EnteredWithRow form s m n g → (why : Answer) → g ≡ Shut why → Refuses why
+row-refuses form s m n g k why e = rw e at k
+
+-- what a merge refuses of the file that it goes into: after its entry the pages decide
+module _ (form : Layout) (s : State) (area : List ℕ) (n : ℕ) (g : Gate) (gate : g ≡ rowEntry form s (length area) n) where
+  pub merge-shut : (why : Answer) → g ≡ Shut why → Shut why ≡ mergeGate form s area n
+  unfolding mergeGate
+  merge-shut why e = rw (← gate, e)
+
+  pub merge-pages : g ≡ Open → (i : Gate) → i ≡ imageGate form s area → i ≡ mergeGate form s area n
+  unfolding mergeGate
+  merge-pages e i k = rw (k, ← gate, e)
+
+pub whole-row : (form : Layout) (s : State) (area : List ℕ) (n : ℕ) → (g : Gate) → Whole form s area g → n ≡ s .cap → OpenWithRow form s area n g
+whole-row form s area n Open w e = (w, e)
+whole-row form s area n (Shut why) w e = w
+
+-- what a growth refuses before it looks at a page
+module _ (form : Layout) (s : State) (m n : ℕ) (g : Gate) (gate : g ≡ rowEntry form s m n) where
+  pub grow-shut : (why : Answer) → g ≡ Shut why → Shut why ≡ growEntry form s m n
+  grow-shut why e = rw (← gate, e)
+
+  module _ (e : g ≡ Open) where
+    pub grow-cap : s .p ≡ s .cap → Shut AtCap ≡ growEntry form s m n
+    grow-cap k = rw (← gate, e, eq-eqb (s .p) (s .cap) k)
+
+    pub grow-open : (s .p ≡ s .cap → ⊥) → Open ≡ growEntry form s m n
+    grow-open k = rw (← gate, e, ne-eqb (s .p) (s .cap) k)
+
+-- the same, with an area of m bytes and a row of n counts
+module _ (form : Layout) (s : State) (m n : ℕ) (g : Gate) (gate : g ≡ gateOf form s m) where
+  module _ (e : g ≡ Open) where
     -- a row of another length
-    pub entry-row : (n ≡ s .cap → ⊥) → Shut WrongRow ≡ growEntry form s m n
+    entry-row : (n ≡ s .cap → ⊥) → Shut WrongRow ≡ growEntry form s m n
     entry-row f = rw (← gate, e, ne-eqb n (s .cap) f)
 
     -- no page to grow to
-    pub entry-cap : n ≡ s .cap → s .p ≡ s .cap → Shut AtCap ≡ growEntry form s m n
+    entry-cap : n ≡ s .cap → s .p ≡ s .cap → Shut AtCap ≡ growEntry form s m n
     entry-cap f k = rw (← gate, e, eq-eqb n (s .cap) f, eq-eqb (s .p) (s .cap) k)
 
-    pub entry-open : n ≡ s .cap → (s .p ≡ s .cap → ⊥) → Open ≡ growEntry form s m n
+    entry-open : n ≡ s .cap → (s .p ≡ s .cap → ⊥) → Open ≡ growEntry form s m n
     entry-open f k = rw (← gate, e, eq-eqb n (s .cap) f, ne-eqb (s .p) (s .cap) k)
 
 -- what is known past them

@@ -40,9 +40,17 @@ imageGate f s area = imageOf s (surveyed f (homes s) area (s .cap))
 unfoldable pub checkGate : Layout → State → List ℕ → Gate
 checkGate f s area = onGate (gateOf f s (length area)) Shut (imageGate f s area)
 
--- "Grow 1, 2, 3, 8", with an area of m bytes and a row of n counts
+-- 1, 2 and then "3 row isn't cap counts", with an area of m bytes and a row of n counts
+abbrev pub rowEntry : Layout → State → (m n : ℕ) → Gate
+rowEntry f s m n = onGate (gateOf f s m) Shut (cond (eqb n (s .cap)) Open (Shut WrongRow))
+
+-- 02, request 9: "the living file's 1 and 2, its row's 3, its 4 and 9"
+unfoldable pub mergeGate : Layout → State → List ℕ → (n : ℕ) → Gate
+mergeGate f s area n = onGate (rowEntry f s (length area) n) Shut (imageGate f s area)
+
+-- "Grow 1, 2, 3, 8"
 abbrev pub growEntry : Layout → State → (m n : ℕ) → Gate
-growEntry f s m n = onGate (gateOf f s m) Shut (cond (eqb n (s .cap)) (cond (eqb (s .p) (s .cap)) (Shut AtCap) Open) (Shut WrongRow))
+growEntry f s m n = onGate (rowEntry f s m n) Shut (cond (eqb (s .p) (s .cap)) (Shut AtCap) Open)
 
 -- then "4, 9"
 unfoldable pub growGate : Layout → State → List ℕ → (n : ℕ) → Gate

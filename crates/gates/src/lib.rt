@@ -9,8 +9,8 @@ ghost use Prim.Native.Nat.{ℕ, _*_, _<_};
 ghost use lib.ListN.{length};
 ghost use Rattle.state.specs.State.{inRange};
 ghost use Rattle.survey.specs.declared.Verdict.the-variants as verdicts;
-ghost use Rattle.gates.specs.Gates.{gateOf, imageOf, imageGate, checkGate, growEntry, shrinkEntry};
-ghost use Rattle.gates.specs.steps.Past.{OpenFor, Whole, EnteredToGrow, EnteredToShrink};
+ghost use Rattle.gates.specs.Gates.{gateOf, imageOf, imageGate, checkGate, rowEntry, mergeGate, growEntry, shrinkEntry};
+ghost use Rattle.gates.specs.steps.Past.{OpenFor, Whole, EnteredWithRow, OpenWithRow, EnteredToGrow, EnteredToShrink};
 
 // Whether a call may go on, or why not.
 pub enum Gate {
@@ -91,10 +91,10 @@ pub fn check_gate(state: State, area: &[u8], layout: u8) -> Gate
     }
 }
 
-// What a growth refuses before it looks at a page, with an area of m bytes and a row of n counts.
-pub fn grow_entry(state: State, m: usize, n: usize, layout: u8) -> Gate
-    ensures { λ r. ⌜ r ≡ growEntry layout state m n ⌝ }
-    ensures within { λ r. ⌜ EnteredToGrow layout state m n r ⌝ }
+// What a call refuses before it looks at a page that is lent an area of m bytes and a row of n counts.
+fn row_entry(state: State, m: usize, n: usize, layout: u8) -> Gate
+    ensures { λ r. ⌜ r ≡ rowEntry layout state m n ⌝ }
+    ensures within { λ r. ⌜ EnteredWithRow layout state m n r ⌝ }
 {
     let gate = enter(state, m, layout);
     match gate {
@@ -105,6 +105,32 @@ pub fn grow_entry(state: State, m: usize, n: usize, layout: u8) -> Gate
                     why: Answer::WrongRow,
                 };
             }
+            Gate::Open
+        }
+    }
+}
+
+// What a merge refuses of the file that it goes into, with a row of n counts.
+pub fn merge_gate(state: State, area: &[u8], n: usize, layout: u8) -> Gate
+    ensures { λ r. ⌜ r ≡ mergeGate layout state (now (area .entry)) n ⌝ }
+    ensures within { λ r. ⌜ OpenWithRow layout state (now (area .entry)) n r ⌝ }
+{
+    let gate = row_entry(state, area.len(), n, layout);
+    match gate {
+        Gate::Shut { why } => Gate::Shut { why },
+        Gate::Open => image_gate(state, area, layout),
+    }
+}
+
+// What a growth refuses before it looks at a page.
+pub fn grow_entry(state: State, m: usize, n: usize, layout: u8) -> Gate
+    ensures { λ r. ⌜ r ≡ growEntry layout state m n ⌝ }
+    ensures within { λ r. ⌜ EnteredToGrow layout state m n r ⌝ }
+{
+    let gate = row_entry(state, m, n, layout);
+    match gate {
+        Gate::Shut { why } => Gate::Shut { why },
+        Gate::Open => {
             if state.p == state.cap {
                 return Gate::Shut { why: Answer::AtCap };
             }

@@ -155,6 +155,11 @@ rows-below l v w at to h e =
     let t : length (take at l) ≡ at = length-take-le at l h in
     rw (e, take-append-le to (take at l) w (omega arith), take-take to at l (omega arith), drop-at (take at l) w at t)
 
+-- a page in memory has as many records as it says
+pub records-count : (p : Page) → length (recordsOf p) ≡ p .count
+unfolding recordsOf
+records-count p = paired-length (p .count) (p .keys) (p .values) (p .runs)
+
 -- one page more
 upward-more : (part : ℕ → List Record) (h : ℕ → ℕ) (cap a : ℕ) → 0 < a → a ≤ cap → upward part h cap (a - 1) ≡ tagged h (a - 1) (part (a - 1)) ++ upward part h cap a
 upward-more part h cap a z k =
@@ -174,7 +179,10 @@ upward-room part h n a = go a 0 (omega arith)
 
 -- a turn packs the next page below, which has room
 module _ (part : ℕ → List Record) (h : ℕ → ℕ) (cap : ℕ) (l : List ℕ) (top a at : ℕ) (m : List ℕ) (n : top ≤ length l) (s : Above part h cap l top a at m) (z : 0 < a)
-    (p : Page) (e : p ≡ inMemory (part (a - 1))) where
+    (p : Page) (is : recordsOf p ≡ part (a - 1)) where
+  many : p .count ≡ length (part (a - 1))
+  many = sym (records-count p) ∙ ap length is
+
   sum : length (upward part h cap (a - 1)) ≡ length (part (a - 1)) + length (upward part h cap a)
   sum = rw (upward-more part h cap a z (s .within)) (omega (arith, length-append (tagged h (a - 1) (part (a - 1))) (upward part h cap a), tagged-length h (a - 1) (part (a - 1))))
 
@@ -182,21 +190,20 @@ module _ (part : ℕ → List Record) (h : ℕ → ℕ) (cap : ℕ) (l : List �
   turn-room all =
       let q : a - 1 + (cap - (a - 1)) ≡ cap = omega (arith, s .within) in
       let most : length (upward part h cap (a - 1)) ≤ length (taggedFrom h 0 (partsFrom part cap 0)) = rw q at (upward-room part h (cap - (a - 1)) (a - 1)) in
-      omega (arith, all, most, sum, s .begins, page-count p (part (a - 1)) e)
+      omega (arith, all, most, sum, s .begins, many)
 
   module _ (to : ℕ) (k : List ℕ) (fits : size * p .count ≤ at) (f : to ≡ at - size * p .count)
       (g : k ≡ written m (at - size * p .count) (rowBytes (tagged h (a - 1) (recordsOf p)))) where
     pub above-turn : Above part h cap l top (a - 1) to k
     above-turn =
-        let many : p .count ≡ length (part (a - 1)) = page-count p (part (a - 1)) e in
         record {
           within = omega (arith, s .within);
-          begins = omega (arith, s .begins, sum);
+          begins = omega (arith, s .begins, sum, many);
           bytes =
               g
-              ∙ rw (← f, page-records p (part (a - 1)) e, s .bytes, upward-more part h cap a z (s .within), row-append (tagged h (a - 1) (part (a - 1))) (upward part h cap a), append-assoc)
+              ∙ rw (← f, is, s .bytes, upward-more part h cap a z (s .within), row-append (tagged h (a - 1) (part (a - 1))) (upward part h cap a), append-assoc)
               (rows-below l (rowBytes (tagged h (a - 1) (part (a - 1)))) (rowBytes (upward part h cap a) ++ drop top l) at to (omega (arith, s .begins))
-              (omega (arith, row-length (tagged h (a - 1) (part (a - 1))), tagged-length h (a - 1) (part (a - 1)))));
+              (omega (arith, many, row-length (tagged h (a - 1) (part (a - 1))), tagged-length h (a - 1) (part (a - 1)))));
         }
 
 -- after the last turn all pages are packed

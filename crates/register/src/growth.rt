@@ -32,18 +32,6 @@ fn judge(state: State, new: NewHomes, area: &[u8], counts: &mut [u32]) -> Gate
     gates::image_of(state, verdict)
 }
 
-// The counts into the row.
-fn fill_row(row: &mut [u32], counts: &[u32])
-    requires { ⌜ length (now row) ≡ length (now counts) ⌝ }
-    ensures { λ _. ⌜ now (row .exit) ≡ now (counts .entry) ⌝ }
-{
-    let mut i = 0;
-    while i < row.len() {
-        row[i] = counts[i];
-        i += 1;
-    }
-}
-
 // A growth of a file that is an image, with the row filled: it decides whether there is room.
 fn grow_filled(state: State, next: State, new: NewHomes, area: &mut [u8], row: &[u32]) -> Done
     requires { ⌜ OpenImage inUse state (now area) × Rehomes state new × (new .shape ≡ shapeOf (next .params) (next .p)) ⌝ }
@@ -71,7 +59,7 @@ fn grow_counting(state: State, area: &mut [u8], row: &mut [u32], counts: &mut [u
     match gate {
         Gate::Shut { why } => Done { state, answer: why },
         Gate::Open => {
-            fill_row(row, &counts[..]);
+            survey::fill_row(row, &counts[..]);
             grow_filled(state, next, new, area, &row[..])
         }
     }

@@ -52,12 +52,12 @@ one-more row j k l = go (eqb j k) refl
     go false e = getD-set-other row j k (getD row j 0 + 1) 0 (λ q. eqb-false j k e (sym q)) ∙ omega arith
 
 -- a tally leaves the row as long as it is
-tally-length : (hs row : List ℕ) → length (tallied hs row) ≡ length row
+pub tally-length : (hs row : List ℕ) → length (tallied hs row) ≡ length row
 tally-length [] row = refl
 tally-length (j ∷ hs) row = tally-length hs (set row j (getD row j 0 + 1)) ∙ length-set row j (getD row j 0 + 1)
 
 -- some homes, and then others
-tally-append : (hs gs row : List ℕ) → tallied (hs ++ gs) row ≡ tallied gs (tallied hs row)
+pub tally-append : (hs gs row : List ℕ) → tallied (hs ++ gs) row ≡ tallied gs (tallied hs row)
 tally-append [] gs row = refl
 tally-append (j ∷ hs) gs row = tally-append hs gs (set row j (getD row j 0 + 1))
 
@@ -67,7 +67,7 @@ tally-at [] row k l = omega arith
 tally-at (j ∷ hs) row k l = tally-at hs (set row j (getD row j 0 + 1)) k (rw length-set l) ∙ omega (arith, one-more row j k l)
 
 -- and no place has more than all of them more
-tally-le : (hs row : List ℕ) (k : ℕ) → getD (tallied hs row) k 0 ≤ getD row k 0 + length hs
+pub tally-le : (hs row : List ℕ) (k : ℕ) → getD (tallied hs row) k 0 ≤ getD row k 0 + length hs
 tally-le hs row k = go (ltb k (length row)) refl
   where
     go : (u : Bool) → ltb k (length row) ≡ u → getD (tallied hs row) k 0 ≤ getD row k 0 + length hs
@@ -123,7 +123,7 @@ module _ {R : Type 0} (home : R → ℕ) where
   at-homes (x ∷ s) k = rw (at-homes s k)
 
   -- from zeros the tally of all homes is the row of counts
-  tally-counts : (s : List R) (n : ℕ) → tallied (map home s) (replicate n 0) ≡ counts home s n 0
+  pub tally-counts : (s : List R) (n : ℕ) → tallied (map home s) (replicate n 0) ≡ counts home s n 0
   tally-counts s n =
       ext-getD 0 (tallied (map home s) (replicate n 0)) (counts home s n 0) (m ∙ sym (counts-length home s n 0)) (λ k l. at k (omega (arith, m)))
     where

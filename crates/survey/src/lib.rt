@@ -176,3 +176,15 @@ pub fn has_room(row: &[u32], layout: u8) -> bool
     }
     over == 0
 }
+
+// Counts into a row that is lent for them.
+pub fn fill_row(row: &mut [u32], counts: &[u32])
+    requires { ⌜ length (now row) ≡ length (now counts) ⌝ }
+    ensures { λ _. ⌜ now (row .exit) ≡ now (counts .entry) ⌝ }
+{
+    let mut i = 0;
+    while i < row.len() {
+        row[i] = counts[i];
+        i += 1;
+    }
+}

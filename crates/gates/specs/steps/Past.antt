@@ -32,6 +32,16 @@ abbrev pub Whole : Layout → State → List ℕ → Gate → Type 0
 Whole f s area Open = OpenImage f s area
 Whole f s area (Shut why) = Refuses why
 
+-- what is known past the entry of a call that is lent a row
+abbrev pub EnteredWithRow : Layout → State → (m n : ℕ) → Gate → Type 0
+EnteredWithRow f s m n Open = (inRange f s ≡ true) × (m ≡ 256 * s .cap) × (n ≡ s .cap)
+EnteredWithRow f s m n (Shut why) = Refuses why
+
+-- what is known past the gate of a merge
+abbrev pub OpenWithRow : Layout → State → List ℕ → (n : ℕ) → Gate → Type 0
+OpenWithRow f s area n Open = OpenImage f s area × (n ≡ s .cap)
+OpenWithRow f s area n (Shut why) = Refuses why
+
 -- what is known past the entry of a growth, before its image is judged
 abbrev pub EnteredToGrow : Layout → State → (m n : ℕ) → Gate → Type 0
 EnteredToGrow f s m n Open = (inRange f s ≡ true) × (m ≡ 256 * s .cap) × (n ≡ s .cap) × (s .p < s .cap)

@@ -12,6 +12,7 @@ use Rattle.homes.specs.steps.NewHomes.{newHome}
 use Rattle.pages.specs.Page.{inMemory, recordsIn}
 use Rattle.pages.specs.steps.Slots.{recordsOf}
 use Rattle.pages.proofs.Homing.{homes-page}
+use Rattle.pages.proofs.Memory.{page-records}
 use Rattle.pages.proofs.Read.{held-few}
 use Rattle.pages.proofs.Seeking.{homes-key}
 use Rattle.entries.specs.steps.Entries.{size, rowBytes}
@@ -95,7 +96,7 @@ loop-again c =
     let turn = read .before .before in
     let t = turn .before in
     let start = t .before .before in
-    above-turn _ _ _ (now (start .args .area)) _ (t .loop .a) (t .loop .at) (t .loop .area) (omega (arith, start .pre .1)) (t .loop .inv) (turn .loop-test .taken) (read .parse-at .result) (held read) _ _ (room read)
+    above-turn _ _ _ (now (start .args .area)) _ (t .loop .a) (t .loop .at) (t .loop .area) (omega (arith, start .pre .1)) (t .loop .inv) (turn .loop-test .taken) (read .parse-at .result) (page-records _ _ (held read)) _ _ (room read)
     (called .pack-page .ensures .0) (called .pack-page .ensures .1)
 
 same-length : tie.Need-same-length Inv-loop μ-loop

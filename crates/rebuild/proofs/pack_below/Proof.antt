@@ -7,6 +7,7 @@ use borrow.Author.Needs.{needs}
 use lib.ListN.{length}
 use denote.Ref.{now}
 use Rattle.homes.specs.Homes.{homeIn}
+use Rattle.pages.proofs.Memory.{page-records}
 use Rattle.entries.specs.steps.Entries.{size}
 use Rattle.rebuild.specs.steps.Rebuild.{packed}
 use Rattle.rebuild.proofs.Tags.{page-few}
@@ -47,7 +48,7 @@ room c =
     let turn = c .before in
     let t = turn .before in
     let start = t .before .before .before in
-    turn-room _ _ _ (now (start .args .area)) _ _ _ (t .loop .area) (start .pre .3) (t .loop .inv) (turn .loop-test .taken) _ (c .parse-at .ensures)
+    turn-room _ _ _ (now (start .args .area)) _ _ _ (t .loop .area) (start .pre .3) (t .loop .inv) (turn .loop-test .taken) _ (page-records _ _ (c .parse-at .ensures))
     (rw (parts-held (now (start .args .source)) (start .args .cap) 0) (start .pre .4))
 
 pack-page-requires : tie.Need-pack-page-requires Inv-loop μ-loop
@@ -70,7 +71,7 @@ loop-again c =
     let turn = read .before in
     let t = turn .before in
     let start = t .before .before .before in
-    above-turn _ _ _ (now (start .args .area)) _ (t .loop .a) (t .loop .at) (t .loop .area) (start .pre .3) (t .loop .inv) (turn .loop-test .taken) (read .parse-at .result) (read .parse-at .ensures) _ _ (room read)
+    above-turn _ _ _ (now (start .args .area)) _ (t .loop .a) (t .loop .at) (t .loop .area) (start .pre .3) (t .loop .inv) (turn .loop-test .taken) (read .parse-at .result) (page-records _ _ (read .parse-at .ensures)) _ _ (room read)
     (called .pack-page .ensures .0) (called .pack-page .ensures .1)
 
 same-length : tie.Need-same-length Inv-loop μ-loop

@@ -7,7 +7,7 @@ look-requires : tie.Need-look-requires
 look-requires c κs =
     let s = c .before in
     let w = s .pre .0 in
-    (w .few, w .long, w .ready, w .grown, s .pre .1)
+    (w .few, w .long, w .ready, w .grown, s .pre .1, w .image)
 
 returns : tie.Need-returns
 unfolding look

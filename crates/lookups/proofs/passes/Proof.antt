@@ -1,4 +1,4 @@
--- `lookups::ends_on` meets its contract: of a full page the last record decides.
+-- `lookups::passes` meets its contract: of a full page the last record decides.
 use denote.Ref.{now}
 use mathlib.Core.Path.{_∙_}
 use Prim.Native.Nat.{_-_, _<_}
@@ -10,16 +10,16 @@ use Rattle.homes.specs.Homes.{homeIn}
 use Rattle.placing.specs.Lay.{ranked}
 use Rattle.pages.specs.Page.{countIn}
 use Rattle.pages.proofs.Read.{slot-lies}
-use Rattle.lookups.proofs.Looking.{ends-short, ends-last}
-use Rattle.lookups.proofs.ends_on.Statement.{statement}
-use Rattle.lookups.proofs.ends_on.Tie as tie
+use Rattle.lookups.proofs.Looking.{passes-short, passes-last}
+use Rattle.lookups.proofs.passes.Statement.{statement}
+use Rattle.lookups.proofs.passes.Tie as tie
 
 returns : tie.Need-returns
 returns c =
     let n = c .before in
     let l = n .before in
     let a = l .before .before .args in
-    ends-short (a .layout) (homeIn (a .shape)) (now (a .part)) (ranked (a .home) (a .sought)) _ (n .count-in .ensures) (omega (arith, l .slots .ensures .0, c .if1 .taken))
+    passes-short (a .layout) (homeIn (a .shape)) (now (a .part)) (ranked (a .home) (a .sought)) _ (n .count-in .ensures) (omega (arith, l .slots .ensures .0, c .if1 .taken))
 
 sub-slot-at : tie.Need-sub-slot-at
 sub-slot-at c =
@@ -50,12 +50,12 @@ returns-2 c =
     let n = e .before in
     let l = n .before in
     let a = l .before .before .args in
-    ends-last (a .layout) (homeIn (a .shape)) (now (a .part)) (ranked (a .home) (a .sought)) _ (n .count-in .ensures)
+    passes-last (a .layout) (homeIn (a .shape)) (now (a .part)) (ranked (a .home) (a .sought)) _ (n .count-in .ensures)
     (omega (arith, l .slots .ensures .0, e .if1 .left)) (omega (arith, slots-few (a .layout))) _
     (g .get .ensures ∙ rw (g .before .slot-at .ensures, l .slots .ensures .0)) _ (c .before2 .ensures ∙ rw (c .before .home .ensures))
 
-pub ends-on-spec : {M : Type 1} → statement M
-ends-on-spec =
+pub passes-spec : {M : Type 1} → statement M
+passes-spec =
     tie.close
     (tie.spec
     (λ c κs. search needs)

@@ -8,8 +8,7 @@ use native.Mathlib.Nat.{add-zero, zero-add}
 use native.Mathlib.Numerals.{add-one}
 use native.Mathlib.Omega.{arith}
 use lib.Dec.{eqb}
-use lib.ListN.{length, drop, getD, length-append, length-map}
-use lib.Seq.{getD-drop}
+use lib.ListN.{length, getD, length-append, length-map}
 use Rattle.layouts.specs.Layout.{inUse}
 use Rattle.placing.specs.Image.{cat}
 use Rattle.placing.specs.Lay.{one, count}
@@ -18,7 +17,7 @@ use Rattle.pages.specs.Page.{Record, key, value, recordWith, inMemory, recordsI
 use Rattle.pages.specs.steps.Slots.{paired, recordsOf}
 use Rattle.pages.specs.Area.{partAt, heldFrom}
 use Rattle.pages.proofs.Memory.{page-records, page-count}
-use Rattle.pages.proofs.Seeking.{paired-length}
+use Rattle.pages.proofs.Seeking.{paired-length, paired-turn}
 use Rattle.pages.proofs.Read.{held-twelve}
 use Rattle.entries.specs.steps.Entries.{size}
 use Rattle.sites.specs.Held.{same}
@@ -105,18 +104,6 @@ passes-one first look x o e kind k row at row₁ r a b f g =
     record { tally = rw (n, c, d); rows = r ∙ rw (n, k, m .entries) }
 
 -- the records of a page's rows, one more
-paired-more : (n : ℕ) (ks vs us : List ℕ) → paired (suc n) ks vs us ≡ paired n ks vs us ++ (recordWith (getD ks n 0) (getD vs n 0) (getD us n 0) ∷ [])
-paired-more zero ks vs us = refl
-paired-more (suc n) ks vs us =
-    let q : 1 + n ≡ suc n = omega arith in
-    let k = getD-drop 1 ks n 0 in
-    let v = getD-drop 1 vs n 0 in
-    let u = getD-drop 1 us n 0 in
-    ap (λ (s : List Record). recordWith (getD ks 0 0) (getD vs 0 0) (getD us 0 0) ∷ s) (paired-more n (drop 1 ks) (drop 1 vs) (drop 1 us) ∙ rw (k, v, u, q))
-
-paired-turn : (ks vs us : List ℕ) (i : ℕ) → paired i ks vs us ++ (recordWith (getD ks i 0) (getD vs i 0) (getD us i 0) ∷ []) ≡ paired (i + 1) ks vs us
-paired-turn ks vs us i = sym (ap (λ (n : ℕ). paired n ks vs us) (add-one i) ∙ paired-more i ks vs us)
-
 module _ {first : Bool} {look : ℕ → Option Record} (ks vs us : List ℕ) (i : ℕ) {row₀ : List ℕ} {at : ℕ} {t : Tally} {row : List ℕ} (w : Passes first look (paired i ks vs us) row₀ at t row) where
   pub page-few : t .absent + t .unlike ≤ i
   page-few = omega (arith, passes-few w, paired-length i ks vs us)
@@ -124,7 +111,7 @@ module _ {first : Bool} {look : ℕ → Option Record} (ks vs us : List ℕ) (i 
   pub page-turn : {to : ℕ} {u : Tally} {row₁ : List ℕ} → to ≡ at + size * (t .absent + t .unlike) → Passes first look (recordWith (getD ks i 0) (getD vs i 0) (getD us i 0) ∷ []) row to u row₁
       → Passes first look (paired (i + 1) ks vs us) row₀ at (tallyOf (t .absent + u .absent) (t .unlike + u .unlike)) row₁
   page-turn {to} {u} {row₁} e v =
-      subst (λ (rs : List Record). Passes first look rs row₀ at (tallyOf (t .absent + u .absent) (t .unlike + u .unlike)) row₁) (paired-turn ks vs us i) (passes-more w e v)
+      subst (λ (rs : List Record). Passes first look rs row₀ at (tallyOf (t .absent + u .absent) (t .unlike + u .unlike)) row₁) (sym (paired-turn i ks vs us)) (passes-more w e v)
 
   pub page-end : (n : ℕ) → i ≡ n → Passes first look (paired n ks vs us) row₀ at t row
   page-end n e = subst (λ (j : ℕ). Passes first look (paired j ks vs us) row₀ at t row) e w

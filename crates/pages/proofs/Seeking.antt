@@ -1,13 +1,14 @@
 -- The order of (home, key) as one number, and the records of a page's rows by their keys.
 use mathlib.Core.Path.{_≡_, refl, sym, ap, _∙_}
 use mathlib.Core.Bool.{Bool, true, false, _&&_, _||_}
-use mathlib.Core.List.{List, [], _∷_, map}
-use Prim.Native.Nat.{ℕ, zero, suc, _-_, _^_, _<_}
+use mathlib.Core.List.{List, [], _∷_, _++_, map}
+use Prim.Native.Nat.{ℕ, zero, suc, _+_, _-_, _^_, _<_}
+use native.Mathlib.Numerals.{add-one}
 use native.Mathlib.Omega.{arith}
 use borrow.Author.Tests.{ltb-true, ltb-false, eqb-true, eqb-false, lt-ltb, le-ltb}
 use lib.Dec.{eqb, ltb}
 use lib.ListN.{length, drop, getD}
-use Rattle.pages.specs.Page.{key, vacant, homeFor, padded}
+use Rattle.pages.specs.Page.{recordWith, key, vacant, homeFor, padded}
 use Rattle.placing.specs.Lay.{ranked}
 use Rattle.pages.specs.steps.Slots.{paired}
 use Rattle.pages.proofs.Rows.{row-at}
@@ -32,7 +33,15 @@ getD-tail : (l : List ℕ) (j : ℕ) → getD (drop 1 l) j 0 ≡ getD l (suc j) 
 getD-tail [] j = refl
 getD-tail (x ∷ l) j = refl
 
--- and each has its key from the row
+-- one record more
+pub paired-last : (n : ℕ) (ks vs us : List ℕ) → paired (suc n) ks vs us ≡ paired n ks vs us ++ (recordWith (getD ks n 0) (getD vs n 0) (getD us n 0) ∷ [])
+paired-last zero ks vs us = refl
+paired-last (suc n) ks vs us = rw (paired-last n (drop 1 ks) (drop 1 vs) (drop 1 us), getD-tail ks n, getD-tail vs n, getD-tail us n)
+
+pub paired-turn : (n : ℕ) (ks vs us : List ℕ) → paired (n + 1) ks vs us ≡ paired n ks vs us ++ (recordWith (getD ks n 0) (getD vs n 0) (getD us n 0) ∷ [])
+paired-turn n ks vs us = rw (add-one n) (paired-last n ks vs us)
+
+-- each has its key from the row
 pub paired-key : (n : ℕ) (ks vs us : List ℕ) (j : ℕ) → j < n → key (getD (paired n ks vs us) j vacant) ≡ getD ks j 0
 paired-key zero ks vs us j h = absurd (omega arith)
 paired-key (suc n) ks vs us zero h = refl

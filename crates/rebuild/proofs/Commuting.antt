@@ -15,7 +15,7 @@ use Rattle.pages.specs.Page.{Record, key, homeFor}
 use Rattle.entries.specs.declared.Entry.{Entry}
 use Rattle.entries.specs.steps.Entries.{rank, home}
 use Rattle.pages.proofs.Rows.{map-take}
-use Rattle.rebuild.specs.Relaid.{relaid}
+use Rattle.rebuild.specs.Relaid.{laidOut, relaid}
 use Rattle.rebuild.specs.steps.Rebuild.{slots, tagged, taggedFrom, recordIn}
 
 module _ {A B : Type 0} (f : A → B) where
@@ -73,7 +73,7 @@ module _ (h : ℕ → ℕ) where
       go true ih = refl
       go false ih = ap (λ (s : List Record). recordIn f ∷ s) ih
 
-  pub sort-records : (es : List Entry) → All (Right h) es → map recordIn (sort rank es) ≡ sort (rankIn key h) (map recordIn es)
+  sort-records : (es : List Entry) → All (Right h) es → map recordIn (sort rank es) ≡ sort (rankIn key h) (map recordIn es)
   sort-records [] k = refl
   sort-records (e ∷ es) k =
       ins-records e (sort rank es) (k .0) (all-sort (Right h) rank es (k .1))
@@ -83,7 +83,7 @@ module _ (h : ℕ → ℕ) where
   upTo-records a [] k = refl
   upTo-records a (e ∷ es) k = rw (k .0, upTo-records a es (k .1))
 
-  pub lay-records : (b n a : ℕ) (es : List Entry) → All (Right h) es → map (map recordIn) (lay home b n a es) ≡ lay (homeFor h) b n a (map recordIn es)
+  lay-records : (b n a : ℕ) (es : List Entry) → All (Right h) es → map (map recordIn) (lay home b n a es) ≡ lay (homeFor h) b n a (map recordIn es)
   lay-records b zero a es k = refl
   lay-records b (suc n) a es k =
       let t : ℕ = min b (upTo (homeFor h) a (map recordIn es)) in
@@ -105,14 +105,15 @@ module _ (h : ℕ → ℕ) where
   pub distinct-records : (es : List Entry) → All (Right h) es → RecordSet key (map recordIn es) → Distinct rank es
   distinct-records es k f = ranks-records es k (distinct-rank key h (map recordIn es) f)
 
+  -- in order of rank they are laid as their records are
+  pub entries-laid : (es : List Entry) → All (Right h) es → (n : ℕ) → map (map recordIn) (lay home slots n 0 (sort rank es)) ≡ laidOut slots h n (map recordIn es)
+  entries-laid es k n = lay-records slots n 0 (sort rank es) (all-sort (Right h) rank es k) ∙ rw (sort-records es k)
+
 -- the same of the entries of pages
 module _ (h : ℕ → ℕ) (ps : List (List Record)) where
-  -- in order of rank they are laid as the records are
   pub pages-relaid : (n : ℕ) → map (map recordIn) (lay home slots n 0 (sort rank (taggedFrom h 0 ps))) ≡ relaid slots h n ps
   unfolding relaid
-  pages-relaid n =
-      lay-records h slots n 0 (sort rank (taggedFrom h 0 ps)) (all-sort (Right h) rank (taggedFrom h 0 ps) (pages-right h 0 ps))
-      ∙ rw (sort-records h (taggedFrom h 0 ps) (pages-right h 0 ps), pages-records h 0 ps)
+  pages-relaid n = entries-laid h (taggedFrom h 0 ps) (pages-right h 0 ps) n ∙ rw (pages-records h 0 ps)
 
   pub pages-distinct : RecordSet key (cat ps []) → Distinct rank (taggedFrom h 0 ps)
   pages-distinct f = distinct-records h (taggedFrom h 0 ps) (pages-right h 0 ps) (rw (pages-records h 0 ps) f)

@@ -14,7 +14,7 @@ use Rattle.pages.proofs.Bounds.{part-small}
 use Rattle.entries.proofs.Entries.{SizedEntry}
 use Rattle.rebuild.specs.steps.Rebuild.{tagged, taggedFrom}
 
-tagged-fit : (h : ℕ → ℕ) (a : ℕ) (p : List Record) → ((k : ℕ) → h k < 2 ^ 16) → a < 2 ^ 16 → All (Small inUse) p → All SizedEntry (tagged h a p)
+pub tagged-fit : (h : ℕ → ℕ) (a : ℕ) (p : List Record) → ((k : ℕ) → h k < 2 ^ 16) → a < 2 ^ 16 → All (Small inUse) p → All SizedEntry (tagged h a p)
 tagged-fit h a [] low l k = tt
 tagged-fit h a (x ∷ p) low l k = (record { home = low (key x); from = l; held = k .0 }, tagged-fit h a p low l (k .1))
 

@@ -6,18 +6,17 @@ use Prim.Native.Nat.{ℕ, zero, suc, _+_, _-_, _*_, _≤_, _<_}
 use native.Mathlib.Nat.{add-assoc, zero-add, sub-self, sub-zero}
 use native.Mathlib.Omega.{arith}
 use lib.ListN.{length, take, drop, getD, length-append, length-take, length-drop, take-append-drop, drop-of-length-le}
-use lib.Seq.{take-take, drop-at, take-append-le, drop-append-le, length-take-le, getD-drop}
+use lib.Seq.{take-take, drop-at, take-append-le, drop-append-le, length-take-le}
 use Rattle.numbers.specs.Little.{written}
 use Rattle.numbers.proofs.Laws.{written-nil}
 use Rattle.layouts.specs.Layout.{inUse}
 use Rattle.homes.specs.declared.new_homes.NewHomes.{NewHomes}
 use Rattle.pages.specs.declared.Page.{Page}
-use Rattle.pages.specs.Page.{Record, recordWith, recordsIn, inMemory}
+use Rattle.pages.specs.Page.{Record, recordWith, recordsIn}
 use Rattle.pages.specs.steps.Slots.{paired, recordsOf}
 use Rattle.pages.specs.Area.{partAt, heldFrom}
 use Rattle.pages.specs.steps.Known.{KnownAt}
-use Rattle.pages.proofs.Memory.{page-count, page-records}
-use Rattle.pages.proofs.Seeking.{paired-length}
+use Rattle.pages.proofs.Seeking.{paired-length, paired-last}
 use Rattle.entries.specs.declared.Entry.{Entry}
 use Rattle.entries.specs.steps.Entries.{size, entryBytes, rowBytes}
 use Rattle.entries.proofs.Rows.{row-length, row-append}
@@ -38,13 +37,6 @@ written-before l at v w h =
       add-assoc,
       append-assoc,
     )
-
--- one record more of a page's rows
-paired-last : (n : ℕ) (ks vs us : List ℕ) → paired (suc n) ks vs us ≡ paired n ks vs us ++ (recordWith (getD ks n 0) (getD vs n 0) (getD us n 0) ∷ [])
-paired-last zero ks vs us = refl
-paired-last (suc n) ks vs us =
-    let q : 1 + n ≡ suc n = omega arith in
-    rw (paired-last n (drop 1 ks) (drop 1 vs) (drop 1 us), getD-drop 1 ks n 0, getD-drop 1 vs n 0, getD-drop 1 us n 0, q)
 
 -- the bytes of the entries of the first n records of a page's rows
 abbrev pub rows : (ℕ → ℕ) → (a n : ℕ) → (ks vs us : List ℕ) → List ℕ

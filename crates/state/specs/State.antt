@@ -51,6 +51,10 @@ oneMore s = record { params = s .params; p = s .p; cap = s .cap; r = s .r + 1 }
 abbrev pub oneLess : State → State
 oneLess s = record { params = s .params; p = s .p; cap = s .cap; r = s .r - 1 }
 
+-- with so many records held
+abbrev pub holding : State → (r : ℕ) → State
+holding s r = record { params = s .params; p = s .p; cap = s .cap; r = r }
+
 -- "one page more"
 abbrev pub grown : State → State
 grown s = record { params = s .params; p = s .p + 1; cap = s .cap; r = s .r }

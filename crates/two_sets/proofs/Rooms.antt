@@ -6,11 +6,10 @@ use mathlib.Core.List.{List, [], _∷_, _++_, List·Permᴰ, List·Permᴰ·cons
 use Prim.Native.Nat.{ℕ, zero, suc, _≤_}
 use native.Mathlib.Omega.{arith}
 use lib.Dec.{leb}
-use lib.ListN.{length}
 use Rattle.placing.specs.Image.{RecordSet, homeOf, Image, Room}
 use Rattle.placing.specs.Lay.{one, rankIn, sort, taken}
-use Rattle.placing.proofs.Lists.{count-le}
 use Rattle.placing.proofs.Perms.{sorted-unique, sort-perm}
+use Rattle.placing.proofs.Taken.{taken-le}
 use Rattle.placing.proofs.Tidy.{set-perm, set-rest, set-sorted}
 use Rattle.placing.proofs.Images.{room-taken}
 
@@ -35,10 +34,6 @@ module _ {R : Type 0} (home : R → ℕ) (b : ℕ) where
   taken-more : (x : R) (s : List R) (a : ℕ) → taken home b (x ∷ s) a ≤ suc (taken home b s a)
   taken-more x s zero = omega arith
   taken-more x s (suc a) = omega (arith, taken-more x s a, one-le (leb (home x) a))
-
-  taken-le : (s : List R) (a : ℕ) → taken home b s a ≤ length s
-  taken-le s zero = omega arith
-  taken-le s (suc a) = omega (arith, count-le (λ x. leb (home x) a) s)
 
 module _ {R : Type 0} (key : R → ℕ) (h : ℕ → ℕ) (b : ℕ) where
   -- an arrangement does not depend on the order in which the records are told, nor does an image

@@ -10,7 +10,7 @@ use sites::Site;
 ghost use mathlib.Core.Path.{_≡_};
 ghost use mathlib.Core.Option.{none};
 ghost use mathlib.Core.List.{[], map};
-ghost use Prim.Native.Nat.{ℕ, _*_, _≤_};
+ghost use Prim.Native.Nat.{ℕ, _+_, _*_, _≤_};
 ghost use lib.ListN.{length, getD, replicate};
 ghost use Rattle.homes.specs.Homes.{Ready, homeIn};
 ghost use Rattle.layouts.specs.Layout.{inUse};
@@ -141,6 +141,7 @@ fn tally_lacking(row: &mut [u32], area: &[u8], here: Site, other: &[u8], there: 
     requires { ⌜ Walkable (now area) here × Walkable (now other) there × (length (now row) ≡ here .cap) × ((k : ℕ) → getD (now row) k 0 ≤ 100000) ⌝ }
     ensures { λ r. ⌜ clashBy r ≡ lowestIn key same (look there (now (other .entry))) (onPages here (now (area .entry))) none ⌝ }
     ensures { λ _. ⌜ now (row .exit) ≡ tallied (map (homeFor (homeIn (here .shape))) (lackingOn here (now (area .entry)) there (now (other .entry)))) (now (row .entry)) ⌝ }
+    ensures few { λ _. ⌜ ((k : ℕ) → getD (now (row .exit)) k 0 ≤ getD (now (row .entry)) k 0 + 49152) ⌝ }
 {
     let mut clash = Clash::Nowhere;
     let mut a = 0;

@@ -6,7 +6,7 @@ use mathlib.Core.Option.{Option, none, some, Option·map}
 use mathlib.Core.List.{List, [], List·Permᴰ, Permᴰ·symm}
 use Prim.Native.Nat.{ℕ, _+_, _*_, _≤_}
 use native.Mathlib.Omega.{arith}
-use borrow.Author.Tests.{eqb-true, eqb-false, eq-eqb, ne-eqb}
+use borrow.Author.Tests.{eqb-true, eqb-false}
 use lib.Dec.{eqb}
 use lib.ListN.{length}
 use Rattle.layouts.specs.Layout.{Layout, inUse}
@@ -25,6 +25,7 @@ use Rattle.demands.proofs.Sets.{record-found, commit-found, same-records}
 use Rattle.demands.proofs.Standing.{Stands, fileOf}
 use Rattle.demands.proofs.Demands.{stands}
 use Rattle.sites.specs.Held.{same, heldIn}
+use Rattle.sites.proofs.Same.{same-sides}
 use Rattle.two_sets.specs.Differences.{unlike, keyOf, differences, differAt}
 use Rattle.two_sets.specs.Promises.{SetsPromises}
 use Rattle.two_sets.proofs.Promises.{two-sets-promises}
@@ -38,14 +39,6 @@ use Rattle.comparison_demands.specs.ComparisonDemands.{TwoFresh, differi
 held-perm : (l : Layout) (s : State) (rs : List Record) (ps : List (List Record)) → OnImage l s rs ps → List·Permᴰ (heldIn l s (areaFrom l 0 ps)) rs
 unfolding heldIn
 held-perm l s rs ps w = rw (read-held l (homes s) (areaFrom l 0 ps) (s .cap) 0 ps (clean-pass (on-clean w))) (w .image .arranged .holds)
-
--- one value is that of another as theirs is of its
-same-sides : (x y : Record) → same x y ≡ same y x
-same-sides x y = go (eqb (value y) (value x)) refl
-  where
-    go : (u : Bool) → eqb (value y) (value x) ≡ u → eqb (value x) (value y) ≡ u
-    go true e = eq-eqb (value x) (value y) (sym (eqb-true (value y) (value x) e))
-    go false e = ne-eqb (value x) (value y) (λ q. eqb-false (value y) (value x) e (sym q))
 
 -- nothing differs at a key exactly where both have one commit there
 none-differs : (o p : Option Record) → (differAt key same o p ≡ none) ↔ (Option·map value o ≡ Option·map value p)

@@ -1,1 +1,2 @@
 pub mod MergeDemands
+pub mod MergeAnswers

@@ -9,12 +9,10 @@ use mathlib.Core.List.{List, [], _∷_, map, List·Permᴰ}
 use lib.ListN.{length}
 use lib.Dec.{eqb}
 use Rattle.numbers.specs.Little.{Bytes}
-use Rattle.layouts.specs.Layout.{Layout, slotsOf}
+use Rattle.layouts.specs.Layout.{Layout, inUse, slotsOf}
 use Rattle.placing.specs.Image.{All, RecordSet, Room}
 use Rattle.placing.specs.Rows.{counts}
 use Rattle.pages.specs.Page.{Record, key, homeFor}
-use Rattle.state.specs.declared.State.{State}
-use Rattle.state.specs.declared.Numbers.{Numbers}
 use Rattle.state.specs.State.{homes, holding}
 use Rattle.state.specs.Promises.{Ranged}
 use Rattle.register.specs.OneImage.{AreaImage, ImageOfR}
@@ -158,11 +156,13 @@ pub record MergesOf (a b : Kept) (f g : File) : Type 0 where
   -- did
   pub holds : (row : List ℕ) → number f row g ≡ 0 → Fresh (histories.holding a (union key (a .held) (b .held))) (left-by f row g)
   -- "Merging the first into the second or the second into the first gives, where both are accepted, the same
-  -- record set"
-  pub same-set : (row row′ : List ℕ) → number f row g ≡ 0 → number g row′ f ≡ 0
+  -- record set": in the layout in use, where a record is its key and its value. (In the other, records that
+  -- differ in their run alone do not clash, and the living file's stays.)
+  pub same-set : (row row′ : List ℕ) → a .layout ≡ inUse → number f row g ≡ 0 → number g row′ f ≡ 0
       → (k : ℕ) → recordOf k (union key (a .held) (b .held)) ≡ recordOf k (union key (b .held) (a .held))
-  -- "with equal parameters, size, edition and lent pages, the same bytes": and the same state
-  pub same-bytes : (row row′ : List ℕ) → number f row g ≡ 0 → number g row′ f ≡ 0 → a .params ≡ b .params → a .p ≡ b .p → a .cap ≡ b .cap → left-by f row g ≡ left-by g row′ f
+  -- "with equal parameters, size, edition and lent pages, the same bytes": and the same state, in the layout in
+  -- use
+  pub same-bytes : (row row′ : List ℕ) → a .layout ≡ inUse → number f row g ≡ 0 → number g row′ f ≡ 0 → a .params ≡ b .params → a .p ≡ b .p → a .cap ≡ b .cap → left-by f row g ≡ left-by g row′ f
   -- where one of the two is accepted, so is the other, with a row of the right length
   pub both-accepted : (row row′ : List ℕ) → length row′ ≡ b .cap → number f row g ≡ 0 → a .params ≡ b .params → a .p ≡ b .p → a .cap ≡ b .cap → number g row′ f ≡ 0
 

@@ -21,13 +21,13 @@ use Rattle.sites.specs.Held.{heldIn, same, readOver}
 use Rattle.two_sets.specs.Union.{union, lowestClash}
 use Rattle.merges.specs.declared.Merged.{Merged}
 use Rattle.merges.specs.declared.Merged.the-variants.{Joined, Refused, Clash, NoRoom}
-use Rattle.merges.specs.declared.Merge.{Merge}
+use Rattle.merges.specs.declared.MergeDone.{MergeDone}
 use Rattle.merges.specs.declared.MergedNumbers.{MergedNumbers}
 
 -- what a merge comes to: the living file's state with the answer, its area and the row. The other file is
 -- never written.
 pub record Outcome : Type 0 where
-  pub merge : Merge
+  pub merge : MergeDone
   pub area : List ℕ
   pub row : List ℕ
 

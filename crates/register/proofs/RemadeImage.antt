@@ -45,7 +45,7 @@ abbrev pub grownRow : State → List Record → List ℕ
 grownRow s rs = counts (homeFor (homes (grown s))) rs (s .cap) 0
 
 -- pages are bytes
-area-bytes : (form : Layout) (a : ℕ) (ps : List (List Record)) → Bytes (areaFrom form a ps)
+pub area-bytes : (form : Layout) (a : ℕ) (ps : List (List Record)) → Bytes (areaFrom form a ps)
 area-bytes form a [] = λ k h. omega arith
 area-bytes form a (p ∷ ps) = bytes-append (pageBytes form a p) (areaFrom form (suc a) ps) (page-bytes form a p) (area-bytes form (suc a) ps)
 

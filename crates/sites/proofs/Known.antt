@@ -5,7 +5,7 @@ use Prim.Native.Nat.{ℕ, zero, suc, _+_, _*_, _^_, _≤_, _<_}
 use native.Mathlib.Omega.{arith}
 use lib.ListN.{length}
 use Rattle.numbers.specs.Little.{Bytes}
-use Rattle.layouts.specs.Layout.{inUse}
+use Rattle.layouts.specs.Layout.{Layout, inUse}
 use Rattle.placing.specs.Image.{All, cat, RecordSet}
 use Rattle.placing.specs.Walks.{seek}
 use Rattle.placing.proofs.Lists.{all-append}
@@ -24,10 +24,10 @@ use Rattle.sites.specs.Held.{heldIn}
 use Rattle.sites.specs.steps.Sites.{siteOf, Walkable, look}
 
 -- what any bytes hold fits a record
-held-small : (area : List ℕ) → Bytes area → (n a : ℕ) → 256 * (a + n) ≤ length area → All (Small inUse) (cat (heldFrom inUse area n a) [])
-held-small area b zero a h = tt
-held-small area b (suc n) a h =
-    all-append (Small inUse) (recordsIn inUse (partAt area a)) (cat (heldFrom inUse area n (suc a)) []) (part-small inUse area a (omega arith) b) (held-small area b n (suc a) (omega arith))
+pub held-small : (l : Layout) (area : List ℕ) → Bytes area → (n a : ℕ) → 256 * (a + n) ≤ length area → All (Small l) (cat (heldFrom l area n a) [])
+held-small l area b zero a h = tt
+held-small l area b (suc n) a h =
+    all-append (Small l) (recordsIn l (partAt area a)) (cat (heldFrom l area n (suc a)) []) (part-small l area a (omega arith) b) (held-small l area b n (suc a) (omega arith))
 
 pub record Known (s : State) (area : List ℕ) : Type 0 where
   pub range : Ranged inUse s
@@ -48,7 +48,7 @@ module _ (s : State) (area : List ℕ) (b : Bytes area) (g : OpenImage inUse s a
       record {
         range = w;
         set = set;
-        small = held-small area b (s .cap) 0 (omega (arith, g .1));
+        small = held-small inUse area b (s .cap) 0 (omega (arith, g .1));
         count = k .count;
         looks = λ j l. find-image key (homes s) _ j l set image;
         walks = record { few = w .cap-high; long = g .1; ready = in-shape inUse s (g .0); grown = w .p-high; image = image };

@@ -1,2 +1,3 @@
 pub mod Known
 pub mod Reading
+pub mod Same

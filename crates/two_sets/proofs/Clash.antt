@@ -15,8 +15,8 @@ use Rattle.placing.proofs.Lists.{all-map}
 use Rattle.placing.proofs.Seek.{clash, seek-high}
 use Rattle.two_sets.specs.Differences.{Difference, onlyFirst, onlySecond, unlike, keyOf, differences, differAt}
 use Rattle.two_sets.specs.Union.{firstClash, lowestClash}
-use Rattle.two_sets.specs.UnionPromises.{ClashAt}
-use Rattle.two_sets.proofs.Differences.{seek-is, differences-rise, differences-at}
+use Rattle.two_sets.specs.UnionPromises.{ClashAt, SameIs}
+use Rattle.two_sets.proofs.Differences.{differences-rise, differences-at}
 
 module _ {R : Type 0} (key : R → ℕ) where
   abbrev D : Type 0
@@ -131,12 +131,12 @@ module _ {R : Type 0} (key : R → ℕ) where
           go h (some k) f = absurd (h k (at-lowest k f .0))
 
       -- where there is none, what both hold is the same
-      pub agreeing : ((x y : R) → key x ≡ key y → same x y ≡ true → x ≡ y) → lowestClash key same xs ys ≡ none
+      pub agreeing : SameIs key same xs ys → lowestClash key same xs ys ≡ none
           → (k : ℕ) (x y : R) → seek key k xs ≡ some x → seek key k ys ≡ some y → x ≡ y
       agreeing whole f k x y p q = go (same x y) refl
         where
           go : (u : Bool) → same x y ≡ u → x ≡ y
-          go true t = whole x y (seek-is key k xs x p ∙ sym (seek-is key k ys y q)) t
+          go true t = whole k x y p q t
           go false t = absurd (at-none f k (record { first = x; second = y; in-first = p; in-second = q; unlike = t }))
 
     pub clash-turned : ((x y : R) → same x y ≡ same y x) → (xs ys : List R) → Distinct key xs → Distinct key ys → lowestClash key same xs ys ≡ lowestClash key same ys xs

@@ -21,6 +21,10 @@ module _ {R : Type 0} (key : R → ℕ) (same : R → R → Bool) where
     pub in-second : seek key k ys ≡ some second
     pub unlike : same first second ≡ false
 
+  -- what two sets hold at a key, and is the same, is equal
+  abbrev pub SameIs : (xs ys : List R) → Type 0
+  SameIs xs ys = (k : ℕ) (x y : R) → seek key k xs ≡ some x → seek key k ys ≡ some y → same x y ≡ true → x ≡ y
+
   pub record UnionOf (xs ys : List R) : Type 0 where
     -- both together are a record set
     pub set : RecordSet key (union key xs ys)
@@ -35,7 +39,7 @@ module _ {R : Type 0} (key : R → ℕ) (same : R → R → Bool) where
     pub clash-turned : ((x y : R) → same x y ≡ same y x) → lowestClash key same xs ys ≡ lowestClash key same ys xs
     -- "Merging the first into the second or the second into the first gives, where both are accepted,
     -- the same record set": where no key clashes, and the same is what is equal
-    pub turned : ((x y : R) → key x ≡ key y → same x y ≡ true → x ≡ y) → lowestClash key same xs ys ≡ none → List·Permᴰ (union key xs ys) (union key ys xs)
+    pub turned : SameIs xs ys → lowestClash key same xs ys ≡ none → List·Permᴰ (union key xs ys) (union key ys xs)
 
   pub record UnionPromises : Type 0 where
     pub of-sets : (xs ys : List R) → RecordSet key xs → RecordSet key ys → UnionOf xs ys

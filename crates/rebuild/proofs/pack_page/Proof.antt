@@ -38,8 +38,7 @@ loop-again c =
     let called = c .before .before in
     let turn = called .before .before in
     let l = turn .before .loop in
-    let start = turn .before .before .before .before .before .before in
-    (
+    let start = turn .before .before .before .before .before .before in (
       omega arith,
       omega arith,
       search needs,

@@ -1,0 +1,9 @@
+pub mod Held
+pub mod Decided
+pub mod AnyFiles
+pub mod AsPuts
+pub mod Deeds
+pub mod Turned
+pub mod AfterFresh
+pub mod MergeDemands
+pub mod MergeAnswers

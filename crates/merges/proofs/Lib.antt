@@ -1,0 +1,2 @@
+pub mod Joining
+pub mod Ways

@@ -12,7 +12,8 @@ use Rattle.state.specs.State.{isDue}
 use Rattle.register.specs.Files.{Call, grow, fileOf, leaves, left}
 use Rattle.pay_runs.specs.PayRun.{ran}
 use Rattle.comparisons.specs.Compare.{compared}
-use Rattle.reefcushion.specs.Slip.{ServedComparison, servedOutcome, servedCompare, stateIn, servedBy, servedRan, unserved, served, servedRow, servedRun, servedRoom, dueOn}
+use Rattle.merges.specs.Merge.{merged}
+use Rattle.reefcushion.specs.Slip.{ServedComparison, servedOutcome, servedCompare, servedMerged, servedMerge, stateIn, servedBy, servedRan, unserved, served, servedRow, servedRun, servedRoom, dueOn}
 
 -- a comparison
 module _ (l area m other list told : List ℕ) where
@@ -37,6 +38,22 @@ module _ (l area m other list told : List ℕ) where
       pub compare-served : length told ≡ 20 → (s t : State) → s ≡ stateIn l → t ≡ stateIn m → servedCompare l area m other list told ≡ servedOutcome (compared inUse s area t other list)
       unfolding servedCompare
       compare-served e s t is it = rw (eq-eqb (length l) 40 forty, eq-eqb (length m) 40 too, eq-eqb (length told) 20 e, is, it)
+
+-- a merge
+module _ (l area m other row : List ℕ) where
+  -- with a slip of another length
+  pub none-living : (length l ≡ 40 → ⊥) → servedMerge l area m other row ≡ record { served = unserved l area; row = row }
+  unfolding servedMerge
+  none-living e = rw (ne-eqb (length l) 40 e)
+
+  module _ (forty : length l ≡ 40) where
+    pub none-other : (length m ≡ 40 → ⊥) → servedMerge l area m other row ≡ record { served = unserved l area; row = row }
+    unfolding servedMerge
+    none-other e = rw (eq-eqb (length l) 40 forty, ne-eqb (length m) 40 e)
+
+    pub merge-served : length m ≡ 40 → (s t : State) → s ≡ stateIn l → t ≡ stateIn m → servedMerge l area m other row ≡ servedMerged (merged inUse s area row t other)
+    unfolding servedMerge
+    merge-served e s t is it = rw (eq-eqb (length l) 40 forty, eq-eqb (length m) 40 e, is, it)
 
 module _ (l : List ℕ) where
   -- another length than forty

@@ -13,7 +13,7 @@ use Rattle.state.specs.declared.Numbers.{Numbers}
 use Rattle.comparisons.specs.declared.ComparedNumbers.{ComparedNumbers}
 use Rattle.slips.specs.Slips.{stateAt, stateFields, answerFields}
 use Rattle.slips.proofs.Again.{state-again}
-use Rattle.reefcushion.specs.Slip.{comparisonFields, renumbered, stateIn, slipOf}
+use Rattle.reefcushion.specs.Slip.{comparisonFields, renumbered, stateIn, slipAbout}
 
 -- a state that is renumbered there and back is the same, where its edition is of two bytes
 renumbered-back : (s : State) → s .params .edition < 65536 → renumbered 1 (renumbered 65535 s) ≡ s
@@ -32,23 +32,23 @@ pub comparison-stored : (n : ComparedNumbers) (l l₁ l₂ l₃ l₄ l₅ l₆ l
 comparison-stored n l l₁ l₂ l₃ l₄ l₅ l₆ l₇ h p q r s t u v =
     rw (v, u, t, s, r, q, p) (puts-written (comparisonFields n) l 0 (omega arith) ∙ written-all l (encode (comparisonFields n)) (omega (arith, length-encode (comparisonFields n))))
 
-module _ (s : State) (n : Numbers) where
+module _ (s : State) (n : Numbers) (file : ℕ) where
   -- the fields of the state in a slip
   abbrev fields : List Field
   fields = stateFields (renumbered 65535 s)
 
   -- a state and then an answer leave their bytes, and none of those before
-  pub slip-stored : (l : List ℕ) → length l ≡ 40 → {z : State} → z ≡ renumbered 65535 s → {a b : List ℕ} → a ≡ written l 0 (encode (stateFields z)) → b ≡ written a 16 (encode (answerFields n)) → b ≡ slipOf s n
+  pub slip-stored : (l : List ℕ) → length l ≡ 40 → {z : State} → z ≡ renumbered 65535 s → {a b : List ℕ} → a ≡ written l 0 (encode (stateFields z)) → b ≡ written a 16 (encode (answerFields n file)) → b ≡ slipAbout s n file
   slip-stored l h e q₁ q₂ =
       let v : List ℕ = encode fields in
-      let w : List ℕ = encode (answerFields n) in
+      let w : List ℕ = encode (answerFields n file) in
       let k : length v ≡ 16 = length-encode fields in
-      let all : length (slipOf s n) ≡ 40 = length-encode (fields ++ answerFields n) in
+      let all : length (slipAbout s n file) ≡ 40 = length-encode (fields ++ answerFields n file) in
       let two : written (written l 0 v) 16 w ≡ written l 0 (v ++ w) = rw k at (written-written l 0 v w (omega arith)) in
-      rw (q₂, q₁, e, two, ← encode-append fields (answerFields n)) (written-all l (slipOf s n) (omega arith))
+      rw (q₂, q₁, e, two, ← encode-append fields (answerFields n file)) (written-all l (slipAbout s n file) (omega arith))
 
   -- it brings the next call the state, where its numbers fit their widths
-  pub slip-again : {l : List ℕ} → Fit fields → s .params .edition < 65536 → l ≡ slipOf s n → stateIn l ≡ s
+  pub slip-again : {l : List ℕ} → Fit fields → s .params .edition < 65536 → l ≡ slipAbout s n file → stateIn l ≡ s
   slip-again fit small q =
-      let there : stateAt (encode fields ++ encode (answerFields n)) 0 ≡ renumbered 65535 s = state-again (renumbered 65535 s) [] (encode (answerFields n)) 0 refl fit in
-      rw (q ∙ encode-append fields (answerFields n)) (ap (renumbered 1) there ∙ renumbered-back s small)
+      let there : stateAt (encode fields ++ encode (answerFields n file)) 0 ≡ renumbered 65535 s = state-again (renumbered 65535 s) [] (encode (answerFields n file)) 0 refl fit in
+      rw (q ∙ encode-append fields (answerFields n file)) (ap (renumbered 1) there ∙ renumbered-back s small)

@@ -15,6 +15,8 @@ use Rattle.slips.specs.Slips.{stateAt, stateFields, answerFields}
 use Rattle.pay_runs.specs.PayRun.{PayRun, ran}
 use Rattle.comparisons.specs.declared.ComparedNumbers.{ComparedNumbers}
 use Rattle.comparisons.specs.Compare.{Outcome, compared, comparedNumbers}
+use Rattle.merges.specs.Merge as merge
+use Rattle.merges.specs.Merge.{merged, mergedNumbers}
 use Rattle.register.specs.Files.{Call, grow, File, fileOf, Left, left, numbersOf}
 
 abbrev pub isSlip : List ℕ → Bool
@@ -31,9 +33,13 @@ renumbered by s =
 abbrev pub stateIn : List ℕ → State
 stateIn l = renumbered 1 (stateAt l 0)
 
--- a slip: the state's bytes, with the edition less 1, and then the answer's
+-- a slip: the state's bytes, with the edition less 1, and then the answer's, about this file
+abbrev pub slipAbout : State → Numbers → (file : ℕ) → List ℕ
+slipAbout s n file = encode (stateFields (renumbered 65535 s) ++ answerFields n file)
+
+-- and of a call on one file
 abbrev pub slipOf : State → Numbers → List ℕ
-slipOf s n = encode (stateFields (renumbered 65535 s) ++ answerFields n)
+slipOf s n = slipAbout s n 0
 
 -- the file that a slip and an area are
 abbrev pub fileIn : (slip area : List ℕ) → File
@@ -102,6 +108,27 @@ servedCompare slip area slip2 area2 list told =
     cond (areSlips slip slip2 told)
     (servedOutcome (compared inUse (stateIn slip) area (stateIn slip2) area2 list))
     (record { returned = 100; list = list; comparison = told })
+
+-- what a merge comes to: as a call on the living file, and the row
+pub record ServedMerge : Type 0 where
+  pub served : Served
+  pub row : List ℕ
+
+abbrev pub servedMerged : merge.Outcome → ServedMerge
+servedMerged o =
+    let n = mergedNumbers (o .merge .answer) in
+    record {
+      served = record { returned = n .numbers .refusal; slip = slipAbout (o .merge .state) (n .numbers) (n .file); file = fileOf (o .merge .state) (o .area) };
+      row = o .row;
+    }
+
+-- a merge by slips and areas (02, request 9) is that of the files that they are; with a slip of another length,
+-- 100 and nothing is done
+unfoldable pub servedMerge : (slip area slip2 area2 row : List ℕ) → ServedMerge
+servedMerge slip area slip2 area2 row =
+    cond (isSlip slip && isSlip slip2)
+    (servedMerged (merged inUse (stateIn slip) area row (stateIn slip2) area2))
+    (record { served = unserved slip area; row = row })
 
 -- whether growth is due, as 1 or 0; with a slip of another length it isn't
 unfoldable pub dueOn : List ℕ → ℕ

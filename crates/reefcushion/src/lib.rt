@@ -15,7 +15,7 @@ ghost use Rattle.homes.specs.Homes.{params};
 ghost use Rattle.pages.specs.Page.{recordWith};
 ghost use Rattle.state.specs.Answer.{numbers};
 ghost use Rattle.register.specs.Files.{format, find, put, remove, grow, shrink, check};
-ghost use Rattle.reefcushion.specs.Slip.{renumbered, stateIn, slipOf, served, servedRow, servedRun, servedRoom, comparisonFields, servedCompare, dueOn};
+ghost use Rattle.reefcushion.specs.Slip.{renumbered, stateIn, slipOf, slipAbout, served, servedRow, servedRun, servedRoom, comparisonFields, servedCompare, servedMerge, dueOn};
 
 // The bytes of a slip.
 const SLIP: usize = 40;
@@ -54,17 +54,18 @@ fn state_in(slip: &[u8]) -> State
     renumbered(slips::get_state(slip, 0), 1)
 }
 
-// What a call came to, over all of the slip. It brings the next call the state that this one left.
-fn hand_back(slip: &mut [u8], told: Told) -> u32
+// What a call came to, over all of the slip, with the file that a refusal is about, or 0. It brings the next
+// call the state that this one left.
+fn hand_back(slip: &mut [u8], told: Told, file: u16) -> u32
     requires { ⌜ length (now slip) ≡ 40 ⌝ }
     ensures { λ r. ⌜ r ≡ told .numbers .refusal ⌝ }
-    ensures { λ _. ⌜ now (slip .exit) ≡ slipOf (told .state) (told .numbers) ⌝ }
+    ensures { λ _. ⌜ now (slip .exit) ≡ slipAbout (told .state) (told .numbers) file ⌝ }
     ensures again { λ _. ⌜ stateIn (now (slip .exit)) ≡ told .state ⌝ }
 {
     let state = told.state;
     let numbers = told.numbers;
     slips::put_state(slip, 0, renumbered(state, 65535));
-    slips::put_answer(slip, 16, numbers);
+    slips::put_answer(slip, 16, numbers, file);
     numbers.refusal as u32
 }
 
@@ -75,7 +76,7 @@ fn tell(slip: &mut [u8], done: Done) -> u32
     ensures again { λ _. ⌜ stateIn (now (slip .exit)) ≡ done .state ⌝ }
 {
     let told = records::tell(done);
-    hand_back(slip, told)
+    hand_back(slip, told, 0)
 }
 
 // A file of the edition that is asked for.
@@ -202,7 +203,7 @@ pub extern "C" fn reefcushion_put_run(
     }
     let state = state_in(&slip[..]);
     let told = pay_runs::put_run(state, area, input, replies);
-    hand_back(slip, told)
+    hand_back(slip, told, 0)
 }
 
 // What a comparison came to, over all of the bytes that it is told in.
@@ -248,6 +249,34 @@ pub extern "C" fn reefcushion_compare(
     put_comparison(told, n);
     let numbers = n.numbers;
     numbers.refusal as u32
+}
+
+// The other file's records into the living one. It writes neither the other file nor its slip.
+#[no_mangle]
+pub extern "C" fn reefcushion_merge(
+    slip: &mut [u8],
+    area: &mut [u8],
+    other_slip: &[u8],
+    other_area: &[u8],
+    row: &mut [u32],
+) -> u32
+    ensures { λ r. let o = servedMerge (now (slip .entry)) (now (area .entry)) (now («other_slip» .entry)) (now («other_area» .entry)) (now (row .entry)) in ⌜ (r ≡ o .served .returned) × ((now (slip .exit) ≡ o .served .slip) × ((now (area .exit) ≡ o .served .file .area) × ((now (row .exit) ≡ o .row) × (stateIn (now (slip .exit)) ≡ o .served .file .state)))) ⌝ }
+{
+    if slip.len() != SLIP {
+        return NO_SLIP;
+    }
+    if other_slip.len() != SLIP {
+        return NO_SLIP;
+    }
+    let state = state_in(&slip[..]);
+    let second = state_in(other_slip);
+    let done = merges::merge(state, area, second, other_area, row);
+    let answer = done.answer;
+    let n = answer.numbers();
+    let state = done.state;
+    let numbers = n.numbers;
+    let told = Told { state, numbers };
+    hand_back(slip, told, n.file)
 }
 
 // Whether growth is due, 1 or 0. It leaves the slip as it is.

@@ -18,9 +18,10 @@ stateAt l at =
 abbrev pub stateFields : State → List Field
 stateFields s = (2, s .params .n0) ∷ (2, s .params .n) ∷ (2, s .params .s) ∷ (2, s .p) ∷ (2, s .cap) ∷ (2, s .params .edition) ∷ (4, s .r) ∷ []
 
--- an answer's bytes in a slip, in 01's numbers, with four zeros at the end
-abbrev pub answerFields : Numbers → List Field
-answerFields n = (8, n .value) ∷ (4, n .read) ∷ (4, n .moved) ∷ (2, n .refusal) ∷ (2, n .page) ∷ (4, 0) ∷ []
+-- an answer's bytes in a slip, in 01's numbers, with the file that a refusal of a call on two files is about
+-- (02, request 9), and two zeros at the end
+abbrev pub answerFields : Numbers → (file : ℕ) → List Field
+answerFields n file = (8, n .value) ∷ (4, n .read) ∷ (4, n .moved) ∷ (2, n .refusal) ∷ (2, n .page) ∷ (2, file) ∷ (2, 0) ∷ []
 
 -- and in a reply, where the run, which is always 0, stands before the pages read
 abbrev pub replyFields : Numbers → List Field

@@ -43,17 +43,18 @@ pub fn put_state(bytes: &mut [u8], at: usize, state: State)
     numbers::put_u32(bytes, at + 12, state.r);
 }
 
-// An answer's 24 bytes in a slip.
-pub fn put_answer(bytes: &mut [u8], at: usize, told: Numbers)
+// An answer's 24 bytes in a slip, with the file that it is about, or 0.
+pub fn put_answer(bytes: &mut [u8], at: usize, told: Numbers, file: u16)
     requires { ⌜ at + 24 ≤ length (now bytes) ⌝ }
-    ensures { λ _. ⌜ now (bytes .exit) ≡ written (now (bytes .entry)) at (encode (answerFields told)) ⌝ }
+    ensures { λ _. ⌜ now (bytes .exit) ≡ written (now (bytes .entry)) at (encode (answerFields told file)) ⌝ }
 {
     numbers::put_u64(bytes, at, told.value);
     numbers::put_u32(bytes, at + 8, told.read);
     numbers::put_u32(bytes, at + 12, told.moved);
     numbers::put_u16(bytes, at + 16, told.refusal);
     numbers::put_u16(bytes, at + 18, told.page);
-    numbers::put_u32(bytes, at + 20, 0);
+    numbers::put_u16(bytes, at + 20, file);
+    numbers::put_u16(bytes, at + 22, 0);
 }
 
 // And in a reply.

@@ -17,10 +17,10 @@ returns c =
     let t = a .before .before .before .before in
     let s = t .before .before .before .before .before .before in
     let told = s .args .told in
-    let all = slip-stored (told .state) (told .numbers) _ (s .pre) (t .before .renumbered .ensures) (t .put-state .ensures) (a .put-answer .ensures) in
+    let all = slip-stored (told .state) (told .numbers) (s .args .file) _ (s .pre) (t .before .renumbered .ensures) (t .put-state .ensures) (a .put-answer .ensures) in
     let g = s .good in
     let fits : Fit (stateFields (renumbered 65535 (told .state))) = (omega (arith, g), (omega (arith, g), (omega (arith, g), (omega (arith, g), (omega (arith, g), (omega arith, (omega (arith, g), tt))))))) in
-    (refl, (all, slip-again (told .state) (told .numbers) fits (omega (arith, g)) all))
+    (refl, (all, slip-again (told .state) (told .numbers) (s .args .file) fits (omega (arith, g)) all))
 
 pub hand-back-spec : {M : Type 1} → statement M
 hand-back-spec =

@@ -1,6 +1,6 @@
 -- A find and a check by slip leave the area, and every call the layout in use.
 use mathlib.Core.Path.{_≡_, refl}
-use mathlib.Core.Bool.{Bool, true, false, cond}
+use mathlib.Core.Bool.{Bool, true, false, cond, _&&_}
 use mathlib.Core.List.{List}
 use Prim.Native.Nat.{ℕ}
 use Rattle.layouts.specs.Layout.{inUse}
@@ -8,7 +8,8 @@ use Rattle.register.specs.Files.{Call, find, check, left}
 use Rattle.register.proofs.After.{same-layout}
 use Rattle.pay_runs.specs.PayRun.{ran}
 use Rattle.pay_runs.proofs.Running.{run-layout as ran-layout}
-use Rattle.reefcushion.specs.Slip.{Served, isSlip, fileIn, servedBy, servedRan, unserved, served, servedRun}
+use Rattle.merges.specs.Merge.{merged}
+use Rattle.reefcushion.specs.Slip.{Served, isSlip, stateIn, servedMerged, servedMerge, fileIn, servedBy, servedRan, unserved, served, servedRun}
 
 module _ (slip area : List ℕ) where
   -- where both ways of a call come to the same, it does
@@ -37,4 +38,12 @@ module _ (slip area : List ℕ) where
     where
       go : (u : Bool) → cond u (servedRan (ran (fileIn slip area) l room)) (unserved slip area) .file .layout ≡ inUse
       go true = ran-layout (fileIn slip area) l room
+      go false = refl
+
+  pub merge-layout : (slip2 area2 row : List ℕ) → servedMerge slip area slip2 area2 row .served .file .layout ≡ inUse
+  unfolding servedMerge
+  merge-layout slip2 area2 row = go (isSlip slip && isSlip slip2)
+    where
+      go : (u : Bool) → cond u (servedMerged (merged inUse (stateIn slip) area row (stateIn slip2) area2)) (record { served = unserved slip area; row = row }) .served .file .layout ≡ inUse
+      go true = refl
       go false = refl

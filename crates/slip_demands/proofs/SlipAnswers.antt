@@ -6,7 +6,7 @@ use Rattle.homes.specs.Homes.{params}
 use Rattle.pages.specs.Page.{recordWith}
 use Rattle.register.specs.Files.{format, find, put, remove, grow, shrink, check}
 use Rattle.slip_demands.specs.SlipAnswers.{SlipAnswers}
-use Rattle.slip_demands.proofs.Looking.{find-area, check-area, call-layout, run-layout}
+use Rattle.slip_demands.proofs.Looking.{find-area, check-area, call-layout, run-layout, merge-layout}
 
 pub slip-answers : SlipAnswers
 slip-answers =
@@ -60,6 +60,14 @@ slip-answers =
         asks-nothing = λ κs a. tt;
         one = λ κs a y z v w p q. (p .0 ∙⁻¹ q .0, λ i. (tt, (tt, (tt, (tt, ((p .1 .0 ∙⁻¹ q .1 .0) i, ((p .1 .1 ∙⁻¹ q .1 .1) i, tt)))))));
         does = λ κs a y v p i. record { returned = p .0 i; list = p .1 .0 i; comparison = p .1 .1 i };
+      };
+      merge = record {
+        asks-nothing = λ κs a. tt;
+        one = λ κs a y z v w p q. (p .0 ∙⁻¹ q .0, λ i. ((p .1 .0 ∙⁻¹ q .1 .0) i, ((p .1 .1 .0 ∙⁻¹ q .1 .1 .0) i, (tt, (tt, ((p .1 .1 .1 .0 ∙⁻¹ q .1 .1 .1 .0) i, tt))))));
+        does = λ κs a y v p i. record {
+          served = record { returned = p .0 i; slip = p .1 .0 i; file = record { layout = sym (merge-layout (now (a .0)) (now (a .1 .0)) (now (a .1 .1 .0)) (now (a .1 .1 .1 .0)) (now (a .1 .1 .1 .1 .0))) i; state = p .1 .1 .1 .1 i; area = p .1 .1 .0 i } };
+          row = p .1 .1 .1 .0 i;
+        };
       };
       due = record { asks-nothing = λ κs a. tt; one = λ κs a y z v w p q. (p ∙⁻¹ q, refl); does = λ κs a y v p. p };
     }

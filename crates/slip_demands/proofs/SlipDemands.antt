@@ -9,7 +9,8 @@ use Rattle.register.specs.Files.{Call, left, after}
 use Rattle.register.proofs.After.{after-append}
 use Rattle.pay_runs.specs.PayRun.{ran, madeBy}
 use Rattle.pay_runs.proofs.Running.{run-after}
-use Rattle.reefcushion.specs.Slip.{fileIn, servedBy, servedRan, served, servedRun}
+use Rattle.reefcushion.specs.Slip.{stateIn, fileIn, servedBy, servedRan, served, servedRun}
+use Rattle.reefcushion.proofs.Calling.{merge-served}
 use Rattle.slip_demands.specs.SlipDemands.{Handed, no-call, one-call, one-run, SlipDemands}
 
 module _ (slip area : List ℕ) (forty : length slip ≡ 40) (c : Call) where
@@ -51,4 +52,5 @@ slip-demands =
       fresh = λ {cs} {slip} {area} h forty fits m keeps. record { start = fileIn slip area; calls = cs; fits = fits; keeps = keeps; leaves = sym (handed h forty) };
       read-as-before = λ slip e. rw e;
       written-as-before = λ n0 N s P cap r n. refl;
+      merges = λ slip area slip2 area2 row forty too. rw (merge-served slip area slip2 area2 row forty too (stateIn slip) (stateIn slip2) refl refl) (refl, refl, refl);
     }

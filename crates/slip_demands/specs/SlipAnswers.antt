@@ -17,8 +17,9 @@ use Rattle.reefcushion.proofs.reefcushion_grow as Grow
 use Rattle.reefcushion.proofs.reefcushion_shrink as Shrink
 use Rattle.reefcushion.proofs.reefcushion_check as Check
 use Rattle.reefcushion.proofs.reefcushion_compare as Compare
+use Rattle.reefcushion.proofs.reefcushion_merge as Merge
 use Rattle.reefcushion.proofs.reefcushion_due as Due
-use Rattle.reefcushion.specs.Slip.{Served, fileIn, served, servedRow, servedRun, servedRoom, servedCompare, dueOn}
+use Rattle.reefcushion.specs.Slip.{Served, fileIn, served, servedRow, servedRun, servedRoom, servedCompare, servedMerge, dueOn}
 
 -- what the code of a call comes to: the file that it leaves is the one that its slip and its area
 -- are
@@ -60,4 +61,8 @@ pub record SlipAnswers : Type 0 where
   pub compare : Settled Compare.ended Compare.Reads.Asked Compare.Reads.Learnt
       (λ κs a. servedCompare (now (a .0)) (now (a .1 .0)) (now (a .1 .1 .0)) (now (a .1 .1 .1 .0)) (now (a .1 .1 .1 .1 .0)) (now (a .1 .1 .1 .1 .1 .0)))
       (λ κs a y v. record { returned = y; list = v .1 .1 .1 .1 .0; comparison = v .1 .1 .1 .1 .1 .0 })
+  -- a merge leaves the living file's slip and area, and the row
+  pub merge : Settled Merge.ended Merge.Reads.Asked Merge.Reads.Learnt
+      (λ κs a. servedMerge (now (a .0)) (now (a .1 .0)) (now (a .1 .1 .0)) (now (a .1 .1 .1 .0)) (now (a .1 .1 .1 .1 .0)))
+      (λ κs a y v. record { served = came y (v .0) (v .1 .0); row = v .1 .1 .1 .1 .0 })
   pub due : Settled Due.ended Due.Reads.Asked Due.Reads.Learnt (λ κs a. dueOn (now (a .0))) (λ κs a y v. y)

@@ -15,8 +15,9 @@ use Rattle.slips.specs.Slips.{answerFields}
 use Rattle.register.specs.Files.{Call, after}
 use Rattle.demands.specs.Histories.{Fits, Kept, kept}
 use Rattle.demands.specs.Demands.{Fresh}
+use Rattle.merge_demands.specs.MergeDemands.{merging, number, left-by}
 use Rattle.pay_runs.specs.PayRun.{madeBy}
-use Rattle.reefcushion.specs.Slip.{stateIn, slipOf, fileIn, served, servedRun}
+use Rattle.reefcushion.specs.Slip.{stateIn, slipOf, fileIn, served, servedRun, servedMerge}
 
 -- calls by slip, "each call given the pages and state that the last one left": from one slip and
 -- area to another. What a call leaves of them is what `slip-answers` says (due leaves both as they
@@ -41,4 +42,8 @@ pub record SlipDemands : Type 0 where
   -- r, as all were before there were editions, is of edition 1, and one of edition 1 is written so
   pub read-as-before : (slip : List ℕ) → numberAt 2 slip 10 ≡ 0 → stateIn slip .params .edition ≡ 1
   pub written-as-before : (n0 N s P cap r : ℕ) (n : Numbers) → slipOf (record { params = params n0 N s 1; p = P; cap = cap; r = r }) n
-      ≡ encode (((2, n0) ∷ (2, N) ∷ (2, s) ∷ (2, P) ∷ (2, cap) ∷ (2, 0) ∷ (4, r) ∷ []) ++ answerFields n)
+      ≡ encode (((2, n0) ∷ (2, N) ∷ (2, s) ∷ (2, P) ∷ (2, cap) ∷ (2, 0) ∷ (4, r) ∷ []) ++ answerFields n 0)
+  -- 02, request 9: a merge by slips is that of the files that they are, so all of `MergeDemands` is of it
+  pub merges : (slip area slip2 area2 row : List ℕ) → length slip ≡ 40 → length slip2 ≡ 40
+      → let o = servedMerge slip area slip2 area2 row in
+      (o .served .returned ≡ number (fileIn slip area) row (fileIn slip2 area2)) × (o .served .file ≡ left-by (fileIn slip area) row (fileIn slip2 area2)) × (o .row ≡ merging (fileIn slip area) row (fileIn slip2 area2) .row)

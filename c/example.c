@@ -1,5 +1,6 @@
 // A register from C: a file is formatted, fed, asked, grown and checked, a pay run is put in one call, a file of the
-// second edition is made, one is shrunk after its leavers, and two are compared. What it prints stands in example.out.
+// second edition is made, one is shrunk after its leavers, two are compared, and one is merged into the other. What it
+// prints stands in example.out.
 #include <stdbool.h>
 #include <stdio.h>
 #include <string.h>
@@ -8,7 +9,7 @@
 
 enum { PAGES = 2, PUTS = 18, OTHER_PAGES = 3, MOST_LIST = 1000 };
 
-// All that a register is to its caller: a slip with the state, the pages, and for growth a row.
+// All that a register is to its caller: a slip with the state, the pages, and for growths and merges a row.
 static struct reefcushion_slip slip;
 static uint8_t area[PAGES * REEFCUSHION_PAGE];
 static uint32_t row[PAGES];
@@ -229,6 +230,36 @@ static void compare_sites(void) {
     compare(wanted);
 }
 
+// The other site's records into this register. Which of the two files a refusal is about stands in the slip.
+static void merge(void) {
+    uint32_t before = slip.records;
+    uint32_t refusal = reefcushion_merge(&slip, sizeof slip, area, sizeof area, &other, sizeof other, other_area,
+                                         sizeof other_area, row, PAGES);
+    printf("merge: %s", words(refusal));
+    if (refusal == REEFCUSHION_BROKEN)
+        printf(", page %u %s", slip.page, slip.file == 1 ? "here" : "there");
+    if (refusal == REEFCUSHION_CLASH)
+        printf(": two commits for %llu", (unsigned long long)slip.value);
+    printf(" (%u read)\n", slip.read);
+    uint32_t added = slip.records - before;
+    if (refusal == REEFCUSHION_ACCEPTED)
+        printf("  %u came, %u held already: %u records, homes on page 0: %u, on page 1: %u\n", added,
+               other.records - added, slip.records, row[0], row[1]);
+}
+
+// The first merge still meets the broken page. Whoever calls has to settle which commit a clashing request became.
+static void merge_sites(void) {
+    merge();
+    reefcushion_format(&other, sizeof other, other_area, sizeof other_area, 1, 3, 1, OTHER_PAGES);
+    for (uint64_t i = 9; i <= 12; i++)
+        put_there(i, i == 10 ? 999 : 800 + i);
+    merge();
+    take_out(10);
+    merge();
+    find(10);
+    check(&slip);
+}
+
 int main(void) {
     printf("Refused, and nothing done:\n");
     format(sizeof slip - 1, area, sizeof area);
@@ -290,5 +321,8 @@ int main(void) {
 
     printf("What differs at another site, where two groups of a page were the start:\n");
     compare_sites();
+
+    printf("That site is made anew and then retired, and its records come here:\n");
+    merge_sites();
     return 0;
 }

@@ -24,6 +24,7 @@ uint32_t baseline_answer(struct reefcushion_slip *slip, uint32_t refusal, uint32
     slip->moved = 0;
     slip->refusal = (uint16_t)refusal;
     slip->page = 0;
+    slip->file = 0;
     slip->zeros = 0;
     return refusal;
 }
@@ -44,11 +45,11 @@ uint32_t baseline_format(struct reefcushion_slip *slip, uint8_t *area, size_t by
         return baseline_answer(slip, REEFCUSHION_OUT_OF_RANGE, 0);
     if (bytes != page_start(cap))
         return baseline_answer(slip, REEFCUSHION_WRONG_AREA, 0);
-    uint8_t page[PAGE_BYTES] = {0, 1, 0x11, 0};
+    uint8_t page[PAGE_BYTES];
     for (uint32_t i = 0; i < SLOTS; i++)
         write_slot(slot_of(page, i), MARK_EMPTY, 0, 0);
     for (uint32_t address = 0; address < cap; address++) {
-        memcpy(page + 4, &address, 4);
+        write_head(page, address, 0);
         memcpy(area + page_start(address), page, PAGE_BYTES);
     }
     *slip = (struct reefcushion_slip){.n0 = n0,

@@ -30,5 +30,10 @@ uint32_t baseline_compare(const struct reefcushion_slip *slip, const uint8_t *ar
                           const struct reefcushion_slip *other, const uint8_t *other_area, size_t other_bytes,
                           uint8_t *list, size_t list_bytes, struct reefcushion_comparison *answer);
 
+// The other file's records into the living one, whose slip and area are the first and whose row is lent.
+uint32_t baseline_merge(struct reefcushion_slip *slip, uint8_t *area, size_t bytes,
+                        const struct reefcushion_slip *other, const uint8_t *other_area, size_t other_bytes,
+                        uint32_t *row, size_t counts);
+
 // 1 where growth is due, otherwise 0.
 uint32_t baseline_due(const struct reefcushion_slip *slip);

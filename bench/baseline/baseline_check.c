@@ -24,9 +24,8 @@ static bool rises(const struct sight *sight) {
 // Homes rise, so the last one alone has to be at most the address.
 bool baseline_judge(const struct way *way, const uint8_t *area, uint32_t address, struct sight *sight) {
     const uint8_t *page = area + page_start(address);
-    const uint64_t head = PAGE_BYTES | 0x0011 << 16 | (uint64_t)address << 32;
     sight->used = used_on(page);
-    if (load64(page) != head || load64(page + 8) > SLOTS || !slots_hold(page, sight->used, sight->key))
+    if (load64(page) != head_of(address) || load64(page + 8) > SLOTS || !slots_hold(page, sight->used, sight->key))
         return false;
     if (sight->used == 0) {
         memset(sight->home, 0, sizeof sight->home);
@@ -91,4 +90,12 @@ uint32_t baseline_check(struct reefcushion_slip *slip, const uint8_t *area, size
         return baseline_answer(slip, refusal, 0);
     struct way way = baseline_way(slip);
     return baseline_survey(slip, &way, area, NULL);
+}
+
+uint32_t baseline_check_next(const struct reefcushion_slip *slip, const uint8_t *area, size_t bytes, uint32_t read,
+                             struct reefcushion_slip *told) {
+    *told = *slip;
+    const uint32_t refusal = baseline_check(told, area, bytes);
+    told->read += told->read ? read : 0;
+    return refusal;
 }

@@ -6,8 +6,7 @@ enum {
     ENTRY_BYTES = sizeof(struct reefcushion_only),
     UNLIKE_BYTES = sizeof(struct reefcushion_unlike),
     CLOSING_BYTES = sizeof(struct reefcushion_closing),
-    MORE_BYTES = UNLIKE_BYTES - ENTRY_BYTES, // that a record of two values takes
-    FEW = 24                                 // entries that are sorted one by one
+    MORE_BYTES = UNLIKE_BYTES - ENTRY_BYTES // that a record of two values takes
 };
 
 // A file that has passed its check.
@@ -17,13 +16,12 @@ struct checked {
     struct way way;
 };
 
-// Checks a file, and answers where it is refused. A wrong state or length is told with no page read, even where it is
-// the second file's.
+// Checks a file, and answers where it is refused.
 static uint32_t check(struct checked *file, uint16_t number, const struct reefcushion_slip *slip, const uint8_t *area,
                       size_t bytes, struct reefcushion_comparison *answer) {
-    struct reefcushion_slip told = *slip;
-    const uint32_t refusal = baseline_check(&told, area, bytes);
-    answer->read = told.read ? answer->read + told.read : 0;
+    struct reefcushion_slip told;
+    const uint32_t refusal = baseline_check_next(slip, area, bytes, answer->read, &told);
+    answer->read = told.read;
     if (refusal) {
         answer->refusal = told.refusal;
         answer->file = number;
@@ -82,12 +80,7 @@ static void look(struct differences *found, uint32_t only, const struct checked 
     struct sight sight;
     for (uint32_t address = 0; address < from->cap; address++) {
         const uint8_t *slot = from->area + page_start(address) + HEAD_BYTES;
-        sight.used = used_on(slot - HEAD_BYTES);
-        if (!sight.used)
-            continue;
-        for (uint32_t i = 0; i < SLOTS; i++)
-            sight.key[i] = load64(slot + SLOT_BYTES * i + 4);
-        baseline_homes(&in->way, &sight);
+        baseline_sight(&in->way, slot - HEAD_BYTES, &sight);
         for (uint32_t i = 0; i < sight.used; i++, slot += SLOT_BYTES) {
             const uint8_t *held = seek(in, sight.home[i], sight.key[i]);
             if (!held)
@@ -96,59 +89,6 @@ static void look(struct differences *found, uint32_t only, const struct checked 
                 note(found, REEFCUSHION_UNLIKE_KIND, slot);
         }
     }
-}
-
-static uint64_t key_at(const uint8_t *entries, uint32_t i) {
-    return load64(entries + ENTRY_BYTES * (size_t)i + 4);
-}
-
-static void sort_few(uint8_t *entries, uint32_t count) {
-    for (uint32_t i = 1; i < count; i++) {
-        struct reefcushion_only entry;
-        uint32_t to = i;
-        memcpy(&entry, entries + ENTRY_BYTES * (size_t)i, ENTRY_BYTES);
-        while (to && key_at(entries, to - 1) > entry.key)
-            to--;
-        memmove(entries + ENTRY_BYTES * (size_t)(to + 1), entries + ENTRY_BYTES * (size_t)to,
-                ENTRY_BYTES * (size_t)(i - to));
-        memcpy(entries + ENTRY_BYTES * (size_t)to, &entry, ENTRY_BYTES);
-    }
-}
-
-// Brings each entry to the part of the row that its key's byte has, in place: each that is carried is laid where the
-// next one is taken up. A part goes from next to end.
-static void part(uint8_t *entries, uint32_t shift, uint32_t next[256], const uint32_t end[256]) {
-    for (uint32_t byte = 0; byte < 256; byte++)
-        for (; next[byte] < end[byte]; next[byte]++) {
-            uint8_t *place = entries + ENTRY_BYTES * (size_t)next[byte];
-            struct reefcushion_only carried, taken;
-            memcpy(&carried, place, ENTRY_BYTES);
-            for (uint32_t to; (to = carried.key >> shift & 255) != byte; carried = taken) {
-                uint8_t *there = entries + ENTRY_BYTES * (size_t)next[to]++;
-                memcpy(&taken, there, ENTRY_BYTES);
-                memcpy(there, &carried, ENTRY_BYTES);
-            }
-            memcpy(place, &carried, ENTRY_BYTES);
-        }
-}
-
-// Sorts entries by the byte of their keys that starts at this bit and those below it (American flag sort: McIlroy,
-// Bostic and McIlroy, 1993). No keys make it slow: there are eight bytes.
-static void sort_from(uint8_t *entries, uint32_t count, uint32_t shift) {
-    if (count <= FEW) {
-        sort_few(entries, count);
-        return;
-    }
-    uint32_t next[256], end[256] = {0};
-    for (uint32_t i = 0; i < count; i++)
-        end[key_at(entries, i) >> shift & 255]++;
-    for (uint32_t byte = 0, at = 0; byte < 256; byte++) {
-        next[byte] = at;
-        end[byte] = at += end[byte];
-    }
-    part(entries, shift, next, end);
-    for (uint32_t byte = 0, at = 0; shift && byte < 256; at = end[byte++])
-        sort_from(entries + ENTRY_BYTES * (size_t)at, end[byte] - at, shift - 8);
 }
 
 // Lays the entries to the front of the list, those of two values with the second one, which is sought again. What is
@@ -180,7 +120,7 @@ static void write_list(struct differences *found, uint8_t *list, const struct ch
         look(found, REEFCUSHION_ONLY_FIRST_KIND, first, second);
     if (found->only_second)
         look(found, REEFCUSHION_ONLY_SECOND_KIND, second, first);
-    sort_from(entries, count, 56);
+    baseline_sort(entries, count);
     unpack(found, list, second);
     const struct reefcushion_closing closing = {CLOSING_BYTES, REEFCUSHION_CLOSING_KIND, found->only_first,
                                                 found->only_second, found->unlike};

@@ -55,13 +55,6 @@ static uint32_t take_movers(struct resize *resize, const struct growing *growing
     return all;
 }
 
-static bool has_room(const struct resize *resize, const uint32_t *row) {
-    uint32_t end = 0;
-    for (uint32_t home = 0; home <= resize->last; home++)
-        end = first_place(home, end) + row[home];
-    return end <= SLOTS * resize->cap;
-}
-
 // Closes up where the movers were that are taken out, and gives the place after the last record.
 static uint32_t close_up(struct resize *resize) {
     uint32_t from = 0, to = 0, next = 0;
@@ -121,7 +114,7 @@ uint32_t baseline_grow(struct reefcushion_slip *slip, uint8_t *area, size_t byte
         row[home] = resize.count[home];
     const struct growing growing = find_group(&way);
     uint32_t movers = take_movers(&resize, &growing, row);
-    if (!has_room(&resize, row))
+    if (!baseline_has_room(&resize, row))
         return baseline_answer(slip, REEFCUSHION_NO_ROOM, slip->cap);
     slip->moved = rearrange(&resize, &growing, movers);
     slip->pages++;

@@ -67,3 +67,12 @@ void baseline_homes(const struct way *way, struct sight *sight) {
     for (uint32_t i = 0; i < sight->used; i++)
         sight->home[i] = (uint16_t)baseline_home(way, sight->key[i]);
 }
+
+void baseline_sight(const struct way *way, const uint8_t *page, struct sight *sight) {
+    sight->used = used_on(page);
+    if (!sight->used)
+        return;
+    for (uint32_t i = 0; i < SLOTS; i++)
+        sight->key[i] = load64(page + HEAD_BYTES + SLOT_BYTES * i + 4);
+    baseline_homes(way, sight);
+}

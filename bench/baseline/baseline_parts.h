@@ -39,11 +39,19 @@ void baseline_draws_at_start(const struct way *way, const uint64_t key[SLOTS], u
 void baseline_homes_in_step(const struct way *way, const uint64_t key[SLOTS], uint16_t home[SLOTS]);
 bool baseline_mover(uint64_t key, uint32_t turn, uint32_t x);
 
+// The keys of a page that was judged before, with the homes that they have by this way, which may be another file's.
+void baseline_sight(const struct way *way, const uint8_t *page, struct sight *sight);
+
 // Whether a page keeps the page rules; only then is the sight whole.
 bool baseline_judge(const struct way *way, const uint8_t *area, uint32_t address, struct sight *sight);
 
 // Looks a whole file over and answers as check does. Counts the records of each home where there are counts to add to.
 uint32_t baseline_survey(struct reefcushion_slip *slip, const struct way *way, const uint8_t *area, uint16_t *count);
+
+// Checks one of two files, whose slip stays as it is, and tells what check answers. The pages that were read before it
+// count too; but a wrong state or length is told with no page read, even where it is the second file's.
+uint32_t baseline_check_next(const struct reefcushion_slip *slip, const uint8_t *area, size_t bytes, uint32_t read,
+                             struct reefcushion_slip *told);
 
 // The first cause that speaks against a state and the length of its area, or else 0.
 uint32_t baseline_gate(const struct reefcushion_slip *slip, size_t bytes);
@@ -55,6 +63,9 @@ uint32_t baseline_broken(struct reefcushion_slip *slip, uint32_t page, uint32_t 
 // A put behind the gate, by the way that the state has.
 uint32_t baseline_put_by(const struct way *way, struct reefcushion_slip *slip, uint8_t *area, uint64_t key,
                          uint64_t value);
+
+// Sorts entries of 20 bytes each, which have their key where a slot has it, by key.
+void baseline_sort(uint8_t *entries, uint32_t count);
 
 // Whether growth is due in a state that is in range.
 static inline bool past_load(const struct reefcushion_slip *slip) {

@@ -1,5 +1,5 @@
-// What grow and shrink of the plain register share: records that move in place. In an image the number of records of
-// each home says where every record lies: its place is counted in slots from the area's start.
+// What grow and shrink of the plain register share, and merge in part: records that move in place. In an image the
+// number of records of each home says where every record lies: its place is counted in slots from the area's start.
 #pragma once
 #include "baseline_parts.h"
 
@@ -11,10 +11,10 @@ struct mover {
     uint32_t mark, home, place;
 };
 
-// A growth or a shrink at work.
+// A growth or a shrink at work, or the living file of a merge, which takes no movers out.
 struct resize {
     uint8_t *area;
-    uint32_t cap, last; // the pages lent; the page that comes or goes, which is the last home
+    uint32_t cap, last; // the pages lent; the last home, which in a growth or a shrink is the page that comes or goes
     uint32_t taken, moved;
     struct mover mover[ROOM];
     uint16_t count[MOST_PAGES]; // of each home, as the records lie now
@@ -23,6 +23,12 @@ struct resize {
 // Looks the file over and answers as check does, with everything ready for the first round where it accepts.
 uint32_t baseline_resize_begin(struct resize *resize, struct reefcushion_slip *slip, const struct way *way,
                                uint8_t *area, uint32_t last);
+
+// Where the records of each home end.
+void baseline_find_ends(const struct resize *resize, uint16_t end[]);
+
+// Whether there is room for so many records of each home.
+bool baseline_has_room(const struct resize *resize, const uint32_t *row);
 
 // Takes a record out, which is to get this home.
 void baseline_take(struct resize *resize, uint32_t place, uint32_t home);

@@ -1,14 +1,6 @@
 // Shrink of the plain register.
 #include "baseline_resize.h"
 
-// Where the records of each home end.
-static void find_ends(const struct resize *resize, uint16_t end[]) {
-    for (uint32_t home = 0, at = 0; home <= resize->last; home++) {
-        at = first_place(home, at) + resize->count[home];
-        end[home] = (uint16_t)at;
-    }
-}
-
 // Takes out as many of the records with the last home as there is room for. They are the last of all, so the others
 // stay where they are. The way is the one without that page.
 static void take_last(struct resize *resize, const struct way *way, uint16_t end[]) {
@@ -53,7 +45,7 @@ static uint32_t rearrange(struct resize *resize, const struct way *way) {
     if (stamped)
         baseline_stamp(resize);
     while (resize->count[resize->last]) {
-        find_ends(resize, end);
+        baseline_find_ends(resize, end);
         take_last(resize, way, end);
         baseline_sort_taken(resize);
         for (uint32_t next = 0; next < resize->taken;)

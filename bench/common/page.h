@@ -32,6 +32,16 @@ static inline size_t page_start(uint32_t address) {
     return (size_t)PAGE_BYTES * address;
 }
 
+// The first half of a page's head, as one number: length, kind and address. The other half is the records used.
+static inline uint64_t head_of(uint32_t address) {
+    return PAGE_BYTES | 0x0011 << 16 | (uint64_t)address << 32;
+}
+
+static inline void write_head(uint8_t *page, uint32_t address, uint32_t used) {
+    const uint64_t head[2] = {head_of(address), used};
+    memcpy(page, head, sizeof head);
+}
+
 static inline uint8_t *slot_of(uint8_t *page, uint32_t slot) {
     return page + HEAD_BYTES + SLOT_BYTES * slot;
 }

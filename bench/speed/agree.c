@@ -102,6 +102,8 @@ static void ask_damaged(void) {
     }
     if (one_in(8))
         ask_comparisons(false);
+    if (one_in(8))
+        ask_merges(false);
     ours = plain = saved;
 }
 
@@ -197,6 +199,8 @@ static void use_file(uint32_t calls, enum pace pace) {
             keep_file();
         if (one_in(30u + plain.slip.cap))
             ask_comparisons(true);
+        if (one_in(30u + plain.slip.cap))
+            ask_merges(true);
     }
     struct asked asked = right_for_the_file(CHECK);
     ask(CHECK, &asked);
@@ -225,15 +229,15 @@ int main(int words, char **word) {
         files[size]++;
     }
     tell_what_is_asked();
-    const bool all_told = tell_lists();
+    const bool lists_told = tell_lists(), all_told = tell_merges() && lists_told;
     printf("Files of up to %u, %u and %u pages: %lu, %lu and %lu. Files of edition 1 and of edition 2: %lu and %lu. "
            "How often each call gave each answer (0 is accepted, the others are the refusals; for due 1 is yes):\n\n",
            most[0], most[1], most[2], files[0], files[1], files[2], files_of[0], files_of[1]);
     if (!tell_what_was_seen() || !all_told)
         return 1;
     printf("\nIn short: the proved calls and the register in C did the same, to the byte, in %s random calls, among "
-           "them %s pay runs with %s puts, and in %s comparisons of two files.\n",
+           "them %s pay runs with %s puts, and in %s comparisons and %s merges of two files.\n",
            grouped((double)calls_made), grouped((double)runs_made), grouped((double)puts_in_runs),
-           grouped((double)comparisons_made));
+           grouped((double)comparisons_made), grouped((double)merges_made));
     return 0;
 }

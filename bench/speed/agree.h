@@ -9,8 +9,9 @@
 enum { MOST = 512, MOST_ITEMS = 400 }; // pages of the largest file here, puts of the longest run
 enum call { FORMAT, FORMAT_EDITION, FIND, PUT, REMOVE, GROW, SHRINK, CHECK, DUE, PUT_RUN, CALLS };
 
-// The rows of the table: the calls; the puts that stand in runs; comparisons, and their answers about the second file.
-enum { PUT_IN_RUN = CALLS, COMPARE, COMPARE_SECOND, ROWS };
+// The rows of the table: the calls; the puts that stand in runs; comparisons and merges, and their answers about the
+// second file, which of a merge is the one that isn't living.
+enum { PUT_IN_RUN = CALLS, COMPARE, COMPARE_SECOND, MERGE, MERGE_SECOND, ROWS };
 
 // One side's file and its room for replies, with a page, a count and some replies more than the largest, so that
 // writing past the end is seen.
@@ -21,7 +22,7 @@ struct side {
     uint8_t room[REPLY_BYTES * (MOST_ITEMS + 4)];
 };
 extern struct side ours, plain;
-extern unsigned long calls_made, runs_made, puts_in_runs, ways_there_and_back, comparisons_made;
+extern unsigned long calls_made, runs_made, puts_in_runs, ways_there_and_back, comparisons_made, merges_made;
 
 // What a call is asked beside the file itself, and in which of its two ways the plain side works.
 struct asked {
@@ -54,13 +55,16 @@ void see(int row, uint32_t refusal, bool in_step);
 // Prints how often each call gave each refusal; whether all that the calls give were seen, in either way.
 bool tell_what_was_seen(void);
 
-// Keeps the file as it is now, to compare later ones with. Compares the file with one that was kept or with itself, or,
-// where it is as calls leave it, with what comes of it by other calls; and with files that are damaged.
+// Keeps the file as it is now, to compare or merge with later ones. Compares the file with another, which is one that
+// was kept or itself, or, where it is as calls leave it, what comes of it by other calls or one that has nothing to do
+// with it; and merges two such files. Either may be damaged.
 void keep_file(void);
 void ask_comparisons(bool whole);
+void ask_merges(bool whole);
 
-// Prints what comparisons told of; whether all that they tell of was met.
+// Prints what comparisons told of, and what came of merges; whether all that they tell or come to was met.
 bool tell_lists(void);
+bool tell_merges(void);
 
 // A pool of keys for a file that has just begun, and a put of one of them.
 void choose_pool(void);

@@ -1,19 +1,11 @@
-// Comparisons of two files, made to both sides: the file at hand beside what was kept of it or of others before, beside
-// itself with some records changed, and beside the same records in a file of other parameters.
+// Comparisons of two files, made to both sides.
 #include <stdio.h>
-#include <stdlib.h>
 
 #include "../common/grouped.h"
-#include "agree.h"
+#include "agree_pair.h"
 
-enum { KEPT = 4, SHIFTS = 8 }; // a list begins at any byte of a word
+enum { SHIFTS = 8 }; // a list begins at any byte of a word
 enum { MOST_LIST = 2 * SLOT_BYTES * SLOTS * MOST + sizeof(struct reefcushion_closing) };
-
-struct lent {
-    struct reefcushion_slip slip;
-    size_t bytes;
-    uint8_t area[PAGE_BYTES * (MOST + 1)];
-};
 
 // Two files as a side is lent them and where it answers, with more room than the longest list and more than one
 // comparison, so that writing past the end is seen.
@@ -23,81 +15,8 @@ struct pair {
     struct reefcushion_comparison answer[2];
 };
 static struct pair ours_pair, plain_pair;
-static struct lent kept[KEPT];
 unsigned long comparisons_made;
 static unsigned long lists, empty_lists, only_first, only_second, unlike;
-
-static void lend_file_at_hand(struct lent *file) {
-    file->slip = plain.slip;
-    file->bytes = page_start(plain.slip.cap < MOST ? plain.slip.cap : MOST);
-    memcpy(file->area, plain.area, sizeof plain.area);
-}
-
-void keep_file(void) {
-    lend_file_at_hand(&kept[below(KEPT)]);
-}
-
-// Puts, removals and other values for held keys, as far as the file takes them.
-static void change_some(struct lent *file, uint32_t changes) {
-    for (; changes; changes--) {
-        const struct reefcushion_put_record put = any_put();
-        if (!one_in(3))
-            baseline_remove(&file->slip, file->area, file->bytes, put.key);
-        if (!one_in(3))
-            baseline_put(&file->slip, file->area, file->bytes, put.key, put.value);
-    }
-}
-
-// An empty file of any parameters and of at least so many lent pages. It is the same bytes at every size, so it needn't
-// be grown to one.
-static void begin_other(struct lent *file, uint32_t least) {
-    const uint32_t n0 = 1 + below(4), groups = 1 + below(one_in(2) ? 64 : 4), start = n0 * groups;
-    const uint32_t from = start < least ? least : start, cap = from + below(MOST - from + 1) / 8;
-    file->bytes = page_start(cap);
-    if (baseline_format(&file->slip, file->area, file->bytes, (uint16_t)n0, (uint16_t)groups, (uint16_t)(1 + below(8)),
-                        (uint16_t)cap, (uint16_t)(1 + below(2)))) {
-        fputs("no other file to compare with\n", stderr);
-        exit(1);
-    }
-    file->slip.pages += (uint16_t)below(cap - start + 1);
-}
-
-// The records of a file in a file of other parameters, but for those that find no room there.
-static void refile(struct lent *file) {
-    static struct lent other;
-    begin_other(&other, file->slip.cap);
-    for (uint32_t address = 0; address < file->slip.cap; address++) {
-        uint8_t *page = file->area + page_start(address);
-        for (uint32_t i = 0; i < used_on(page); i++)
-            baseline_put(&other.slip, other.area, other.bytes, load64(slot_of(page, i) + 4),
-                         load64(slot_of(page, i) + 12));
-    }
-    *file = other;
-}
-
-// What the file at hand is compared with. Where it is damaged its records aren't looked at.
-static void lend_other_file(struct lent *file, bool whole) {
-    const uint32_t way = below(whole ? 6 : 2);
-    const bool under_other_parameters = way > 3;
-    if (way == 0) {
-        *file = kept[below(KEPT)];
-        return;
-    }
-    lend_file_at_hand(file);
-    if (under_other_parameters)
-        refile(file);
-    if (way > 1 && !(under_other_parameters && one_in(3)))
-        change_some(file, one_in(4) ? below(SLOTS * file->slip.cap) : 1 + below(20));
-}
-
-// The page behind the last may be damaged too: nobody is to look at it.
-static void damage_file(struct lent *file) {
-    switch (below(3)) {
-    case 0: file->bytes = one_in(2) && file->bytes ? file->bytes - 1 - below(PAGE_BYTES) : file->bytes + 1; break;
-    case 1: damage_slip(&file->slip); break;
-    default: damage_page(file->area + page_start(below((uint32_t)(file->bytes / PAGE_BYTES) + 1))); break;
-    }
-}
 
 // Whatever stands in the rooms and in the answers before, on both sides.
 static void fill_pairs(void) {
@@ -195,12 +114,7 @@ static void ask_with_rooms(int second) {
 }
 
 void ask_comparisons(bool whole) {
-    const int at_hand = one_in(2);
-    lend_file_at_hand(&plain_pair.file[at_hand]);
-    lend_other_file(&plain_pair.file[!at_hand], whole);
-    for (int i = 0; i < 2; i++)
-        if (one_in(4))
-            damage_file(&plain_pair.file[i]);
+    lend_pair(plain_pair.file, whole);
     memcpy(ours_pair.file, plain_pair.file, sizeof plain_pair.file);
     ask_with_rooms(one_in(8) ? 0 : 1);
 }

@@ -26,6 +26,8 @@ static const char *const names[ROWS] = {
     "put in a run",
     "compare",
     "compare (second file)",
+    "merge",
+    "merge (second file)",
 };
 static unsigned long seen[2][ROWS][LARGEST + 1]; // by the way that the plain side worked
 
@@ -45,6 +47,8 @@ static const unsigned expected[ROWS] = {
     1 << 0 | 1 << 10 | 1 << 15,
     OF_PUT,
     1 << 0 | 1 << 1 | 1 << 2 | 1 << 4 | 1 << 9 | 1 << 15,
+    1 << 1 | 1 << 2 | 1 << 4 | 1 << 9,
+    1 << 0 | 1 << 1 | 1 << 2 | 1 << 3 | 1 << 4 | 1 << 7 | 1 << 9 | 1 << 13,
     1 << 1 | 1 << 2 | 1 << 4 | 1 << 9,
 };
 

@@ -180,6 +180,7 @@ int main(int words, char **word) {
     }
     measure_editions(scale);
     measure_comparisons(scale);
+    measure_merges(scale);
     print_head(scale);
     print_calls();
     print_verdict(&calls_to_c);
@@ -190,11 +191,13 @@ int main(int words, char **word) {
     print_verdict(&runs_to_single_calls);
     print_reasons();
     print_comparisons(scale);
+    print_merges(scale);
     print_sizes();
     print_editions();
     print_in_short();
     print_run_in_short();
     print_comparisons_in_short();
+    print_merges_in_short();
     print_editions_in_short();
     return 0;
 }

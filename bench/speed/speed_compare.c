@@ -2,10 +2,9 @@
 #include <stdio.h>
 #include <stdlib.h>
 
-#include "../common/empty.h"
 #include "../common/grouped.h"
 #include "speed_figures.h"
-#include "speed_rounds.h"
+#include "speed_pair.h"
 
 enum { PAGES = MOST_PAGES, RECORDS = 48 * PAGES / 5, EACH = RECORDS / 100 / 3, COMPARE_ROUNDS = 6 };
 enum { LIST_BYTES = 2 * SLOT_BYTES * RECORDS + sizeof(struct reefcushion_closing) };
@@ -15,7 +14,6 @@ enum { SAME, CHANGED, STRANGERS, REFILED, SECONDS };
 static const char *const second_names[SECONDS] = {"the same bytes", "1 record in 100 differs", "no key in common",
                                                   "the same records, other parameters, edition 2"};
 
-static struct files second;
 static uint8_t *list[SIDES];
 static struct reefcushion_comparison answer[SIDES];
 
@@ -24,10 +22,6 @@ static struct compared {
     uint32_t differences;
     struct cost cost, to_checks;
 } compared[SECONDS];
-
-static enum side plain_side(void) {
-    return baseline_in_step ? IN_STEP : C;
-}
 
 static uint32_t compare_ours(const struct file *file) {
     const struct file *other = &second.of[OURS];
@@ -42,23 +36,8 @@ static uint32_t compare_plain(const struct file *file) {
                             &answer[side]);
 }
 
-static uint32_t check_ours(struct file *file) {
-    return reefcushion_check(SLIP, AREA);
-}
-
-static uint32_t check_plain(struct file *file) {
-    return baseline_check(&file->slip, AREA);
-}
-
 BATCH(ours_compare, compare_ours(file))
 BATCH(plain_compare, compare_plain(file))
-BATCH(ours_checks, check_ours(file) + check_ours(&second.of[OURS]))
-BATCH(plain_checks, check_plain(file) + check_plain(&second.of[plain_side()]))
-
-static void put(struct file *file, uint64_t key, uint64_t value) {
-    if (baseline_put(&file->slip, AREA, key, value))
-        stop("no room in a file to compare with");
-}
 
 static struct files same_records(const struct files *from) {
     struct files files = files_of(from->style, new_file(PAGES));
@@ -75,35 +54,26 @@ static struct files some_changed(const struct files *from) {
     uint64_t gone[2 * EACH], fresh[EACH];
     take_out(&files, gone, 2 * EACH);
     for (int i = 0; i < EACH; i++)
-        put(&files.first, gone[i], gone[i]);
+        put_into(&files.first, gone[i], gone[i]);
     next_with_room(&files, fresh, EACH);
     for (int i = 0; i < EACH; i++)
-        put(&files.first, fresh[i], ~fresh[i]);
+        put_into(&files.first, fresh[i], ~fresh[i]);
     return files;
 }
 
 // As many records of other keys, those that come next.
 static struct files strangers(const struct files *from) {
-    struct file file = new_file(PAGES);
-    if (empty_file(&file.slip, file.area, 1, PAGES, PAGES))
-        stop("no empty file");
-    struct files files = files_of(from->style, file);
+    struct files files = files_of(from->style, empty_like_others());
     files.fresh = from->fresh;
     fill(&files, RECORDS);
     return files;
 }
 
 static struct files refiled(const struct files *from) {
-    static uint32_t row[PAGES];
-    struct file new = new_file(PAGES), *file = &new;
-    uint32_t refusal = baseline_format(&file->slip, AREA, 3, 16, 2, PAGES, 2);
-    while (!refusal && file->slip.pages < PAGES)
-        refusal = baseline_grow(&file->slip, AREA, row, PAGES);
-    if (refusal)
-        stop("no empty file of other parameters");
+    struct files files = files_of(from->style, empty_unlike_others());
     for (uint32_t i = 0; i < from->held_count; i++)
-        put(file, from->held[i], ~from->held[i]);
-    return files_of(from->style, new);
+        put_into(&files.first, from->held[i], ~from->held[i]);
+    return files;
 }
 
 static void require_same_lists(void) {
@@ -116,11 +86,11 @@ static void require_same_lists(void) {
 // Each round checks both files and then compares them.
 static struct compared time_compare(struct files *first, unsigned rounds) {
     static struct timing compare = {.ours = ours_compare, .plain = plain_compare};
-    static struct timing checks = {.ours = ours_checks, .plain = plain_checks};
-    compare.rounds = checks.rounds = 0;
+    struct timing *checks = &checks_of_both;
+    compare.rounds = checks->rounds = 0;
     restore(&second);
     for (rounds = held_to(rounds); rounds; rounds--) {
-        time_round(&checks, first, NULL, 1, 0);
+        time_round(checks, first, NULL, 1, 0);
         time_round(&compare, first, NULL, 1, 0);
         require_same_lists();
     }
@@ -131,7 +101,7 @@ static struct compared time_compare(struct files *first, unsigned rounds) {
     struct compared told = {.differences = closing.only_first + closing.only_second + closing.unlike,
                             .cost = cost_of(&compare, 1)};
     for (int side = 0; side < SIDES; side++)
-        told.to_checks.of[side] = median(compare.of[side], checks.of[side], compare.rounds);
+        told.to_checks.of[side] = median(compare.of[side], checks->of[side], compare.rounds);
     return told;
 }
 

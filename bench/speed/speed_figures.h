@@ -59,3 +59,8 @@ void print_editions_in_short(void);
 void measure_comparisons(unsigned scale);
 void print_comparisons(unsigned scale);
 void print_comparisons_in_short(void);
+
+// One file merged into another: of the largest size too, with random keys.
+void measure_merges(unsigned scale);
+void print_merges(unsigned scale);
+void print_merges_in_short(void);

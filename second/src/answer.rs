@@ -9,14 +9,16 @@ pub const BROKEN: u16 = 4;
 pub const ABSENT: u16 = 5;
 /// A put of a held key with the value that is held.
 pub const REPEAT: u16 = 6;
-/// A put or a growth that the lent pages have no place for; no shrink is.
+/// A put, a growth or a merge that the lent pages have no place for; no shrink
+/// is.
 pub const NO_ROOM: u16 = 7;
 pub const GROWN_OUT: u16 = 8;
 pub const NOT_THE_IMAGE: u16 = 9;
 pub const BAD_RECORD: u16 = 10;
 pub const CUT_OFF: u16 = 11;
 pub const TOO_MANY_PAGES: u16 = 12;
-/// A put of a held key with another value.
+/// A put of a held key with another value, or a merge of two files that hold a
+/// key with two values.
 pub const CLASH: u16 = 13;
 /// A shrink of a file that has the pages it started with: P = n0 x N.
 pub const NOT_GROWN: u16 = 14;
@@ -69,8 +71,8 @@ impl Answer {
     }
 
     /// Refused because the key of a put is held: a repeat where the held value
-    /// is offered, a clash otherwise. Both tell the held value, and no other
-    /// refusal tells one.
+    /// is offered, a clash otherwise. Both tell the held value; but for them only
+    /// a merge tells something in its place.
     pub fn held(state: State, held: u64, offered: u64, read: usize) -> Answer {
         let refusal = if held == offered { REPEAT } else { CLASH };
         Answer {

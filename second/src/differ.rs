@@ -20,7 +20,8 @@ const CLOSING: u16 = 772;
 /// difference.
 pub const CLOSING_BYTES: usize = 16;
 
-/// A file to compare. A comparison writes to neither of its two.
+/// A file that is only looked at: either one of a comparison, and the other one
+/// of a merge.
 #[derive(Clone, Copy, Debug)]
 pub struct Site<'a> {
     pub state: State,
@@ -49,7 +50,7 @@ impl From<Answer> for Compared {
 }
 
 /// The records of a file, by key. An accepted check has seen no key twice.
-type Set = BTreeMap<u64, u64>;
+pub type Set = BTreeMap<u64, u64>;
 
 /// Compares two files and writes the list to the start of the room; "room
 /// beyond" it "keeps its bytes".
@@ -76,12 +77,15 @@ pub fn whole_list(first: Site, second: Site) -> Result<Vec<u8>, Compared> {
         file: 1,
         ..refused.into()
     })?;
-    let two = judged(second).map_err(|refused| about_second(first.state, refused))?;
+    let two = judged(second).map_err(|refused| Compared {
+        file: 2,
+        ..behind_first(first.state, refused).into()
+    })?;
     Ok(list_of(&one, &two))
 }
 
 /// Judges a file "as check gives them": 1, 2, 4 and 9.
-fn judged(site: Site) -> Result<Set, Answer> {
+pub fn judged(site: Site) -> Result<Set, Answer> {
     if let Some(refused) = refused_early(site.state, site.area) {
         return Err(refused);
     }
@@ -97,19 +101,15 @@ fn judged(site: Site) -> Result<Set, Answer> {
 /// A refusal of the second file, once the first was judged whole. Refusals 1
 /// and 2 "read 0", whatever was read before; to the others the first file's
 /// pages are added.
-fn about_second(first: State, refused: Answer) -> Compared {
+pub fn behind_first(first: State, refused: Answer) -> Answer {
     let read = match refused.refusal {
         OUT_OF_RANGE | WRONG_AREA => 0,
         _ => u32::from(first.cap) + refused.read,
     };
-    Compared {
-        file: 2,
-        ..Answer {
-            read,
-            state: first,
-            ..refused
-        }
-        .into()
+    Answer {
+        read,
+        state: first,
+        ..refused
     }
 }
 

@@ -16,6 +16,7 @@ pub mod figures;
 pub mod home;
 pub mod image;
 pub mod log;
+pub mod merge;
 pub mod page;
 pub mod pay_run;
 pub mod put;

@@ -6,14 +6,14 @@
 //! (4), 513 (2), refusal (2), page (2), value (8), run (4), read (4), moved
 //! (4), file (2), taken (4), state (16), due (2); then area, row and room,
 //! each with its length (4) in front. A state: n0, N, s, P, cap, edition (2
-//! each), r (4). A comparison's second file is the second string: 16 bytes of
-//! its state, then its area.
+//! each), r (4). The second file of a comparison or a merge is the second
+//! string: 16 bytes of its state, then its area.
 
 use crate::answer::Answer;
 use crate::bytes::{eight, four, number, two};
 use crate::calls::Call;
 use crate::commands::{lengths_of, parse};
-use crate::differ::{self, Compared, Site};
+use crate::differ::Compared;
 use crate::log::Failure;
 use crate::pay_run::pay_run;
 use crate::state::State;
@@ -23,6 +23,7 @@ pub use states::{state_bytes, STATE_BYTES};
 use std::io::{Read, Write};
 
 mod states;
+mod two_files;
 
 /// The bytes of a record before its strings.
 pub const RECORD_HEAD: usize = 46;
@@ -39,6 +40,7 @@ pub const LONGEST_ROW: usize = LONGEST_STRING / COUNT_BYTES;
 pub const DUE_KIND: u16 = 256;
 pub const RUN_KIND: u16 = 264;
 pub const COMPARE_KIND: u16 = 265;
+pub const MERGE_KIND: u16 = 266;
 /// The bytes of a count in a row.
 const COUNT_BYTES: usize = 4;
 
@@ -51,8 +53,8 @@ pub struct Case {
     pub b: u64,
     pub c: u64,
     pub area: Vec<u8>,
-    /// The put records of a run, or the second file of a comparison; no other
-    /// call looks at it.
+    /// The put records of a run, or the second file of a comparison or a merge;
+    /// no other call looks at it.
     pub second: Vec<u8>,
     pub row: Vec<u32>,
     /// Where a run writes its replies and a comparison its list; from any other
@@ -80,7 +82,8 @@ impl Default for Case {
 
 impl Case {
     /// The call of this kind, None where there is none: a run is no single
-    /// call, a comparison is none on one file, and other kinds are unknown.
+    /// call, a comparison and a merge are none on one file, and other kinds are
+    /// unknown.
     pub fn call(&self) -> Option<Call> {
         let body = [self.a.to_le_bytes(), self.b.to_le_bytes()].concat();
         match self.kind {
@@ -91,27 +94,12 @@ impl Case {
         }
     }
 
-    /// The first file, which is the only one of most calls.
-    pub fn first_file(&self) -> Site<'_> {
-        Site {
-            state: self.state,
-            area: &self.area,
-        }
-    }
-
-    /// The second file, None where there isn't even a whole state of it.
-    pub fn second_file(&self) -> Option<Site<'_>> {
-        let (state, area) = self.second.split_at_checked(STATE_BYTES)?;
-        let state = state_of(state);
-        Some(Site { state, area })
-    }
-
-    /// Whether there is something to answer. A comparison without a whole state
-    /// of its second file is no record, as with an unknown kind.
+    /// Whether there is something to answer. A comparison or a merge without a
+    /// whole state of its second file is no record, as with an unknown kind.
     fn known(&self) -> bool {
         match self.kind {
             RUN_KIND => true,
-            COMPARE_KIND => self.second_file().is_some(),
+            COMPARE_KIND | MERGE_KIND => self.second_file().is_some(),
             _ => self.call().is_some(),
         }
     }
@@ -179,22 +167,12 @@ impl Case {
     fn make(&mut self) -> Result<Option<Compared>, String> {
         let made = match (self.kind, self.call()) {
             (COMPARE_KIND, _) => return self.compare(),
+            (MERGE_KIND, _) => return self.merge(),
             (RUN_KIND, _) => pay_run(self.state, &mut self.area, &self.second, &mut self.room),
             (_, Some(call)) => witnessed(call, self.state, &mut self.area, &mut self.row),
             _ => return Ok(None),
         };
         made.map(|answer| Some(answer.into()))
-    }
-
-    /// Compares the two files, None where there is no second one. Both are lent
-    /// while the room is written, so the room is taken out for that time.
-    fn compare(&mut self) -> Result<Option<Compared>, String> {
-        let mut room = std::mem::take(&mut self.room);
-        let second = self.second_file();
-        let made =
-            second.map(|second| differ::witness::witnessed(self.first_file(), second, &mut room));
-        self.room = room;
-        made.transpose()
     }
 
     /// The reply that tells this, once all else is as the call left it.

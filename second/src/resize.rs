@@ -22,7 +22,7 @@ pub fn grow(state: State, area: &mut [u8], row: &mut [u32]) -> Answer {
         Err(refused) => return refused,
     };
     let grown = state.one_page_grown();
-    count_homes(grown, &pages, row);
+    count_homes(grown, records(&pages), row);
     if !has_room(row) {
         return Answer::refused(state, NO_ROOM, pages.len());
     }
@@ -45,7 +45,7 @@ pub fn shrink(state: State, area: &mut [u8]) -> Answer {
 /// Makes the image for the size of the other state, once the pages have passed
 /// their check and nothing can be refused any more.
 fn resized(other: State, pages: &[Page], area: &mut [u8]) -> Answer {
-    let made = remake(other, pages);
+    let made = remake(other, records(pages));
     area.copy_from_slice(&made);
     Answer {
         moved: moved_between(other, pages, area),
@@ -59,41 +59,38 @@ fn records(pages: &[Page]) -> impl Iterator<Item = Record> + '_ {
         .flat_map(|page| (0..page.count).map(|slot| page.record(slot)))
 }
 
-/// Fills the row with "the number of records of each home" at the size to
-/// grow to.
-fn count_homes(grown: State, pages: &[Page], row: &mut [u32]) {
+/// Fills the row with "the number of records of each home" at the size of this
+/// state: the one to grow to, or the one that a merge leaves.
+pub fn count_homes(state: State, records: impl Iterator<Item = Record>, row: &mut [u32]) {
     row.fill(0);
-    for record in records(pages) {
-        row[home(grown, record.key) as usize] += 1;
+    for record in records {
+        row[home(state, record.key) as usize] += 1;
     }
 }
 
 /// Each page keeps twelve and passes the rest on; nothing may be left over.
-fn has_room(row: &[u32]) -> bool {
+pub fn has_room(row: &[u32]) -> bool {
     let left_over = row.iter().fold(0, |passed, &count| {
         (passed + count).saturating_sub(SLOTS as u32)
     });
     left_over == 0
 }
 
-/// Puts every record into an empty file of the other size. The order of
-/// putting doesn't matter, since "at most one image exists". A growth was seen
-/// to have room and a shrink always has, so a put that is refused is a mistake
-/// of this program: it stops here rather than lose a record.
-fn remake(other: State, pages: &[Page]) -> Vec<u8> {
-    let mut made = vec![0; other.area_bytes()];
-    for address in 0..pages.len() {
+/// Puts every record into an empty file of this size. The order of putting
+/// doesn't matter, since "at most one image exists". A growth and a merge were
+/// seen to have room and a shrink always has, so a put that is refused is a
+/// mistake of this program: it stops here rather than lose a record.
+pub fn remake(size: State, records: impl Iterator<Item = Record>) -> Vec<u8> {
+    let mut made = vec![0; size.area_bytes()];
+    for address in 0..usize::from(size.cap) {
         write(&mut made, address, &Page::EMPTY);
     }
-    let mut state = State {
-        records: 0,
-        ..other
-    };
-    for record in records(pages) {
+    let mut state = State { records: 0, ..size };
+    for record in records {
         let answer = put(state, &mut made, record);
         assert_eq!(
             answer.refusal, 0,
-            "a record of a checked file found no place at another size"
+            "a record of a checked file found no place"
         );
         state = answer.state;
     }

@@ -3,6 +3,7 @@ use crate::commands::hex;
 
 mod comparisons;
 mod editions;
+mod merges;
 
 /// What a state that isn't looked at has for its edition.
 const NO_EDITION: u16 = 0x7776;
@@ -36,7 +37,13 @@ fn a_record_reads_back() {
     let case = format_case();
     assert_eq!(Case::parse(&case.record()), Some(case.clone()));
     assert_eq!(Case::parse(&case.record()[1..]), None);
-    assert_eq!(Case { kind: 265, ..case }.call(), None);
+    for kind in [265, 266] {
+        let of_two = Case {
+            kind,
+            ..case.clone()
+        };
+        assert_eq!(of_two.call(), None);
+    }
 }
 
 /// A check that finds its area too short, or its edition wrong, byte by byte.
@@ -239,7 +246,7 @@ fn answering_ends_at_what_is_no_record() {
     assert_eq!(replies_around(&[]), 2);
     assert_eq!(replies_around(&case.record()), 3);
     let mut wrong: Vec<Vec<u8>> = Vec::new();
-    for kind in [0, 255, 265, 266, 513, 65535] {
+    for kind in [0, 255, 265, 266, 267, 513, 65535] {
         let unknown = Case {
             kind,
             ..case.clone()

@@ -7,6 +7,8 @@ use crate::edition_scenes::{misread, wrong_editions};
 use crate::files::{image, of_other_edition, parameters, File};
 use crate::held::held_again;
 use crate::loose::{loosen, scatter, wrong_count};
+use crate::merges::merges;
+use crate::merging::some_merge;
 use crate::random::Random;
 use crate::runs::{pay_runs, some_run};
 use crate::shrinks::shrinks;
@@ -16,12 +18,12 @@ use crate::values::offered;
 use crate::wrong::{wrong_asked, wrong_format, wrong_length, wrong_row, wrong_state};
 use second::commands::FORMAT_KIND;
 use second::page::PAGE_BYTES;
-use second::raw::{Case, COMPARE_KIND, RUN_KIND};
+use second::raw::{Case, COMPARE_KIND, MERGE_KIND, RUN_KIND};
 use second::state::State;
 
 /// Generates one scene: a file and some calls on it.
 pub fn scene(random: &mut Random, sink: &mut Sink) -> Result<(), String> {
-    match random.index(63) {
+    match random.index(76) {
         0..=2 => chain(random, sink),
         3..=8 => {
             let mut file = image(random);
@@ -39,7 +41,8 @@ pub fn scene(random: &mut Random, sink: &mut Sink) -> Result<(), String> {
         43..=44 => misread(random, sink),
         45 => wrong_editions(random, sink),
         46..=48 => shrinks(random, sink),
-        49..=56 => comparisons(random, sink),
+        49..=58 => comparisons(random, sink),
+        59..=69 => merges(random, sink),
         _ => pay_runs(random, sink),
     }
 }
@@ -47,8 +50,10 @@ pub fn scene(random: &mut Random, sink: &mut Sink) -> Result<(), String> {
 /// A call on a file, with a row of the right length for grow; a shrink may have
 /// one like it, though it needs none.
 pub fn some_call(random: &mut Random, file: &mut File) -> Case {
-    if random.one_in(16) {
-        return some_comparison(random, file);
+    match random.index(16) {
+        0 => return some_comparison(random, file),
+        1 => return some_merge(random, file),
+        _ => {}
     }
     let kind = random.pick(&[
         256, 258, 258, 258, 259, 259, 260, 260, 260, 261, 261, 262, 263, 263, RUN_KIND,
@@ -60,6 +65,7 @@ pub fn call_of(random: &mut Random, file: &mut File, kind: u16) -> Case {
     match kind {
         RUN_KIND => return some_run(random, file),
         COMPARE_KIND => return some_comparison(random, file),
+        MERGE_KIND => return some_merge(random, file),
         _ => {}
     }
     let entries = if kind == 261 || (kind == 263 && random.one_in(3)) {

@@ -61,7 +61,7 @@ pub fn chain(random: &mut Random, sink: &mut Sink) -> Result<(), String> {
 /// A file that lives through a chain of calls.
 impl File {
     /// Makes one call on the file as it is, and keeps what it leaves.
-    fn keep(&mut self, case: Case, sink: &mut Sink) -> Result<(), String> {
+    pub fn keep(&mut self, case: Case, sink: &mut Sink) -> Result<(), String> {
         let area = std::mem::take(&mut self.area);
         let state = self.state;
         let after = sink.ask(Case {

@@ -2,6 +2,7 @@
 
 use crate::fault_ways;
 use crate::list_ways::{self, kinds};
+use crate::merge_ways;
 use crate::sites::MOST_PAGES;
 use crate::ways::{each, Pair};
 use second::differ::read_back::{read_back, Difference};
@@ -51,7 +52,7 @@ pub const COMPARISON_PAIRS: [(u16, &[u16]); 9] = [
     (LARGEST, &[0, 1, 2, 3]),
 ];
 
-/// The names of all rows of comparisons.
+/// The names of all rows of calls on two files.
 pub fn name(row: u16) -> &'static str {
     match row {
         ROOM_LEFT => "room left",
@@ -65,6 +66,7 @@ pub fn name(row: u16) -> &'static str {
         LARGEST => "largest",
         other => {
             let known = list_ways::name(other).or(fault_ways::name(other));
+            let known = known.or(merge_ways::name(other));
             known.unwrap_or("unknown")
         }
     }
@@ -127,12 +129,7 @@ fn some(row: u16, some: &[u16], number: usize) -> Vec<Pair> {
 
 fn files(first: Site, second: Site, list: &[Difference]) -> Vec<Pair> {
     let (one, two) = (first.state, second.state);
-    let filled = |state: State| match state.records {
-        0 => 0,
-        _ if state.at_most_records() => 2,
-        _ => 1,
-    };
-    let mut pairs = vec![(FILLED, 3 * filled(one) + filled(two))];
+    let mut pairs = vec![(FILLED, filled(one, two))];
     let numbers = other_numbers(one, two);
     let other_bytes = first.area != second.area;
     if !list.is_empty() {
@@ -145,9 +142,19 @@ fn files(first: Site, second: Site, list: &[Difference]) -> Vec<Pair> {
     pairs
 }
 
+/// How much either file holds: none, some, or as much as there may be.
+pub fn filled(one: State, two: State) -> u16 {
+    let of = |state: State| match state.records {
+        0 => 0,
+        _ if state.at_most_records() => 2,
+        _ => 1,
+    };
+    3 * of(one) + of(two)
+}
+
 /// The only number in which two states differ but for r, by its place; 0 where
 /// there is none and 7 where there are several.
-fn other_numbers(one: State, two: State) -> u16 {
+pub fn other_numbers(one: State, two: State) -> u16 {
     let numbers = |state: State| {
         [
             state.n0,

@@ -12,8 +12,8 @@ use crate::sites::{
 use crate::values::other;
 use crate::wrong_sites::{both_wrong, either_wrong, no_files, wrong_numbers, wrong_pages};
 use second::image::standing;
-use second::page::SLOTS;
-use second::raw::{Case, LONGEST_STRING};
+use second::page::{Record, SLOTS};
+use second::raw::{Case, COMPARE_KIND, LONGEST_STRING};
 
 /// Some comparisons. Each scene goes through all of its ways, so that none has
 /// to be waited for.
@@ -28,11 +28,11 @@ pub fn comparisons(random: &mut Random, sink: &mut Sink) -> Result<(), String> {
         6 => largest(random, sink),
         7 => lived(random, sink),
         8 => any_two(random, sink),
-        9 => either_wrong(random, sink),
+        9 => either_wrong(random, COMPARE_KIND, sink),
         10 => both_wrong(random, sink),
-        11 | 12 => wrong_numbers(random, sink),
-        13 => wrong_pages(random, sink),
-        _ => no_files(random, sink),
+        11 | 12 => wrong_numbers(random, COMPARE_KIND, sink),
+        13 => wrong_pages(random, COMPARE_KIND, sink),
+        _ => no_files(random, COMPARE_KIND, sink),
     }
 }
 
@@ -61,7 +61,7 @@ pub fn holding_some(random: &mut Random) -> File {
 }
 
 /// An image that has no slot free.
-fn full(random: &mut Random) -> File {
+pub fn full(random: &mut Random) -> File {
     loop {
         let mut file = image(random);
         file.fill_up(random);
@@ -181,24 +181,25 @@ fn largest(random: &mut Random, sink: &mut Sink) -> Result<(), String> {
     let in_both = random.index(200);
     for [only_in_one, two_values, the_same] in [[815, 3, in_both], [818, 1, in_both]] {
         let gone = random.within(300, 500) as usize;
-        let first = large(random, gone + two_values + the_same);
+        let first = any_records(random, gone + two_values + the_same);
+        let first = large(random, &first);
         let second = changed(random, &first, [gone, only_in_one - gone, two_values]);
         let mut case = comparison(random, &first, &second);
         case.room = random.bytes(LONGEST_STRING);
         sink.ask(case)?;
     }
-    let (first, second) = (large(random, most), large(random, most));
+    let [first, second] = [any_records(random, most), any_records(random, most)];
+    let [first, second] = [large(random, &first), large(random, &second)];
     both_ways(random, &first, &second, sink)?;
     let same = with_any_numbers(random, &records(&first));
     both_ways(random, &first, &same, sink)
 }
 
-/// A file of so many records on as many pages as there may be.
-fn large(random: &mut Random, count: usize) -> File {
-    let records = any_records(random, count);
-    let mut state = with_any_numbers(random, &records).state;
+/// A file of these records on as many pages as there may be.
+pub fn large(random: &mut Random, records: &[Record]) -> File {
+    let mut state = with_any_numbers(random, records).state;
     state.cap = MOST_PAGES;
-    let file = laid_out(random, state, &records);
+    let file = laid_out(random, state, records);
     file.expect("more pages have room as well")
 }
 

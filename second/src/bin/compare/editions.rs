@@ -9,7 +9,7 @@ use second::calls::Call;
 use second::commands::{FORMAT_KIND, HEAD_BYTES, PUT_BYTES, REPLY_BYTES};
 use second::home::home;
 use second::image::standing;
-use second::raw::{Case, COMPARE_KIND, DUE_KIND, RUN_KIND};
+use second::raw::{Case, COMPARE_KIND, DUE_KIND, MERGE_KIND, RUN_KIND};
 use second::state::{State, EDITIONS};
 
 /// Accepted calls in either edition, by kind. Of those that look for keys only
@@ -39,6 +39,7 @@ const KINDS: &[u16] = &[
     263,
     RUN_KIND,
     COMPARE_KIND,
+    MERGE_KIND,
 ];
 pub const SOME_WRONG: &[u16] = &[0, 3, 257, 258, 65535];
 const SOME_LOW: &[u16] = &[1, 2, 4];

@@ -4,12 +4,13 @@
 use crate::files::image;
 use crate::idle;
 use crate::launch::Launcher;
+use crate::merging::some_merge;
 use crate::random::Random;
 use crate::show::Stop;
 use crate::sites::some_comparison;
 use second::log::Failure;
 use second::raw::{
-    Case, COMPARE_KIND, LONGEST_STRING, RECORD_HEAD, RUN_KIND, STATE_BYTES, STRING_HEAD,
+    Case, COMPARE_KIND, LONGEST_STRING, MERGE_KIND, RECORD_HEAD, RUN_KIND, STATE_BYTES, STRING_HEAD,
 };
 
 /// Compares the endings and gives their number.
@@ -72,7 +73,7 @@ fn around(random: &mut Random, wrong: Vec<u8>) -> Vec<u8> {
 
 fn endings(random: &mut Random) -> Vec<Vec<u8>> {
     let mut inputs = vec![Vec::new()];
-    for kind in [0, 1, 17, 255, 266, 272, 512, 513, 519, 65535] {
+    for kind in [0, 1, 17, 255, 267, 272, 512, 513, 519, 65535] {
         let wrong = Case {
             kind,
             ..good(random)
@@ -146,22 +147,26 @@ fn odd_strings(random: &mut Random) -> Vec<Vec<u8>> {
     inputs
 }
 
-/// Comparisons whose second file has no whole state, and such as have one but
-/// an area of the wrong length.
+/// Comparisons and merges whose second file has no whole state, and such as have
+/// one but an area of the wrong length.
 fn second_files(random: &mut Random) -> Vec<Vec<u8>> {
     let lengths = (0..=STATE_BYTES + 2).chain([255, 256, 257, 271, 272, 273, LONGEST_STRING]);
     let mut inputs = Vec::new();
     for length in lengths {
         let file = image(random);
-        let mut case = some_comparison(random, &file);
-        case.second.resize(length, 1);
-        inputs.push(around(random, case.record()));
-        let any = Case {
-            kind: COMPARE_KIND,
-            second: random.bytes(length),
-            ..good(random)
-        };
-        inputs.push(around(random, any.record()));
+        let cases = [some_comparison(random, &file), some_merge(random, &file)];
+        for mut case in cases {
+            case.second.resize(length, 1);
+            inputs.push(around(random, case.record()));
+        }
+        for kind in [COMPARE_KIND, MERGE_KIND] {
+            let any = Case {
+                kind,
+                second: random.bytes(length),
+                ..good(random)
+            };
+            inputs.push(around(random, any.record()));
+        }
     }
     inputs
 }

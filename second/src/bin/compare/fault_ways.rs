@@ -1,5 +1,5 @@
 //! What was wrong with either file of a comparison: rows of the table beside
-//! those of the calls.
+//! those of the calls. Some of them are told of merges too.
 
 use crate::editions::SOME_WRONG;
 use crate::ways::{each, Pair};
@@ -97,13 +97,19 @@ pub fn pairs(first: Site, second: Site, room: &[u8]) -> Vec<Pair> {
     if room.len() < CLOSING_BYTES {
         pairs.push((AND_ROOM, 10 * (file as u16 + 1) + told.refusal));
     }
-    pairs.extend(match told.refusal {
+    pairs.extend(details(file, site, other));
+    pairs
+}
+
+/// What was wrong with a file, the first (0) or the second (1) of the two.
+pub fn details(file: usize, site: Site, other: Site) -> Vec<Pair> {
+    let told = fault(site);
+    match told.refusal {
         OUT_OF_RANGE => wrong_number(file, site.state),
         WRONG_AREA => wrong_length(file, site, other),
         BROKEN => broken(file, site, told.page.into()),
         _ => wrong_count(file, site),
-    });
-    pairs
+    }
 }
 
 /// The rules for the numbers of a state, in the order of their numbers in the

@@ -1,7 +1,7 @@
 //! The fields that no call looks at yet, filled with anything now and then.
 
 use crate::random::Random;
-use second::raw::{Case, COMPARE_KIND, LONGEST_STRING, RUN_KIND};
+use second::raw::{Case, COMPARE_KIND, LONGEST_STRING, MERGE_KIND, RUN_KIND};
 
 /// One in so many cases has another number in a field, and other bytes in a
 /// string.
@@ -10,10 +10,11 @@ const STRINGS: u64 = 6;
 
 /// Fills idle fields of a case; the reply must be the same but for the room.
 pub fn fill(random: &mut Random, case: &mut Case) {
-    // Due, grow, check, shrink, a run and a comparison take no number at all;
-    // format and put take two.
-    let strings_count = [RUN_KIND, COMPARE_KIND].contains(&case.kind);
-    let no_number = strings_count || [256, 261, 262, 263].contains(&case.kind);
+    // Due, grow, check, shrink, a run and the calls on two files take no number
+    // at all; format and put take two.
+    let room_counts = [RUN_KIND, COMPARE_KIND].contains(&case.kind);
+    let second_counts = room_counts || case.kind == MERGE_KIND;
+    let no_number = second_counts || [256, 261, 262, 263].contains(&case.kind);
     if no_number && random.one_in(NUMBERS) {
         case.a = number(random);
     }
@@ -23,10 +24,10 @@ pub fn fill(random: &mut Random, case: &mut Case) {
     if random.one_in(NUMBERS) {
         case.c = number(random);
     }
-    if !strings_count && random.one_in(STRINGS) {
+    if !second_counts && random.one_in(STRINGS) {
         case.second = string(random, &case.area);
     }
-    if !strings_count && random.one_in(STRINGS) {
+    if !room_counts && random.one_in(STRINGS) {
         case.room = string(random, &case.area);
     }
 }
@@ -60,8 +61,8 @@ mod tests {
     fn nothing_but_the_room_changes() {
         let mut random = Random::new(3, 0);
         let mut filled = std::collections::BTreeSet::new();
-        for round in 0..2000 {
-            let kind = 256 + (round % 10) as u16;
+        for round in 0..2200 {
+            let kind = 256 + (round % 11) as u16;
             let mut file = crate::files::image(&mut random);
             let plain = crate::cases::call_of(&mut random, &mut file, kind);
             let mut idle = plain.clone();
@@ -83,8 +84,9 @@ mod tests {
             assert_eq!(reply(idle), expected, "round {round}");
         }
         // All five for due, grow, check and shrink; a is asked of the others and
-        // b of format and put, and a run and a comparison are asked both strings.
-        assert_eq!(filled.len(), 10 * 5 - 4 - 2 - 2 * 2);
+        // b of format and put, a run and a comparison are asked both strings and
+        // a merge the first of them.
+        assert_eq!(filled.len(), 11 * 5 - 4 - 2 - 2 * 2 - 1);
     }
 
     fn reply(mut case: Case) -> Vec<u8> {

@@ -119,7 +119,7 @@ fn far(first: Site, second: Site, list: &[Difference]) -> Vec<Pair> {
 }
 
 /// The only byte in which two numbers differ, if it is one.
-fn only_byte(one: u64, other: u64) -> Option<u16> {
+pub fn only_byte(one: u64, other: u64) -> Option<u16> {
     let differ = (one ^ other).to_le_bytes();
     let mut bytes = (0..).zip(differ).filter(|(_, byte)| *byte != 0);
     match (bytes.next(), bytes.next()) {

@@ -5,7 +5,8 @@
 //! answered by the programs `raw_calls` and `register_log` in DIR, started
 //! with the prefix, and compares every byte. `shortest` writes raw calls to
 //! standard output instead, one for each call and refusal and for each way that
-//! a run, a shrink or a comparison can take or an edition can count.
+//! a run, a shrink or a comparison can take or an edition can count, and for
+//! some of the ways of a merge.
 
 mod breaks;
 mod cases;
@@ -26,6 +27,9 @@ mod log_run;
 mod log_ways;
 mod logs;
 mod loose;
+mod merge_ways;
+mod merges;
+mod merging;
 mod other_numbers;
 mod random;
 mod raw_run;
@@ -41,6 +45,7 @@ mod table;
 mod values;
 mod ways;
 mod wrong;
+mod wrong_merges;
 mod wrong_sites;
 
 use launch::Launcher;

@@ -1,5 +1,5 @@
-//! Comparisons of files that hold the same records, or nearly so, and differ in
-//! one number of their states.
+//! Files that hold the same records, or nearly so, and differ in one number of
+//! their states: comparisons of them, and merges.
 
 use crate::comparisons::both_ways;
 use crate::files::File;
@@ -39,7 +39,7 @@ pub fn same_records(random: &mut Random, sink: &mut Sink) -> Result<(), String> 
 
 /// A state with three groups, of which at least two have grown once. Two sweeps
 /// take them in another order than any other number does.
-fn three_groups(random: &mut Random) -> State {
+pub fn three_groups(random: &mut Random) -> State {
     let n0 = random.within(1, 2);
     let pages = 4 + 2 * n0 + random.within(0, 1);
     let cap = pages + random.within(1, 2);
@@ -59,7 +59,7 @@ fn three_groups(random: &mut Random) -> State {
 
 /// The same records with another n0, N, s, P, cap or edition, or with any
 /// numbers, and with other bytes; None where a few tries found none.
-fn with_other_number(
+pub fn with_other_number(
     random: &mut Random,
     file: &File,
     records: &[Record],

@@ -1,11 +1,11 @@
-//! One raw call for each call and each refusal it can give, and for each way
-//! that a run, a shrink or a comparison can take or an edition can count, the
-//! shortest of many: a run small enough to be stored.
+//! One raw call for each call and each refusal it can give, for each way that a
+//! run, a shrink or a comparison can take or an edition can count, and for some
+//! ways of a merge, the shortest of many: a run small enough to be stored.
 
 use crate::cases::scene;
 use crate::random::Random;
 use crate::sink::Sink;
-use crate::ways::{takes_many, Pair};
+use crate::ways::{stored, Pair};
 use std::collections::BTreeMap;
 use std::io::Write;
 
@@ -30,7 +30,7 @@ fn pick(seed: u64, calls: u64) -> Result<BTreeMap<Pair, Vec<u8>>, String> {
         scene(&mut Random::new(seed, piece), &mut sink)?;
         piece += 1;
         for asked in sink.asked.drain(..) {
-            for &pair in asked.pairs.iter().filter(|&&pair| !takes_many(pair)) {
+            for &pair in asked.pairs.iter().filter(|&&pair| stored(pair)) {
                 let best = picked.entry(pair).or_default();
                 if best.is_empty() || asked.record.len() < best.len() {
                     best.clone_from(&asked.record);
@@ -56,7 +56,7 @@ mod tests {
             .flat_map(|(row, numbers)| numbers.iter().map(|&number| (*row, number)));
         assert_eq!(
             picked.into_keys().collect::<Vec<_>>(),
-            pairs.filter(|&pair| !takes_many(pair)).collect::<Vec<_>>()
+            pairs.filter(|&pair| stored(pair)).collect::<Vec<_>>()
         );
     }
 }

@@ -2,10 +2,11 @@
 
 use crate::comparison_ways::swapped;
 use crate::idle;
+use crate::merge_ways::{self, turned};
 use crate::random::Random;
 use crate::table::Table;
 use crate::ways::{pairs, Pair};
-use second::raw::Case;
+use second::raw::{Case, MERGE_KIND};
 
 /// What is asked and what this program answers.
 pub struct Asked {
@@ -46,12 +47,18 @@ impl Sink {
         let mut after = case;
         idle::fill(&mut self.idle, &mut after);
         let record = after.record();
+        // A merge may change the very records that tell what it was like.
+        let before = (after.kind == MERGE_KIND).then(|| after.clone());
         let Some((answer, reply)) = after.answer()? else {
             return Ok(after);
         };
         if self.left > 0 {
             self.left -= 1;
             let mut pairs = pairs(&after, answer.refusal);
+            if let Some(before) = before {
+                pairs.extend(merge_ways::pairs(&before, &after, &reply));
+                pairs.extend(self.turned_round(&before, &reply));
+            }
             // A comparison may be the one before it the other way round.
             let last = self.asked.last().map(|last| &last.record[..]);
             pairs.extend(last.and_then(|last| swapped(last, &after, answer.refusal)));
@@ -68,5 +75,12 @@ impl Sink {
             });
         }
         Ok(after)
+    }
+
+    /// What a merge counts for where the one before it had the files the other
+    /// way round.
+    fn turned_round(&self, merge: &Case, reply: &[u8]) -> Option<Pair> {
+        let last = self.asked.last()?;
+        turned(&last.record, &last.reply, merge, reply)
     }
 }

@@ -1,5 +1,5 @@
-//! Second files to compare a file with: the same, with the same records, with
-//! a few others, with any, and with something wrong.
+//! Second files to compare a file with or to merge into it: the same, with the
+//! same records, with a few others, with any, and with something wrong.
 
 use crate::breaks::break_page;
 use crate::fault_ways::fault;
@@ -21,7 +21,7 @@ use std::collections::BTreeSet;
 pub const MOST_PAGES: u16 = ((LONGEST_STRING - STATE_BYTES) / PAGE_BYTES) as u16;
 
 impl File {
-    /// The file as a comparison takes it.
+    /// The file as a call on two files takes it.
     pub fn site(&self) -> Site<'_> {
         Site {
             state: self.state,
@@ -70,7 +70,7 @@ pub fn some_comparison(random: &mut Random, file: &File) -> Case {
 }
 
 /// A file that has more or less to do with another one.
-fn relative(random: &mut Random, file: &File) -> File {
+pub fn relative(random: &mut Random, file: &File) -> File {
     match random.index(8) {
         0 => file.clone(),
         1 => with_any_numbers(random, &records(file)),

@@ -5,9 +5,10 @@ use crate::editions::{self, EDITION_PAIRS};
 use crate::fault_ways::FAULT_PAIRS;
 use crate::list_ways::LIST_PAIRS;
 use crate::log_ways::{self, LOG_WAYS};
+use crate::merge_ways::MERGE_PAIRS;
 use crate::shrink_ways::{self, SHRINK_PAIRS};
 use crate::ways::{self, Pair, RUN_PAIRS};
-use second::raw::{COMPARE_KIND, RUN_KIND};
+use second::raw::{COMPARE_KIND, MERGE_KIND, RUN_KIND};
 use std::collections::BTreeMap;
 use std::fmt;
 
@@ -15,9 +16,9 @@ use std::fmt;
 pub const PROGRAM: u16 = 0;
 
 /// The pairs of call and refusal that the rules make possible for raw calls;
-/// what a run, a shrink or a comparison can be like and what the editions do is
-/// told beside them.
-pub const CALL_PAIRS: [(u16, &[u16]); 10] = [
+/// what a run, a shrink, a comparison or a merge can be like and what the
+/// editions do is told beside them.
+pub const CALL_PAIRS: [(u16, &[u16]); 11] = [
     (256, &[0]),
     (257, &[0, 1, 2]),
     (258, &[0, 1, 2, 4, 6, 7, 9, 13]),
@@ -28,6 +29,7 @@ pub const CALL_PAIRS: [(u16, &[u16]); 10] = [
     (263, &[0, 1, 2, 4, 9, 14]),
     (RUN_KIND, &[0, 10, 15]),
     (COMPARE_KIND, &[0, 1, 2, 4, 9, 15]),
+    (MERGE_KIND, &[0, 1, 2, 3, 4, 7, 9, 13]),
 ];
 
 /// Those for logs; what their formats can be like is told beside them. The
@@ -48,7 +50,7 @@ const COMMAND_PAIRS: [(u16, &[u16]); 8] = [
 pub fn raw_pairs() -> Vec<(u16, &'static [u16])> {
     let ways = [&RUN_PAIRS[..], &EDITION_PAIRS, &SHRINK_PAIRS].concat();
     let of_two = [&LIST_PAIRS[..], &COMPARISON_PAIRS, &FAULT_PAIRS].concat();
-    [&CALL_PAIRS[..], &ways, &of_two].concat()
+    [&CALL_PAIRS[..], &ways, &of_two, &MERGE_PAIRS].concat()
 }
 
 /// All pairs that have to come among logs.
@@ -78,6 +80,7 @@ pub fn name(kind: u16) -> &'static str {
         263 => "shrink",
         RUN_KIND => "pay run",
         COMPARE_KIND => "comparison",
+        MERGE_KIND => "merge",
         way => way_name(way),
     }
 }

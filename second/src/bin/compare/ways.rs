@@ -3,6 +3,7 @@
 
 use crate::comparison_ways;
 use crate::editions;
+use crate::merge_ways;
 use crate::shrink_ways;
 use second::answer::BAD_RECORD;
 use second::bytes::two;
@@ -88,10 +89,12 @@ pub fn each(row: u16, ways: &[bool]) -> Vec<Pair> {
     so.map(|(way, _)| (row, way)).collect()
 }
 
-/// Whether only long runs or large files count for this pair.
-pub fn takes_many(pair: Pair) -> bool {
+/// Whether a call for this pair is worth storing. Only long runs or large files
+/// count for some, and of merges not all that is told is stored.
+pub fn stored(pair: Pair) -> bool {
     let many_items = (ITEMS..=EMPTY_ROOM).contains(&pair.0) && pair.1 >= MANY;
-    many_items || comparison_ways::takes_many(pair)
+    let takes_many = many_items || comparison_ways::takes_many(pair);
+    !takes_many && !merge_ways::only_told(pair)
 }
 
 fn size(items: usize) -> u16 {

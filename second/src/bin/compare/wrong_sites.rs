@@ -1,4 +1,5 @@
-//! Comparisons of files of which the first, the second or both are wrong.
+//! Comparisons and merges of files of which the first, the second or both are
+//! wrong.
 
 use crate::breaks::break_page;
 use crate::comparisons::holding_some;
@@ -6,37 +7,48 @@ use crate::editions::SOME_WRONG;
 use crate::fault_ways::fault;
 use crate::files::{image, of_other_edition, File};
 use crate::loose::loosen;
+use crate::merging::of_two;
 use crate::random::Random;
 use crate::sink::Sink;
 use crate::sites::{comparison, spoiled};
-use crate::wrong::wrong_edition;
+use crate::wrong::{wrong_edition, wrong_row};
 use second::answer::{BROKEN, NOT_THE_IMAGE, OUT_OF_RANGE, WRONG_AREA};
 use second::differ::CLOSING_BYTES;
 use second::image::standing;
 use second::page::{judge, PAGE_BYTES};
-use second::raw::{Case, LONGEST_STRING, STATE_BYTES};
+use second::raw::{Case, COMPARE_KIND, LONGEST_STRING, STATE_BYTES};
 use second::state::State;
 
-const REFUSALS: [u16; 4] = [OUT_OF_RANGE, WRONG_AREA, BROKEN, NOT_THE_IMAGE];
+pub const REFUSALS: [u16; 4] = [OUT_OF_RANGE, WRONG_AREA, BROKEN, NOT_THE_IMAGE];
 
-/// A comparison with the wrong file as the first or as the second.
-fn placed(random: &mut Random, wrong: &File, right: &File, first: bool) -> Case {
+/// A call of this kind with the wrong file as the first or as the second.
+fn placed(random: &mut Random, kind: u16, wrong: &File, right: &File, first: bool) -> Case {
     if first {
-        comparison(random, wrong, right)
+        of_two(random, kind, wrong, right)
     } else {
-        comparison(random, right, wrong)
+        of_two(random, kind, right, wrong)
     }
 }
 
-/// One file wrong in every way, with a room and with none to speak of.
-pub fn either_wrong(random: &mut Random, sink: &mut Sink) -> Result<(), String> {
+/// Makes what is lent beside the files wrong: the room of a comparison too
+/// short for any list, or the row of a merge.
+fn spoil_the_lent(random: &mut Random, case: &mut Case) {
+    if case.kind == COMPARE_KIND {
+        case.room.truncate(random.index(CLOSING_BYTES));
+    } else {
+        wrong_row(random, &mut case.row);
+    }
+}
+
+/// One file wrong in every way, with a right room or row and with a wrong one.
+pub fn either_wrong(random: &mut Random, kind: u16, sink: &mut Sink) -> Result<(), String> {
     let (one, other) = (image(random), image(random));
     for first in [true, false] {
         for refusal in REFUSALS {
             let wrong = spoiled(random, &one, refusal);
-            let mut case = placed(random, &wrong, &other, first);
+            let mut case = placed(random, kind, &wrong, &other, first);
             sink.ask(case.clone())?;
-            case.room.truncate(random.index(CLOSING_BYTES));
+            spoil_the_lent(random, &mut case);
             sink.ask(case)?;
         }
     }
@@ -52,7 +64,7 @@ pub fn both_wrong(random: &mut Random, sink: &mut Sink) -> Result<(), String> {
             let second = spoiled(random, &other, of_second);
             let mut case = comparison(random, &first, &second);
             if random.one_in(4) {
-                case.room.truncate(random.index(CLOSING_BYTES));
+                spoil_the_lent(random, &mut case);
             }
             sink.ask(case)?;
         }
@@ -62,19 +74,19 @@ pub fn both_wrong(random: &mut Random, sink: &mut Sink) -> Result<(), String> {
 
 /// Each rule for the numbers of a state broken by itself, editions that there
 /// aren't, and areas that aren't as long as the state says.
-pub fn wrong_numbers(random: &mut Random, sink: &mut Sink) -> Result<(), String> {
+pub fn wrong_numbers(random: &mut Random, kind: u16, sink: &mut Sink) -> Result<(), String> {
     let (good, other) = of_two_sizes(random);
     let first = random.one_in(2);
     for rule in 0..8 {
         let mut wrong = good.clone();
         wrong.state = breaking(random, good.state, rule);
-        let case = placed(random, &wrong, &other, first);
+        let case = placed(random, kind, &wrong, &other, first);
         sink.ask(case)?;
     }
     for &edition in SOME_WRONG {
         let mut wrong = good.clone();
         wrong.state.edition = edition;
-        let case = placed(random, &wrong, &other, false);
+        let case = placed(random, kind, &wrong, &other, false);
         sink.ask(case)?;
     }
     let right = good.area.len();
@@ -90,7 +102,7 @@ pub fn wrong_numbers(random: &mut Random, sink: &mut Sink) -> Result<(), String>
         wrong
             .area
             .resize(length.min(LONGEST_STRING - STATE_BYTES), 0);
-        let case = placed(random, &wrong, &other, first);
+        let case = placed(random, kind, &wrong, &other, first);
         sink.ask(case)?;
     }
     Ok(())
@@ -124,7 +136,7 @@ fn breaking(random: &mut Random, good: State, rule: usize) -> State {
 
 /// Broken pages at the start, between and at the end of either file, more than
 /// one of them, and good pages that are no image of r records.
-pub fn wrong_pages(random: &mut Random, sink: &mut Sink) -> Result<(), String> {
+pub fn wrong_pages(random: &mut Random, kind: u16, sink: &mut Sink) -> Result<(), String> {
     let (good, other) = (of_three_pages(random), image(random));
     let last = usize::from(good.state.cap) - 1;
     let middle = random.within(1, last as u64 - 1) as usize;
@@ -132,7 +144,7 @@ pub fn wrong_pages(random: &mut Random, sink: &mut Sink) -> Result<(), String> {
         let pages = [&[0][..], &[middle], &[last], &[middle, last], &[0, middle]];
         for pages in pages {
             let wrong = broken_at(random, &good, pages);
-            let case = placed(random, &wrong, &other, first);
+            let case = placed(random, kind, &wrong, &other, first);
             sink.ask(case)?;
         }
         let held = good.state.records;
@@ -140,11 +152,11 @@ pub fn wrong_pages(random: &mut Random, sink: &mut Sink) -> Result<(), String> {
         for records in [held - 1, held + 1, held - 2, most] {
             let mut wrong = good.clone();
             wrong.state.records = records;
-            let case = placed(random, &wrong, &other, first);
+            let case = placed(random, kind, &wrong, &other, first);
             sink.ask(case)?;
         }
         let wrong = no_image(random, &good);
-        let case = placed(random, &wrong, &other, first);
+        let case = placed(random, kind, &wrong, &other, first);
         sink.ask(case)?;
     }
     Ok(())
@@ -190,7 +202,7 @@ fn no_image(random: &mut Random, good: &File) -> File {
 
 /// No file at all, one taken for the other edition, and bytes that are none:
 /// as the first file, as the second, and as both.
-pub fn no_files(random: &mut Random, sink: &mut Sink) -> Result<(), String> {
+pub fn no_files(random: &mut Random, kind: u16, sink: &mut Sink) -> Result<(), String> {
     let (one, other) = (image(random), image(random));
     let mut none = other.clone();
     (none.state, none.area) = (State::default(), Vec::new());
@@ -200,14 +212,14 @@ pub fn no_files(random: &mut Random, sink: &mut Sink) -> Result<(), String> {
     noise.area = random.bytes(other.area.len());
     for wrong in [&none, &misread, &noise] {
         for first in [true, false] {
-            let case = placed(random, wrong, &one, first);
+            let case = placed(random, kind, wrong, &one, first);
             sink.ask(case)?;
         }
     }
-    let mut case = comparison(random, &one, &other);
+    let mut case = of_two(random, kind, &one, &other);
     let length = random.within(STATE_BYTES as u64, 300) as usize;
     case.second = random.bytes(length);
     sink.ask(case)?;
-    let case = comparison(random, &none, &none);
+    let case = of_two(random, kind, &none, &none);
     sink.ask(case).map(|_| ())
 }

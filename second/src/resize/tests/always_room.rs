@@ -169,10 +169,10 @@ fn every_file_that_passes_its_check_shrinks() {
 /// Thirteen records that live on the last of two pages have no place there,
 /// and laying them out doesn't end with one of them lost.
 #[test]
-#[should_panic(expected = "found no place at another size")]
+#[should_panic(expected = "a record of a checked file found no place")]
 fn a_record_without_a_place_stops_the_program() {
     let mut file = Trial::of_ones(2).expect("agrees");
     assert_eq!(file.put_up_to(12), Ok(0));
     let pages = judge_all(file.state, &file.area).expect("an image");
-    remake(file.state.one_page_grown(), &pages);
+    remake(file.state.one_page_grown(), records(&pages));
 }

@@ -1,0 +1,110 @@
+//! Files drawn at random, merged both ways round and one after the other.
+
+use super::*;
+use crate::home::next_draw;
+use std::collections::BTreeMap;
+
+/// Draws one number after the other.
+struct Draws(u64);
+
+impl Draws {
+    fn below(&mut self, limit: u64) -> u64 {
+        self.0 = next_draw(self.0);
+        self.0 % limit
+    }
+
+    /// A key: one of few small ones, or of few that are spread over all 64
+    /// bits.
+    fn key(&mut self) -> u64 {
+        let small = self.below(90);
+        match self.below(2) {
+            0 => small,
+            _ => small.wrapping_mul(0x9e37_79b9_7f4a_7c15),
+        }
+    }
+
+    /// A file with numbers of its own and up to so many records. A key mostly
+    /// has the value that it has in every file.
+    fn file(&mut self, most: u64) -> Trial {
+        let start = [3, 3, 8].map(|limit| 1 + self.below(limit) as u16);
+        let least = start[0] * start[1];
+        let cap = least + self.below(4) as u16;
+        let mut file = Trial::fresh(start, cap, 1 + self.below(2)).expect("agrees");
+        for _ in 0..self.below(u64::from(cap - least) + 1) {
+            file.ask(Call::Grow).expect("agrees");
+        }
+        for _ in 0..self.below(most + 1) {
+            let key = self.key();
+            let value = u64::from(self.below(200) == 0);
+            file.ask(Call::Put { key, value }).expect("agrees");
+        }
+        file
+    }
+}
+
+/// The set of both, None where a key has two values.
+fn in_both(one: &Trial, two: &Trial) -> Option<Vec<(u64, u64)>> {
+    let mut all: BTreeMap<u64, u64> = held(one).into_iter().collect();
+    for (key, value) in held(two) {
+        if *all.entry(key).or_insert(value) != value {
+            return None;
+        }
+    }
+    Some(all.into_iter().collect())
+}
+
+/// Every refusal that two right files can give comes often, and what is
+/// accepted holds the set of both.
+#[test]
+fn either_way_round_the_set_is_that_of_both() {
+    let mut draws = Draws(1);
+    let mut refusals = BTreeMap::<(u16, u16), usize>::new();
+    for round in 0..400 {
+        let most = [3, 40, 80, 200][round % 4];
+        let (one, two) = (draws.file(most), draws.file(most));
+        let both = in_both(&one, &two);
+        let told = [(&one, &two), (&two, &one)].map(|(living, other)| {
+            let mut after = copy(living);
+            let (merged, _) = merged(&mut after, other, living.state.cap.into());
+            let refusal = merged.answer.refusal;
+            assert_eq!(refusal == CLASH, both.is_none(), "round {round}");
+            assert!(refusal != 0 || Some(held(&after)) == both);
+            refusal
+        });
+        *refusals.entry((told[0], told[1])).or_default() += 1;
+    }
+    let seen: Vec<(u16, u16)> = refusals.keys().copied().collect();
+    assert_eq!(seen, [(0, 0), (0, 7), (7, 0), (7, 7), (13, 13)]);
+    assert!(refusals.values().all(|&times| times >= 10), "{refusals:?}");
+}
+
+/// Sites retired one after the other: in whatever order they are merged, the
+/// living file ends with the same bytes.
+#[test]
+fn the_order_of_several_merges_does_not_matter() {
+    let living = grown([2, 2, 3], 10, 2, 4, &tenfold(0..20));
+    let others = [
+        holding(3, &tenfold(15..40)),
+        grown([1, 3, 2], 6, 2, 2, &tenfold((0..30).map(|key| 77 * key))),
+        grown([4, 1, 1], 5, 1, 0, &tenfold(u64::MAX - 20..u64::MAX)),
+    ];
+    let orders = [
+        [0, 1, 2],
+        [0, 2, 1],
+        [1, 0, 2],
+        [1, 2, 0],
+        [2, 0, 1],
+        [2, 1, 0],
+    ];
+    let ends = orders.map(|order| {
+        let mut file = copy(&living);
+        for number in order {
+            file = accepted(&file, &others[number]).0;
+        }
+        file
+    });
+    assert!(ends.iter().all(|end| end.area == ends[0].area));
+    // 40 and 20 records, and 29 multiples of 77, of which none else is below 40
+    // but 0.
+    assert_eq!(ends[0].state.records, 40 + 20 + 29);
+}

@@ -1,53 +1,49 @@
-// Makes register files to try things with: keep FILE < commands. A register file is the 16 bytes of the state that a
-// slip begins with, and the pages behind them. It is read if it is there, the commands are carried out, a line each,
-// and it is written back. What is refused is told with its line. It isn't made for daily use: a run that is cut off
-// while it writes leaves half a file.
+// Makes register files to try things with: keep FILE < commands. The file is read if it is there, the commands are
+// carried out, a line each, and it is written back. What is refused is told with its line. It isn't made for daily use:
+// a run that is cut off while it writes leaves half a file.
 #include <errno.h>
 #include <stdbool.h>
 #include <stdio.h>
 #include <string.h>
 
-#include "reefcushion.h"
+#include "register_file.h"
 
-enum { STATE_BYTES = offsetof(struct reefcushion_slip, value), MOST_PAGES = 4096 };
 enum { MOST_LINE = 200, MOST_WORDS = 7 };
 
 // The register, with as many pages as its file has or a format asked for. There is none before the first format.
-static struct reefcushion_slip slip;
-static uint8_t area[MOST_PAGES * REEFCUSHION_PAGE];
-static size_t area_bytes;
+static struct register_file file;
+static struct reefcushion_slip *const slip = &file.slip;
 static uint32_t row[MOST_PAGES];
-static bool is_there;
 
 // More pages than there are in all are refused by their number, so it doesn't matter how many are lent then.
 static uint32_t format(const uint64_t *number) {
-    size_t bytes = number[3] < MOST_PAGES ? number[3] * REEFCUSHION_PAGE : sizeof area;
+    size_t bytes = number[3] < MOST_PAGES ? number[3] * REEFCUSHION_PAGE : MOST_AREA;
     uint32_t refusal =
-        reefcushion_format_edition(&slip, sizeof slip, area, bytes, (uint16_t)number[0], (uint16_t)number[1],
+        reefcushion_format_edition(slip, sizeof *slip, file.area, bytes, (uint16_t)number[0], (uint16_t)number[1],
                                    (uint16_t)number[2], (uint16_t)number[3], (uint16_t)number[4]);
     if (refusal == REEFCUSHION_ACCEPTED) {
-        area_bytes = bytes;
-        is_there = true;
+        file.area_bytes = bytes;
+        file.has_state = true;
     }
     return refusal;
 }
 
 static uint32_t put(const uint64_t *number) {
-    return reefcushion_put(&slip, sizeof slip, area, area_bytes, number[0], number[1]);
+    return reefcushion_put(slip, sizeof *slip, file.area, file.area_bytes, number[0], number[1]);
 }
 
 static uint32_t take_out(const uint64_t *number) {
-    return reefcushion_remove(&slip, sizeof slip, area, area_bytes, number[0]);
+    return reefcushion_remove(slip, sizeof *slip, file.area, file.area_bytes, number[0]);
 }
 
 static uint32_t grow(const uint64_t *number) {
     (void)number;
-    return reefcushion_grow(&slip, sizeof slip, area, area_bytes, row, slip.cap < MOST_PAGES ? slip.cap : MOST_PAGES);
+    return reefcushion_grow(slip, sizeof *slip, file.area, file.area_bytes, row, row_counts(&file));
 }
 
 static uint32_t shrink(const uint64_t *number) {
     (void)number;
-    return reefcushion_shrink(&slip, sizeof slip, area, area_bytes);
+    return reefcushion_shrink(slip, sizeof *slip, file.area, file.area_bytes);
 }
 
 // A command takes so many numbers, none above the largest.
@@ -83,13 +79,13 @@ static void say_refusal(uint32_t refusal) {
         printf("the file isn't as long as its state says\n");
         break;
     case REEFCUSHION_BROKEN:
-        printf("page %u is broken\n", slip.page);
+        printf("page %u is broken\n", slip->page);
         break;
     case REEFCUSHION_ABSENT:
         printf("absent\n");
         break;
     case REEFCUSHION_HELD:
-        printf("held already, as commit %llu\n", (unsigned long long)slip.value);
+        printf("held already, as commit %llu\n", (unsigned long long)slip->value);
         break;
     case REEFCUSHION_NO_ROOM:
         printf("no room\n");
@@ -101,7 +97,7 @@ static void say_refusal(uint32_t refusal) {
         printf("the count or the image is wrong\n");
         break;
     case REEFCUSHION_CLASH:
-        printf("clash: commit %llu is held\n", (unsigned long long)slip.value);
+        printf("clash: commit %llu is held\n", (unsigned long long)slip->value);
         break;
     case REEFCUSHION_AT_START:
         printf("the file has the pages that it started with\n");
@@ -203,22 +199,17 @@ static bool carry_out_all(void) {
 // A file that isn't there is a register with nothing in it yet. One that is there has a whole state and no more pages
 // than a register can have; whether they go together the calls will tell.
 static bool read_file(const char *name) {
-    FILE *file = fopen(name, "rb");
-    if (!file)
+    if (!read_register(&file, name))
         return errno == ENOENT;
-    is_there = fread(&slip, 1, STATE_BYTES, file) == STATE_BYTES;
-    area_bytes = fread(area, 1, sizeof area, file);
-    bool whole = is_there && getc(file) == EOF && !ferror(file);
-    fclose(file);
-    return whole;
+    return file.has_state && file.area_bytes <= MOST_AREA;
 }
 
 static bool write_file(const char *name) {
-    FILE *file = fopen(name, "wb");
-    if (!file)
+    FILE *out = fopen(name, "wb");
+    if (!out)
         return false;
-    bool whole = fwrite(&slip, 1, STATE_BYTES, file) == STATE_BYTES && fwrite(area, 1, area_bytes, file) == area_bytes;
-    return fclose(file) == 0 && whole;
+    bool whole = write_register(&file, out);
+    return fclose(out) == 0 && whole;
 }
 
 int main(int words, char **word) {
@@ -235,7 +226,7 @@ int main(int words, char **word) {
         fprintf(stderr, "keep: the commands can't be read, and %s is left as it was\n", word[1]);
         return 2;
     }
-    if (is_there && !write_file(word[1])) {
+    if (file.has_state && !write_file(word[1])) {
         fprintf(stderr, "keep: %s can't be written\n", word[1]);
         return 2;
     }

@@ -3,3 +3,4 @@
 int *__errno_location(void);
 #define errno (*__errno_location())
 #define ENOENT 2
+#define EEXIST 17

@@ -16,7 +16,7 @@ use Rattle.pages.specs.declared.Page.{Page}
 use Rattle.pages.specs.Page.{Record, vacant, homeFor, countIn, recordsIn, padded, inMemory}
 use Rattle.pages.specs.steps.Slots.{paired, recordsOf}
 use Rattle.pages.specs.Area.{partAt}
-use Rattle.pages.specs.steps.Known.{AllHere, OnceHere, Known, fullBefore, KnownAt}
+use Rattle.pages.specs.steps.Known.{AllHere, OnceHere, Known, fullBefore, KnownHere, KnownAt}
 use Rattle.pages.proofs.Memory.{page-records}
 use Rattle.pages.proofs.Read.{row-starts, length-held}
 use Rattle.pages.proofs.Seeking.{paired-length, paired-key}
@@ -32,6 +32,10 @@ full-by-count f area (suc b) n z e =
 pub known-page : (f : Layout) (new : NewHomes) (area : List ℕ) (a : ℕ) (p : Page) (u v : Bool) → p ≡ inMemory (recordsIn f (partAt area a)) → u ≡ keepsAt new a → v ≡ fullBefore f area a
     → KnownAt f new area a → Known (newHome new) a (u && not v) u (recordsOf p)
 known-page f new area a p u v e s b k = rw (page-records p (recordsIn f (partAt area a)) e, s, b) k
+
+pub here-page : (f : Layout) (h : ℕ → ℕ) (area : List ℕ) (a : ℕ) (p : Page) (v : Bool) → p ≡ inMemory (recordsIn f (partAt area a)) → v ≡ fullBefore f area a
+    → KnownHere f h area a → Known h a (not v) true (recordsOf p)
+here-page f h area a p v e b k = rw (page-records p (recordsIn f (partAt area a)) e, b) k
 
 pub homes-page : (h : ℕ → ℕ) (p : Page) (rs : List Record) → p ≡ inMemory rs → padded (map (homeFor h) (recordsOf p)) ≡ padded (map (homeFor h) rs)
 homes-page h p rs e = ap (λ (s : List Record). padded (map (homeFor h) s)) (page-records p rs e)

@@ -15,7 +15,7 @@ ghost use Rattle.homes.specs.steps.NewHomes.{Usable, newHome};
 ghost use Rattle.pages.specs.Page.{homeFor, recordsIn, inMemory, padded};
 ghost use Rattle.pages.specs.steps.Slots.{recordsOf};
 ghost use Rattle.pages.specs.Area.{partAt};
-ghost use Rattle.pages.specs.steps.Known.{Known, KnownAt, fullBefore};
+ghost use Rattle.pages.specs.steps.Known.{Known, KnownHere, KnownAt, fullBefore};
 
 // The homes of the records of page a. `all` says that each is at home there, `once` that each after
 // one that is; any other home is worked out.
@@ -46,6 +46,16 @@ fn full_before(area: &[u8], a: usize) -> bool
     }
     let at = 256 * (a - 1);
     SLOTS <= crate::count_in(&area[at..at + 256], IN_USE)
+}
+
+// The homes of the records of page a of an image.
+pub fn homes_here(area: &[u8], a: usize, page: Page, shape: Shape) -> [u64; 12]
+    requires { ⌜ (a < 4096) × (256 * (a + 1) ≤ length (now area)) × (page ≡ inMemory (recordsIn inUse (partAt (now area) a))) ⌝ }
+    requires { ⌜ Ready shape × KnownHere inUse (homeIn shape) (now area) a ⌝ }
+    ensures { λ r. ⌜ r ≡ padded (map (homeFor (homeIn shape)) (recordsOf page)) ⌝ }
+{
+    let full = full_before(area, a);
+    homes_on(page, a as u64, shape, !full, true)
 }
 
 // The new homes of the records of page a.

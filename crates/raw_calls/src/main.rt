@@ -10,8 +10,10 @@ use raw_records::Answered;
 use raw_records::Asked;
 use raw_records::COMPARE;
 use raw_records::LONGEST;
+use raw_records::MERGE;
 use records::Told;
 use state::Done;
+use state::Numbers;
 use state::State;
 ghost use mathlib.Core.Path.{_≡_};
 ghost use Prim.Native.Nat.{_+_, _*_, _≤_};
@@ -48,23 +50,49 @@ fn of_one(told: Told) -> Answered {
     }
 }
 
-// A comparison with the file that the second string is: a state, then an area. A sound record has the
+// An answer about two files, with the first one's state after the call.
+fn of_two(state: State, numbers: Numbers, file: u16, taken: u32) -> Answered {
+    Answered {
+        told: Told { state, numbers },
+        file,
+        taken,
+    }
+}
+
+fn compare(state: State, area: &[u8], there: State, other: &[u8], room: &mut [u8]) -> Answered {
+    let n = comparisons::compare(state, area, there, other, room).numbers();
+    of_two(state, n.numbers, n.file, n.taken)
+}
+
+fn merge(state: State, area: &mut [u8], there: State, other: &[u8], row: &mut [u32]) -> Answered {
+    let done = merges::merge(state, area, there, other, row);
+    let answer = done.answer;
+    let n = answer.numbers();
+    of_two(done.state, n.numbers, n.file, 0)
+}
+
+// The call with the file that the second string is: a state, then an area. A sound record has the
 // state; what has none doesn't come here.
-fn compare(state: State, area: &[u8], second: &[u8], room: &mut [u8]) -> Answered {
+fn call_two(
+    asked: Asked,
+    area: &mut [u8],
+    second: &[u8],
+    row: &mut [u32],
+    room: &mut [u8],
+) -> Answered {
+    let state = asked.state;
     if second.len() < 16 {
         return of_one(due(state));
     }
     let there = slips::get_state(second, 0);
-    let n = comparisons::compare(state, area, there, &second[16..], room).numbers();
-    let numbers = n.numbers;
-    Answered {
-        told: Told { state, numbers },
-        file: n.file,
-        taken: n.taken,
+    let other = &second[16..];
+    if asked.kind == MERGE {
+        return merge(state, area, there, other, row);
     }
+    compare(state, &area[..], there, other, room)
 }
 
-// The call on two files that a sound record asks for, or the one on one file.
+// The call on one file that a sound record asks for, or the one on two.
 fn call(
     asked: Asked,
     area: &mut [u8],
@@ -72,10 +100,10 @@ fn call(
     row: &mut [u32],
     room: &mut [u8],
 ) -> Answered {
-    if asked.kind == COMPARE {
-        return compare(asked.state, &area[..], second, room);
+    if asked.kind < COMPARE {
+        return of_one(call_one(asked, area, second, row, room));
     }
-    of_one(call_one(asked, area, second, row, room))
+    call_two(asked, area, second, row, room)
 }
 
 // What is no kind doesn't come here, so it may stand in a neighbour's arm.

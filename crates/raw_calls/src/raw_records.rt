@@ -12,8 +12,11 @@ ghost use Rattle.raw_calls.specs.Records.{Lying};
 // The most bytes of a string.
 pub(crate) const LONGEST: usize = 16400;
 
-// The kind of a comparison, which is the last that is known.
+// The kind of a comparison, which is the first of the calls on two files.
 pub(crate) const COMPARE: u16 = 265;
+
+// The kind of a merge, which is the last that is known.
+pub(crate) const MERGE: u16 = 266;
 
 // An end that no record reaches.
 const PAST: usize = 65663;
@@ -74,8 +77,8 @@ pub(crate) fn asked_in(bytes: &[u8]) -> Asked
     }
 }
 
-// Known kinds, a row of whole counts, strings that end where the record does, and for a comparison the
-// state of the second file.
+// Known kinds, a row of whole counts, strings that end where the record does, and for a call on two
+// files the state of the second.
 pub(crate) fn is_sound(asked: Asked, end: usize) -> bool
     requires { ⌜ (asked .room ≤ end → Lying asked) ⌝ }
     ensures { λ r. ⌜ (r ≡ true → Lying asked × (asked .room ≡ end)) ⌝ }
@@ -87,7 +90,7 @@ pub(crate) fn is_sound(asked: Asked, end: usize) -> bool
     let bytes = asked.second - asked.area - 4;
     ((asked.row - asked.second) % 4 == 0)
         & (256 <= kind)
-        & ((kind < COMPARE) | ((kind == COMPARE) & (16 <= bytes)))
+        & ((kind < COMPARE) | ((kind <= MERGE) & (16 <= bytes)))
 }
 
 pub(crate) fn read_row(bytes: &[u8], row: &mut [u32])

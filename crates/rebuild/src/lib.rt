@@ -129,26 +129,6 @@ fn strange(from: u16, a: usize) -> u32
     if from as usize == a { 0 } else { 1 }
 }
 
-// All records of another area as entries, in the order of its pages, below what stands from `top` on; the
-// answer is where they begin.
-pub fn pack_below(area: &mut [u8], top: usize, source: &[u8], cap: usize, shape: Shape) -> usize
-    requires { ⌜ (cap ≤ 4096) × (length (now source) ≡ 256 * cap) × Ready shape × (top ≤ length (now area)) × (size * length (packed (homeIn shape) cap (now source)) ≤ top) ⌝ }
-    ensures { λ r. ⌜ r ≡ top - size * length (packed (homeIn shape) cap (now (source .entry))) ⌝ }
-    ensures { λ r. ⌜ now (area .exit) ≡ take r (now (area .entry)) ++ (rowBytes (packed (homeIn shape) cap (now (source .entry))) ++ drop top (now (area .entry))) ⌝ }
-{
-    let mut at = top;
-    let mut a = cap;
-    while 0 < a {
-        a -= 1;
-        let page = pages::parse_at(source, a, IN_USE);
-        let count = page.count;
-        let keys = page.keys;
-        let homes = pages::homes_of(count, keys, shape);
-        at = pack_page(area, page, homes, a, shape, at);
-    }
-    at
-}
-
 // Sorted entries at the top end of an area laid on its pages; the answer is how many came from
 // another page. Where all have room, a page ends below the first entry that is not yet read.
 pub fn unpack(area: &mut [u8], cap: usize, base: usize) -> u32

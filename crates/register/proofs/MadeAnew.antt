@@ -104,7 +104,7 @@ module _ (s : State) (range : inRange inUse s ≡ true) {new : NewHomes} (m : Re
   pub rehomed-known : (area : List ℕ) → Bytes area → length area ≡ 256 * s .cap → imageGate inUse s area ≡ Open → (a : ℕ) → a < s .cap → KnownAt inUse new area a
   rehomed-known area b l e =
       let k : GoodFile inUse s area = open-good inUse s area e in
-      image-known inUse (homes s) new same-page area (s .cap) (good-pages inUse (homes s) area b (s .cap) 0 (omega arith) (k .whole)) (k .image)
+      image-known inUse (homes s) area new same-page (s .cap) (good-pages inUse (homes s) area b (s .cap) 0 (omega arith) (k .whole)) (k .image)
 
 -- the homes that were counted are those at one page more
 pub counted : (s next : State) → next ≡ grown s → (new : NewHomes) → new .shape ≡ shapeOf (next .params) (next .p) → (area row : List ℕ) (g : Gate) → CountedIf g s new area row → g ≡ Open → row ≡ grownCounts inUse s area

@@ -18,6 +18,8 @@ use Rattle.state.specs.declared.State.{State}
 use Rattle.state.specs.State.{homes}
 use Rattle.state.specs.Promises.{Ranged}
 use Rattle.state.proofs.Ranges.{ranged, in-shape}
+use Rattle.survey.proofs.ImageTest.{good-pages}
+use Rattle.survey.proofs.Knowing.{image-here}
 use Rattle.gates.specs.steps.Past.{OpenImage}
 use Rattle.gates.proofs.Judging.{open-good, held-set, held-image}
 use Rattle.sites.specs.Held.{heldIn}
@@ -45,11 +47,12 @@ module _ (s : State) (area : List ℕ) (b : Bytes area) (g : OpenImage inUse s a
       let w : Ranged inUse s = ranged inUse s (g .0) in
       let set = held-set inUse s area b (g .1) k in
       let image = held-image inUse s area b (g .1) k in
+      let here = image-here inUse (homes s) area (s .cap) (good-pages inUse (homes s) area b (s .cap) 0 (omega (arith, g .1)) (k .whole)) (k .image) in
       record {
         range = w;
         set = set;
         small = held-small inUse area b (s .cap) 0 (omega (arith, g .1));
         count = k .count;
         looks = λ j l. find-image key (homes s) _ j l set image;
-        walks = record { few = w .cap-high; long = g .1; ready = in-shape inUse s (g .0); grown = w .p-high; image = image };
+        walks = record { few = w .cap-high; long = g .1; ready = in-shape inUse s (g .0); grown = w .p-high; image = image; known = here };
       }

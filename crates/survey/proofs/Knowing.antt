@@ -17,7 +17,7 @@ use Rattle.placing.proofs.Rank.{mono}
 use Rattle.numbers.proofs.Records.{and-left, and-right}
 use Rattle.pages.specs.Page.{Record, key, recordsIn}
 use Rattle.pages.specs.Area.{partAt, heldFrom}
-use Rattle.pages.specs.steps.Known.{AllHere, OnceHere, Known, fullBefore, KnownAt}
+use Rattle.pages.specs.steps.Known.{AllHere, OnceHere, Known, fullBefore, KnownHere, KnownAt}
 use Rattle.pages.proofs.Rules.{homes-all, rises-sorted}
 use Rattle.survey.specs.Survey.{startsAtHome, nextLow, imageFrom, isImage}
 use Rattle.survey.proofs.ImageTest.{GoodPage, GoodFrom, three}
@@ -39,19 +39,11 @@ module _ (h : ℕ → ℕ) (a : ℕ) where
       let l : a ≤ h (key x) = leb-true a (h (key x)) e in
       (omega (arith, t .0), all-after x p l s (t .1))
 
--- h are the old homes, with which the new ones agree
-module _ (f : Layout) (h : ℕ → ℕ) (new : NewHomes) (same : Agrees h new) where
-  module _ (a : ℕ) (on : keepsAt new a ≡ true) where
-    all-still : (p : List Record) → AllHere h a p → AllHere (newHome new) a p
-    all-still p k = all-map (λ x. h (key x) ≡ a) (λ x. newHome new (key x) ≡ a) (λ x e. same (key x) a on .0 e) p k
-
-    once-still : (p : List Record) → OnceHere h a p → OnceHere (newHome new) a p
-    once-still [] k = tt
-    once-still (x ∷ p) k = (λ e. all-still p (k .0 (same (key x) a on .1 e)), once-still p (k .1))
-
+-- h are the homes for which the pages are an image
+module _ (f : Layout) (h : ℕ → ℕ) where
   -- what is known of a page that keeps its rules and begins rightly after the page before it
-  page-known : (full : Bool) (a : ℕ) (p : List Record) → GoodPage f h a p → startsAtHome h full a p ≡ true → Known (newHome new) a (keepsAt new a && not full) (keepsAt new a) p
-  page-known full a p k e = (λ t. go full e t, λ t. once-still a t p (once-here h a p sorted low))
+  page-here : (full : Bool) (a : ℕ) (p : List Record) → GoodPage f h a p → startsAtHome h full a p ≡ true → Known h a (not full) true p
+  page-here full a p k e = (λ t. go full e t, λ t. once-here h a p sorted low)
     where
       sorted : Sorted (rankIn key h) p
       sorted = rises-sorted h p (k .rising)
@@ -59,21 +51,21 @@ module _ (f : Layout) (h : ℕ → ℕ) (new : NewHomes) (same : Agrees h new) w
       low : All (λ y. h (key y) ≤ a) p
       low = homes-all h a p (k .homes)
 
-      go : (u : Bool) → startsAtHome h u a p ≡ true → (keepsAt new a && not u) ≡ true → AllHere (newHome new) a p
-      go true q t = absurd (false≢true (and-right (keepsAt new a) false t))
-      go false q t = all-still a (and-left (keepsAt new a) true t) p (all-here h a p q sorted low)
+      go : (u : Bool) → startsAtHome h u a p ≡ true → not u ≡ true → AllHere h a p
+      go true q t = absurd (false≢true t)
+      go false q t = all-here h a p q sorted low
 
   module _ (area : List ℕ) where
     -- so it is for all pages from a on
-    known-from : (n a low b : ℕ) → GoodFrom f h a (heldFrom f area n a) → imageFrom f h (fullBefore f area a) low a (heldFrom f area n a) ≡ true
-        → a ≤ b → b < a + n → KnownAt f new area b
-    known-from zero a low b k e l m = absurd (omega arith)
-    known-from (suc n) a low b k e l m =
+    here-from : (n a low b : ℕ) → GoodFrom f h a (heldFrom f area n a) → imageFrom f h (fullBefore f area a) low a (heldFrom f area n a) ≡ true
+        → a ≤ b → b < a + n → KnownHere f h area b
+    here-from zero a low b k e l m = absurd (omega arith)
+    here-from (suc n) a low b k e l m =
         let p : List Record = recordsIn f (partAt area a) in
         let t = three f h (fullBefore f area a) low a p (heldFrom f area n (suc a)) e in
         ⊎-elim
-        (λ lt. known-from n (suc a) (nextLow h low p) b (k .1) (t .2) (omega arith) (omega arith))
-        (λ ge. let q : b ≡ a = omega arith in rw q (page-known (fullBefore f area a) a p (k .0) (t .0)))
+        (λ lt. here-from n (suc a) (nextLow h low p) b (k .1) (t .2) (omega arith) (omega arith))
+        (λ ge. let q : b ≡ a = omega arith in rw q (page-here (fullBefore f area a) a p (k .0) (t .0)))
         (split a b)
 
     -- page 0 begins rightly after none
@@ -86,6 +78,23 @@ module _ (f : Layout) (h : ℕ → ℕ) (new : NewHomes) (same : Agrees h new) w
         begins (x ∷ p) = le-leb 0 (h (key x)) (omega arith)
 
     -- and for every page of an image
-    pub image-known : (n : ℕ) → GoodFrom f h 0 (heldFrom f area n 0) → isImage f h (heldFrom f area n 0) ≡ true → (b : ℕ) → b < n → KnownAt f new area b
+    pub image-here : (n : ℕ) → GoodFrom f h 0 (heldFrom f area n 0) → isImage f h (heldFrom f area n 0) ≡ true → (b : ℕ) → b < n → KnownHere f h area b
     unfolding isImage
-    image-known n k e b l = known-from n 0 0 b k (from-none (heldFrom f area n 0) e) (omega arith) (omega arith)
+    image-here n k e b l = here-from n 0 0 b k (from-none (heldFrom f area n 0) e) (omega arith) (omega arith)
+
+    -- the same of new homes, which agree with h
+    module _ (new : NewHomes) (same : Agrees h new) where
+      module _ (a : ℕ) (on : keepsAt new a ≡ true) where
+        all-still : (p : List Record) → AllHere h a p → AllHere (newHome new) a p
+        all-still p k = all-map (λ x. h (key x) ≡ a) (λ x. newHome new (key x) ≡ a) (λ x e. same (key x) a on .0 e) p k
+
+        once-still : (p : List Record) → OnceHere h a p → OnceHere (newHome new) a p
+        once-still [] k = tt
+        once-still (x ∷ p) k = (λ e. all-still p (k .0 (same (key x) a on .1 e)), once-still p (k .1))
+
+      pub image-known : (n : ℕ) → GoodFrom f h 0 (heldFrom f area n 0) → isImage f h (heldFrom f area n 0) ≡ true → (b : ℕ) → b < n → KnownAt f new area b
+      image-known n k e b l =
+          let w = image-here n k e b l in
+          let p : List Record = recordsIn f (partAt area b) in
+          let open-page : Bool = not (fullBefore f area b) in
+          (λ t. all-still b (and-left (keepsAt new b) open-page t) p (w .0 (and-right (keepsAt new b) open-page t)), λ t. once-still b t p (w .1 refl))

@@ -8,7 +8,8 @@ use native.Mathlib.Nat.{add-zero}
 use native.Mathlib.Omega.{arith}
 use lib.ListN.{length, getD, set, length-set}
 use lib.Seq.{getD-set-same, getD-set-other}
-use borrow.Author.Tests.{lt-ltb, le-ltb, eq-eqb, ne-eqb}
+use lib.Dec.{ltb}
+use borrow.Author.Tests.{ltb-true, ltb-false, lt-ltb, le-ltb, eq-eqb, ne-eqb}
 use Rattle.placing.specs.Lay.{one}
 use Rattle.placing.specs.Rows.{isThere}
 use Rattle.placing.specs.Walks.{ifFound}
@@ -80,26 +81,41 @@ module _ (ks vs us : List ℕ) (n : ℕ) (x : Record) (k : n < length ks) (v : n
       paired-turn n ks′ vs′ us′
       ∙ rw (kept-others, getD-set-same ks n (x .key) 0 k, getD-set-same vs n (x .value) 0 v, getD-set-same us n (x .run) 0 u)
 
+-- homes told of the first n keys, and of one more
+homes-on : (h : ℕ → ℕ) (ks hs : List ℕ) (n k o : ℕ) → n < length ks → n < length hs → o ≡ h k → ((j : ℕ) → j < n → getD hs j 0 ≡ h (getD ks j 0))
+    → (j : ℕ) → j < n + 1 → getD (set hs n o) j 0 ≡ h (getD (set ks n k) j 0)
+homes-on h ks hs n k o l m e w j t = go (ltb j n) refl
+  where
+    go : (u : Bool) → ltb j n ≡ u → getD (set hs n o) j 0 ≡ h (getD (set ks n k) j 0)
+    go true q =
+        let d : j < n = ltb-true j n q in
+        rw (getD-set-other hs n j o 0 (λ z. omega arith), getD-set-other ks n j k 0 (λ z. omega arith)) (w j d)
+    go false q =
+        let d : j ≡ n = omega (arith, ltb-false j n q) in
+        rw (d, getD-set-same hs n o 0 m, getD-set-same ks n k 0 l) e
+
 -- the first i records of a page are sifted
-pub record Sifting (look : ℕ → Option Record) (keys values runs : List ℕ) (low : Clash) (count : ℕ) (keys2 values2 runs2 : List ℕ) (n : ℕ) (clash : Clash) (i : ℕ) : Type 0 where
+pub record Sifting (look : ℕ → Option Record) (keys values runs here : List ℕ) (low : Clash) (count : ℕ) (keys2 values2 runs2 homes : List ℕ) (n : ℕ) (clash : Clash) (i : ℕ) : Type 0 where
   pub within : i ≤ count
   pub few : n ≤ i
   pub long-keys : length keys2 ≡ 12
   pub long-values : length values2 ≡ 12
   pub long-runs : length runs2 ≡ 12
+  pub long-homes : length homes ≡ 12
   pub kept : paired n keys2 values2 runs2 ≡ lacking key look (paired i keys values runs)
   pub lowest : clashBy clash ≡ lowestIn key same look (paired i keys values runs) (clashBy low)
+  pub told : (h : ℕ → ℕ) → ((j : ℕ) → j < count → getD here j 0 ≡ h (getD keys j 0)) → (j : ℕ) → j < n → getD homes j 0 ≡ h (getD keys2 j 0)
 
 pub one-most : (u : Bool) → one u ≤ 1
 one-most true = omega arith
 one-most false = omega arith
 
-module _ {look : ℕ → Option Record} {keys values runs : List ℕ} {low : Clash} {count : ℕ} {keys2 values2 runs2 : List ℕ} {n : ℕ} {clash : Clash} {i : ℕ}
-    (s : Sifting look keys values runs low count keys2 values2 runs2 n clash i) (l : i < count) (m : count ≤ 12) where
+module _ {look : ℕ → Option Record} {keys values runs here : List ℕ} {low : Clash} {count : ℕ} {keys2 values2 runs2 homes : List ℕ} {n : ℕ} {clash : Clash} {i : ℕ}
+    (s : Sifting look keys values runs here low count keys2 values2 runs2 homes n clash i) (l : i < count) (m : count ≤ 12) where
   -- one more
   pub sifting-on : (x : Record) → x ≡ recordWith (getD keys i 0) (getD values i 0) (getD runs i 0) → (held : Sought) → heldBy held ≡ look (key x)
       → (c : Clash) → clashBy c ≡ lowerIf key same x (heldBy held) (clashBy clash) → (a : ℕ) → a ≡ one (not (isThere (heldBy held)))
-      → Sifting look keys values runs low count (set keys2 n (x .key)) (set values2 n (x .value)) (set runs2 n (x .run)) (n + a) c (i + 1)
+      → Sifting look keys values runs here low count (set keys2 n (x .key)) (set values2 n (x .value)) (set runs2 n (x .run)) (set homes n (getD here i 0)) (n + a) c (i + 1)
   sifting-on x e held h c w a q =
       let rs : List Record = paired i keys values runs in
       let more : paired (i + 1) keys values runs ≡ rs ++ (x ∷ []) = paired-turn i keys values runs ∙ ap (λ (y : Record). rs ++ (y ∷ [])) (sym e) in
@@ -114,6 +130,10 @@ module _ {look : ℕ → Option Record} {keys values runs : List ℕ} {low : Cla
         long-keys = rw length-set (s .long-keys);
         long-values = rw length-set (s .long-values);
         long-runs = rw length-set (s .long-runs);
+        long-homes = rw length-set (s .long-homes);
         kept = new ∙ rw (s .kept) (sym asked);
         lowest = w ∙ rw (s .lowest) (sym low-asked);
+        told = λ f t j u.
+            homes-on f keys2 homes n (x .key) (getD here i 0) (omega (arith, s .few, s .long-keys)) (omega (arith, s .few, s .long-homes)) (t i l ∙ sym (ap (λ (y : Record). f (key y)) e)) (s .told f t) j
+            (omega (arith, u, q, one-most (not (isThere (heldBy held)))));
       }

@@ -14,6 +14,7 @@ use Rattle.placing.specs.Lay.{sort, lay, taken}
 use Rattle.placing.proofs.Lists.{all-append}
 use Rattle.pages.specs.Page.{Record, key, homeFor, recordsIn}
 use Rattle.pages.specs.Small.{Small}
+use Rattle.pages.specs.steps.Known.{KnownHere}
 use Rattle.pages.specs.Area.{partAt, heldFrom, areaFrom}
 use Rattle.pages.proofs.Bounds.{part-small}
 use Rattle.pages.proofs.Read.{held-few}
@@ -48,6 +49,11 @@ partly-pages look l (suc n) a = ap (λ (ps : List (List Record)). partly look l 
 partly-cat : (look : ℕ → Option Record) (ps : List (List Record)) → cat (map (lacking key look) ps) [] ≡ lacking key look (cat ps [])
 partly-cat look [] = refl
 partly-cat look (p ∷ ps) = rw (partly-cat look ps) (sym (lacking-append key look p (cat ps [])))
+
+-- what is known of a page is known where it and the one before it are as they were
+pub here-still : (h : ℕ → ℕ) (l m : List ℕ) (a : ℕ) → ((b : ℕ) → b ≤ a → partAt m b ≡ partAt l b) → KnownHere inUse h l a → KnownHere inUse h m a
+here-still h l m zero e k = rw (e 0 (omega arith)) k
+here-still h l m (suc a) e k = rw (e (suc a) (omega arith), e a (omega arith)) k
 
 module _ (here : Site) (area : List ℕ) (there : Site) (other : List ℕ) where
   abbrev h : ℕ → ℕ

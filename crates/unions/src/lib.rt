@@ -10,7 +10,7 @@ use sites::Site;
 ghost use mathlib.Core.Path.{_≡_};
 ghost use mathlib.Core.Option.{none};
 ghost use mathlib.Core.List.{[], map};
-ghost use Prim.Native.Nat.{ℕ, _+_, _*_, _≤_};
+ghost use Prim.Native.Nat.{ℕ, _+_, _≤_, _<_};
 ghost use lib.ListN.{length, getD, replicate};
 ghost use Rattle.homes.specs.Homes.{Ready, homeIn};
 ghost use Rattle.layouts.specs.Layout.{inUse};
@@ -34,9 +34,10 @@ pub enum Clash {
     At { lowest: u64 },
 }
 
-// Those of a page's records that another file lacks, and the lowest clash so far.
+// Those of a page's records that another file lacks, with their homes, and the lowest clash so far.
 pub struct Sifted {
     pub page: Page,
+    pub homes: [u64; 12],
     pub clash: Clash,
 }
 
@@ -80,20 +81,27 @@ fn absent(held: Sought) -> usize
     }
 }
 
-// A page's records, each sought in another file. Each is written behind those that were kept, and the next
-// goes over it unless it is kept too.
-pub fn sift(page: Page, other: &[u8], site: Site, low: Clash) -> Sifted
-    requires { ⌜ (page .count ≤ 12) × Walkable (now other) site ⌝ }
-    ensures { λ r. ⌜ Sifts (look site (now (other .entry))) (recordsOf page) low r ⌝ }
+// A page's records, each sought in another file, where it lives at `there`; `here` are their homes in their own.
+// Each is written behind those that were kept, and the next goes over it unless it is kept too.
+pub fn sift(
+    page: Page,
+    here: [u64; 12],
+    there: [u64; 12],
+    other: &[u8],
+    site: Site,
+    low: Clash,
+) -> Sifted
+    requires { ⌜ (page .count ≤ 12) × Walkable (now other) site × ((i : ℕ) → i < page .count → getD there i 0 ≡ homeIn (site .shape) (getD (page .keys) i 0)) ⌝ }
+    ensures { λ r. ⌜ Sifts (look site (now (other .entry))) page here low r ⌝ }
 {
     let count = page.count;
     let keys = page.keys;
     let values = page.values;
     let runs = page.runs;
-    let homes = pages::homes_of(count, keys, site.shape);
     let mut keys2 = [0; 12];
     let mut values2 = [0; 12];
     let mut runs2 = [0; 12];
+    let mut homes = [0; 12];
     let mut n = 0;
     let mut clash = low;
     let mut i = 0;
@@ -103,11 +111,12 @@ pub fn sift(page: Page, other: &[u8], site: Site, low: Clash) -> Sifted
             value: values[i],
             run: runs[i],
         };
-        let held = sites::seek(other, site, homes[i], x.key);
+        let held = sites::seek(other, site, there[i], x.key);
         clash = weigh(held, x, clash);
         keys2[n] = x.key;
         values2[n] = x.value;
         runs2[n] = x.run;
+        homes[n] = here[i];
         n += absent(held);
         i += 1;
     }
@@ -117,17 +126,16 @@ pub fn sift(page: Page, other: &[u8], site: Site, low: Clash) -> Sifted
         values: values2,
         runs: runs2,
     };
-    Sifted { page, clash }
+    Sifted { page, homes, clash }
 }
 
-// The records of a page counted by their homes.
-fn add_homes(row: &mut [u32], page: Page, shape: Shape)
+// The records of a page, whose homes under a shape these are, counted by them.
+fn add_homes(row: &mut [u32], page: Page, homes: [u64; 12], shape: Shape)
     requires { ⌜ (page .count ≤ 12) × Ready shape × (shape .p ≤ length (now row)) × (length (now row) ≤ 4096) × ((k : ℕ) → getD (now row) k 0 ≤ 1000000) ⌝ }
+    requires { ⌜ ((i : ℕ) → i < page .count → getD homes i 0 ≡ homeIn shape (getD (page .keys) i 0)) ⌝ }
     ensures { λ _. ⌜ now (row .exit) ≡ tallied (map (homeFor (homeIn shape)) (recordsOf page)) (now (row .entry)) ⌝ }
 {
     let count = page.count;
-    let keys = page.keys;
-    let homes = pages::homes_of(count, keys, shape);
     let mut i = 0;
     while i < count {
         let home = homes[i] as usize;
@@ -147,24 +155,28 @@ fn tally_lacking(row: &mut [u32], area: &[u8], here: Site, other: &[u8], there: 
     let mut a = 0;
     while a < here.cap {
         let page = pages::parse_at(area, a, IN_USE);
-        let sifted = sift(page, other, there, clash);
+        let homes = sites::homes_under(area, a, page, here.shape, here.shape);
+        let sought = sites::homes_under(area, a, page, here.shape, there.shape);
+        let sifted = sift(page, homes, sought, other, there, clash);
         let kept = sifted.page;
-        add_homes(row, kept, here.shape);
+        let kept_homes = sifted.homes;
+        add_homes(row, kept, kept_homes, here.shape);
         clash = sifted.clash;
         a += 1;
     }
     clash
 }
 
-// All records of an area counted by their homes under a shape.
-fn tally_all(row: &mut [u32], area: &[u8], cap: usize, shape: Shape)
-    requires { ⌜ (cap ≤ 4096) × (length (now area) ≡ 256 * cap) × Ready shape × (shape .p ≤ length (now row)) × (length (now row) ≤ 4096) × ((k : ℕ) → getD (now row) k 0 ≤ 100000) ⌝ }
-    ensures { λ _. ⌜ now (row .exit) ≡ tallied (map (homeFor (homeIn shape)) (cat (heldFrom inUse (now (area .entry)) cap 0) [])) (now (row .entry)) ⌝ }
+// All records of a file counted by their homes under a shape.
+fn tally_all(row: &mut [u32], area: &[u8], site: Site, shape: Shape)
+    requires { ⌜ Walkable (now area) site × Ready shape × (shape .p ≤ length (now row)) × (length (now row) ≤ 4096) × ((k : ℕ) → getD (now row) k 0 ≤ 100000) ⌝ }
+    ensures { λ _. ⌜ now (row .exit) ≡ tallied (map (homeFor (homeIn shape)) (onPages site (now (area .entry)))) (now (row .entry)) ⌝ }
 {
     let mut a = 0;
-    while a < cap {
+    while a < site.cap {
         let page = pages::parse_at(area, a, IN_USE);
-        add_homes(row, page, shape);
+        let homes = sites::homes_under(area, a, page, site.shape, shape);
+        add_homes(row, page, homes, shape);
         a += 1;
     }
 }
@@ -177,6 +189,6 @@ pub fn tally(row: &mut [u32], area: &[u8], here: Site, other: &[u8], there: Site
     ensures { λ _. ⌜ now (row .exit) ≡ counts (homeFor (homeIn (here .shape))) (bothOf here (now (area .entry)) there (now (other .entry))) (here .cap) 0 ⌝ }
 {
     let clash = tally_lacking(row, area, here, other, there);
-    tally_all(row, other, there.cap, here.shape);
+    tally_all(row, other, there, here.shape);
     clash
 }

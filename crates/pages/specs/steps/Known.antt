@@ -32,6 +32,11 @@ abbrev pub fullBefore : Layout → List ℕ → ℕ → Bool
 fullBefore f area zero = false
 fullBefore f area (suc b) = leb (slotsOf f) (length (recordsIn f (partAt area b)))
 
+-- what is known of page a of an area that is an image for the homes h: after a page that isn't full, all are at
+-- home
+abbrev pub KnownHere : Layout → (ℕ → ℕ) → List ℕ → ℕ → Type 0
+KnownHere f h area a = Known h a (not (fullBefore f area a)) true (recordsIn f (partAt area a))
+
 -- what is known of page a of an area for new homes, if it is one of the pages that keep their keys:
 -- after a page that isn't full, all are at home
 abbrev pub KnownAt : Layout → NewHomes → List ℕ → ℕ → Type 0

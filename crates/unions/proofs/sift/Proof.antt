@@ -17,17 +17,14 @@ use Rattle.unions.proofs.sift.Statement.{statement}
 use Rattle.unions.proofs.sift.Tie as tie
 
 abbrev Inv-loop : tie.InvT-loop
-Inv-loop other site count keys values runs homes keys2₀ values2₀ runs2₀ n₀ clash₀ i₀ keys2 values2 runs2 n clash i =
-    Sifting (look site other) keys values runs clash₀ count keys2 values2 runs2 n clash i
+Inv-loop other site here there count keys values runs keys2₀ values2₀ runs2₀ homes₀ n₀ clash₀ i₀ keys2 values2 runs2 homes n clash i =
+    Sifting (look site other) keys values runs here clash₀ count keys2 values2 runs2 homes n clash i
 
 abbrev μ-loop : tie.MeasureT-loop
-μ-loop other site count keys values runs homes keys2₀ values2₀ runs2₀ n₀ clash₀ i₀ keys2 values2 runs2 n clash i = count - i
+μ-loop other site here there count keys values runs keys2₀ values2₀ runs2₀ homes₀ n₀ clash₀ i₀ keys2 values2 runs2 homes n clash i = count - i
 
 abbrev start : tie.At-loop Inv-loop μ-loop → tie.Start Inv-loop μ-loop
-start l = l .before .before .before .before .before .before
-
-homes-of-requires : tie.Need-homes-of-requires Inv-loop μ-loop
-homes-of-requires c κs = let p = c .before .before .before .before .pre in (p .0, p .1 .ready)
+start l = l .before .before .before .before .before
 
 loop-holds : tie.Need-loop-holds Inv-loop μ-loop
 loop-holds c = record {
@@ -36,12 +33,14 @@ loop-holds c = record {
   long-keys = refl;
   long-values = refl;
   long-runs = refl;
+  long-homes = refl;
   kept = refl;
   lowest = refl;
+  told = λ h t j l. absurd (omega arith);
 }
 
 seek-requires : tie.Need-seek-requires Inv-loop μ-loop
-seek-requires c κs = let l = c .before in (start l .pre .1, l .before .homes-of .ensures _ (c .loop-test .taken))
+seek-requires c κs = let l = c .before in (start l .pre .1, start l .pre .2 _ (c .loop-test .taken))
 
 -- what was found is what the other area tells of the key
 found : (c : tie.After-seek Inv-loop μ-loop)
@@ -69,7 +68,7 @@ returns c =
     let v = l .loop .inv in
     let a = start l .args in
     let e : l .loop .i ≡ a .page .count = omega (arith, v .within, c .loop-test .left) in
-    record { few = omega (arith, v .few, v .within, start l .pre .0); kept = rw (← e) (v .kept); clash = rw (← e) (v .lowest) }
+    record { few = omega (arith, v .few, v .within, start l .pre .0); kept = rw (← e) (v .kept); clash = rw (← e) (v .lowest); homes = v .told }
 
 pub sift-spec : {M : Type 1} → statement M
 sift-spec =
@@ -77,7 +76,6 @@ sift-spec =
     (tie.spec
     Inv-loop
     μ-loop
-    homes-of-requires
     loop-holds
     (λ c. search needs)
     (λ c. search needs)
@@ -89,6 +87,10 @@ sift-spec =
     (λ c. search needs)
     seek-requires
     (λ c κs. search needs)
+    (λ c. search needs)
+    (λ c. search needs)
+    (λ c. search needs)
+    (λ c. search needs)
     (λ c. search needs)
     (λ c. search needs)
     (λ c. search needs)

@@ -38,8 +38,7 @@ tally-all-requires c κs =
     let w = s .pre .0 in
     let v = s .pre .1 in
     let n : length (t .tally-lacking .last .0) ≡ a .here .cap = ap length (t .tally-lacking .ensures .1 .0) ∙ tally-length (map (homeFor (homeIn (a .here .shape))) (lackingOn (a .here) (now (a .area)) (a .there) (now (a .other)))) (now (a .row)) ∙ long s in (
-      v .few,
-      v .long,
+      v,
       w .ready,
       omega (arith, n, w .grown),
       omega (arith, n, w .few),

@@ -3,12 +3,15 @@
 use denote.Ref.{now}
 use mathlib.Core.Path.{_≡_, ap, _∙_}
 use mathlib.Core.List.{List, map}
-use Prim.Native.Nat.{_-_}
+use Prim.Native.Nat.{_+_, _-_, _*_, _≤_, _<_}
 use native.Mathlib.Omega.{arith}
 use borrow.Author.Needs.{needs}
 use Rattle.layouts.specs.Layout.{inUse}
-use Rattle.homes.specs.Homes.{homeIn}
-use Rattle.pages.specs.Page.{Record, key, homeFor}
+use Rattle.homes.specs.declared.Shape.{Shape}
+use Rattle.homes.specs.Homes.{Ready, homeIn}
+use lib.ListN.{length}
+use Rattle.pages.specs.Page.{Record, key, homeFor, recordsIn, inMemory}
+use Rattle.pages.specs.steps.Known.{KnownHere}
 use Rattle.pages.specs.steps.Slots.{recordsOf}
 use Rattle.pages.specs.Area.{partAt}
 use Rattle.pages.proofs.Memory.{page-records}
@@ -41,33 +44,57 @@ loop-holds c = (counting-starts _ _ _ _, weighing-starts _ _ _)
 parse-at-requires : tie.Need-parse-at-requires Inv-loop μ-loop
 parse-at-requires c κs = let w = start (c .before .before) .pre .0 in (omega (arith, c .if1 .taken, w .few), omega (arith, c .if1 .taken, w .long))
 
+-- the homes of a page's records are known, or worked out
+under : (c : tie.After-parse-at Inv-loop μ-loop) (shape : Shape) → Ready shape
+    → let l = c .before .before .before in
+    let s = start l in
+    let area = now (s .args .area) in
+    (l .loop .a < 4096) × (256 * (l .loop .a + 1) ≤ length area) × (c .parse-at .result ≡ inMemory (recordsIn inUse (partAt area (l .loop .a)))) × Ready shape
+    × KnownHere inUse (homeIn (s .args .here .shape)) area (l .loop .a)
+under c shape r =
+    let t = c .before in
+    let l = t .before .before in
+    let w = start l .pre .0 in
+    (omega (arith, t .if1 .taken, w .few), omega (arith, t .if1 .taken, w .long), c .parse-at .ensures, r, w .known (l .loop .a) (t .if1 .taken))
+
+homes-under-requires : tie.Need-homes-under-requires Inv-loop μ-loop
+homes-under-requires c κs = under c _ (start (c .before .before .before) .pre .0 .ready)
+
+homes-under-requires-2 : tie.Need-homes-under-requires-2 Inv-loop μ-loop
+homes-under-requires-2 c κs = under (c .before) _ (start (c .before .before .before .before) .pre .1 .ready)
+
 sift-requires : tie.Need-sift-requires Inv-loop μ-loop
-sift-requires c κs = (page-few _ _ (c .parse-at .ensures), start (c .before .before .before) .pre .1)
+sift-requires c κs =
+    let p = c .before .before in
+    (page-few _ _ (p .parse-at .ensures), start (p .before .before .before) .pre .1, c .homes-under2 .ensures)
 
 add-homes-requires : tie.Need-add-homes-requires Inv-loop μ-loop
 add-homes-requires c κs =
-    let f = c .before .before in
-    let l = f .before .before .before .before in
+    let f = c .before .before .before in
+    let u = f .before .before in
+    let l = u .before .before .before .before in
     let s = start l in
     let w = s .pre .0 in
-    let v = l .loop .inv .0 in
-    (f .sift .ensures .few, w .ready, omega (arith, v .long, s .pre .2, w .grown), omega (arith, v .long, s .pre .2, w .few), λ k. omega (arith, v .small k, s .pre .3 k, v .within, w .few))
+    let v = l .loop .inv .0 in (
+      (f .sift .ensures .few, w .ready, omega (arith, v .long, s .pre .2, w .grown), omega (arith, v .long, s .pre .2, w .few), λ k. omega (arith, v .small k, s .pre .3 k, v .within, w .few)),
+      f .sift .ensures .homes (homeIn (s .args .here .shape)) (u .homes-under .ensures),
+    )
 
 -- what is kept of the page is what is lacking of it
 kept : (c : tie.After-sift Inv-loop μ-loop)
-    → let l = c .before .before .before .before in
+    → let l = c .before .before .before .before .before .before in
     let a = start l .args in
     recordsOf (c .sift .result .page) ≡ lacking key (look (a .there) (now (a .other))) (onPage (now (a .area)) (l .loop .a))
 kept c =
-    let p = c .before in
+    let p = c .before .before .before in
     let a = start (p .before .before .before) .args in
     c .sift .ensures .kept ∙ ap (lacking key (look (a .there) (now (a .other)))) (page-records _ _ (p .parse-at .ensures))
 
 loop-again : tie.Need-loop-again Inv-loop μ-loop
 loop-again c =
     let h = c .before .before in
-    let f = h .before .before .before in
-    let p = f .before in
+    let f = h .before .before .before .before in
+    let p = f .before .before .before in
     let t = p .before in
     let l = t .before .before in
     let a = start l .args in
@@ -102,6 +129,8 @@ tally-lacking-spec =
     μ-loop
     loop-holds
     parse-at-requires
+    homes-under-requires
+    homes-under-requires-2
     sift-requires
     add-homes-requires
     (λ c. search needs)

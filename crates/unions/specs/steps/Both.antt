@@ -1,9 +1,11 @@
 -- The records of two areas together, as the code meets them.
-use Prim.Native.Nat.{ℕ, _≤_}
+use Prim.Native.Nat.{ℕ, _≤_, _<_}
 use mathlib.Core.Path.{_≡_}
 use mathlib.Core.Option.{Option, none, some}
 use mathlib.Core.List.{List, _++_, map}
 use Rattle.homes.specs.Homes.{homeIn}
+use lib.ListN.{getD}
+use Rattle.pages.specs.declared.Page.{Page}
 use Rattle.pages.specs.Page.{Record, key}
 use Rattle.pages.specs.steps.Slots.{recordsOf}
 use Rattle.entries.specs.declared.Entry.{Entry}
@@ -21,11 +23,13 @@ abbrev pub clashBy : Clash → Option ℕ
 clashBy Nowhere = none
 clashBy (At k) = some k
 
--- what is left of a page's records, by what another file holds at their keys
-pub record Sifts (look : ℕ → Option Record) (rs : List Record) (low : Clash) (r : Sifted) : Type 0 where
+-- what is left of a page's records, by what another file holds at their keys; of any homes that were told of all
+-- of them, those of the rest are left
+pub record Sifts (look : ℕ → Option Record) (p : Page) (here : List ℕ) (low : Clash) (r : Sifted) : Type 0 where
   pub few : r .page .count ≤ 12
-  pub kept : recordsOf (r .page) ≡ lacking key look rs
-  pub clash : clashBy (r .clash) ≡ lowestIn key same look rs (clashBy low)
+  pub kept : recordsOf (r .page) ≡ lacking key look (recordsOf p)
+  pub clash : clashBy (r .clash) ≡ lowestIn key same look (recordsOf p) (clashBy low)
+  pub homes : (h : ℕ → ℕ) → ((i : ℕ) → i < p .count → getD here i 0 ≡ h (getD (p .keys) i 0)) → (i : ℕ) → i < r .page .count → getD (r .homes) i 0 ≡ h (getD (r .page .keys) i 0)
 
 module _ (here : Site) (area : List ℕ) (there : Site) (other : List ℕ) where
   -- the records of an area that another file lacks

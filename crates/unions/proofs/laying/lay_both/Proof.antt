@@ -13,20 +13,20 @@ use Rattle.unions.proofs.laying.lay_both.Tie as tie
 bytes : (c : tie.After-shared-slice-known) → Bytes (now (c .before .before .args .area)) × Bytes (now (c .before .before .args .other))
 bytes c = (λ i l. omega (arith, c .before .slice-known .given i), λ i l. omega (arith, c .shared-slice-known .given i))
 
-pack-below-requires : tie.Need-pack-below-requires
-pack-below-requires c κs =
+pack-all-requires : tie.Need-pack-all-requires
+pack-all-requires c κs =
     let p = c .before .before .before in
     let g = p .before .before in
     let s = g .before .before in
     let a = s .args in
     let q = s .pre in
     let r = all-room (a .here) (now (a .area)) (a .there) (now (a .other)) (q .0 .0) (q .0 .1) (bytes g .0) (bytes g .1) (q .1 .0) (q .1 .1) _ (p .pack-lacking .ensures .0) _ (p .pack-lacking .ensures .1) in
-    (q .0 .1 .few, q .0 .1 .long, q .0 .0 .ready, r .0, r .1)
+    (q .0 .1, q .0 .0 .ready, r .0, r .1)
 
 -- what stands once both are packed
-standing : (c : tie.After-pack-below)
+standing : (c : tie.After-pack-all)
     → let a = c .before .before .before .before .before .before .before .before .args in
-    Standing (a .here) (bothOf (a .here) (now (a .area)) (a .there) (now (a .other))) (c .pack-below .result) (c .pack-below .last .0)
+    Standing (a .here) (bothOf (a .here) (now (a .area)) (a .there) (now (a .other))) (c .pack-all .result) (c .pack-all .last .0)
 standing c =
     let p = c .before .before .before .before in
     let g = p .before .before in
@@ -34,10 +34,10 @@ standing c =
     let a = s .args in
     let q = s .pre in
     both-stand (a .here) (now (a .area)) (a .there) (now (a .other)) (q .0 .0) (q .0 .1) (bytes g .0) (bytes g .1) (q .1 .0) (q .1 .1) _ (p .pack-lacking .ensures .0) _ (p .pack-lacking .ensures .1)
-    _ (c .pack-below .ensures .0) _ (c .pack-below .ensures .1)
+    _ (c .pack-all .ensures .0) _ (c .pack-all .ensures .1)
 
 -- the area has no more pages than it may
-few : (c : tie.After-pack-below) → c .before .before .before .before .before .before .before .before .args .here .cap ≤ 4096
+few : (c : tie.After-pack-all) → c .before .before .before .before .before .before .before .before .args .here .cap ≤ 4096
 few c = c .before .before .before .before .before .before .before .before .pre .0 .0 .few
 
 mul-records : tie.Need-mul-records
@@ -69,7 +69,7 @@ lay-both-spec =
     tie.close
     (tie.spec
     (λ c κs. search needs)
-    pack-below-requires
+    pack-all-requires
     mul-records
     sub-records
     lay-anew-requires

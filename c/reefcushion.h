@@ -4,7 +4,7 @@
    key is held twice. A file is an area of pages that the caller lends, and a small state that the caller keeps in a slip.
 
    The calls are in libreefcushion.a, for x86-64 Linux. They need nothing else but C's memcpy and memset, take no memory but
-   some 20 KiB of the stack at most, and keep nothing from one call to the next, so threads may call them at once, each with
+   some 22 KiB of the stack at most, and keep nothing from one call to the next, so threads may call them at once, each with
    its own slip, area, row, replies and list.
 
    What each call does is proved (crates/reefcushion), for any bytes and any numbers. A caller owes this much:
@@ -229,8 +229,8 @@ REEFCUSHION_ASSERT(sizeof(struct reefcushion_comparison) == 20, "a comparison is
 
    How much room a list takes is told by a comparison with no room, list_bytes 0: it is refused with 15, and `wanted` says
    how many bytes to lend; 20 for each record of both files and 16 more are always enough. The call works in the lent room
-   and takes no other memory. On ordinary files its time goes up with the number of records, and for those that differ as
-   that of a sort; where very many keys have one home, with the length of a search there too.
+   and takes no other memory. Its time goes up with the number of records, and for those that differ as that of a sort; where
+   very many keys have one home a search there goes by halves.
 
    100, the first file's 1, 2, 4 or 9, the second's 1, 2, 4 or 9, then 15 exactly where the room is shorter than the list.
    After any of them the room is as it was and `length` is 0. */

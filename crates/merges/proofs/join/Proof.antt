@@ -37,7 +37,7 @@ returns c =
     let r = c .before in
     let g = r .before .before .before .before in
     let s = start g in
-    join-full (s .args .state) (now (s .args .area)) (s .args .second) (now (s .args .other)) (mine g) (theirs g) (s .pre .0 .2) _ (s .pre .1) _ (r .has-room .ensures) _ (not-true _ (c .if1 .taken))
+    join-full (s .args .state) (now (s .args .area)) (s .args .second) (now (s .args .other)) (mine g) (theirs g) (s .pre .0 .2) _ (s .pre .1) _ (r .has-room .ensures) _ (not-true (r .has-room .result) (c .if1 .taken))
 
 site-of-requires : tie.Need-site-of-requires
 site-of-requires c κs = c .before .before .before .before .before .before .before .pre .0 .0 .0
@@ -52,7 +52,7 @@ lay-both-requires c κs =
     let r = here .before .before in
     let g = r .before .before .before .before in
     let s = start g in
-    join-fits (s .args .state) (now (s .args .area)) (s .args .second) (now (s .args .other)) (mine g) (theirs g) (s .pre .0 .2) _ (s .pre .1) _ (r .has-room .ensures) 0 (not-false _ (here .before .if1 .left)) _ _ (here .site-of .ensures) (there .site-of2 .ensures)
+    join-fits (s .args .state) (now (s .args .area)) (s .args .second) (now (s .args .other)) (mine g) (theirs g) (s .pre .0 .2) _ (s .pre .1) _ (r .has-room .ensures) 0 (not-false (r .has-room .result) (here .before .if1 .left)) _ _ (here .site-of .ensures) (there .site-of2 .ensures)
 
 returns-2 : tie.Need-returns-2
 returns-2 c =
@@ -62,7 +62,7 @@ returns-2 c =
     let r = here .before .before in
     let g = r .before .before .before .before in
     let s = start g in
-    join-laid (s .args .state) (now (s .args .area)) (s .args .second) (now (s .args .other)) (mine g) (theirs g) (s .pre .0 .2) _ (s .pre .1) _ (r .has-room .ensures) _ (not-false _ (here .before .if1 .left))
+    join-laid (s .args .state) (now (s .args .area)) (s .args .second) (now (s .args .other)) (mine g) (theirs g) (s .pre .0 .2) _ (s .pre .1) _ (r .has-room .ensures) _ (not-false (r .has-room .result) (here .before .if1 .left))
     _ _ (here .site-of .ensures) (there .site-of2 .ensures) _ _ (l .lay-both .ensures) _ (c .holding .ensures)
 
 pub join-spec : {M : Type 1} → statement M

@@ -25,6 +25,8 @@ pub mod remove;
 pub mod resize;
 pub mod room;
 pub mod state;
+#[cfg(test)]
+mod test_files;
 pub mod trial;
 pub mod walk;
 pub mod witness;

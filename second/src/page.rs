@@ -168,16 +168,7 @@ pub fn write(area: &mut [u8], address: usize, page: &Page) {
 #[cfg(test)]
 mod tests {
     use super::*;
-
-    const STATE: State = State {
-        n0: 1,
-        groups: 1,
-        sweeps: 1,
-        pages: 1,
-        cap: 2,
-        edition: 1,
-        records: 0,
-    };
+    use crate::test_files::STATE;
 
     fn area_of(keys: &[u64]) -> Vec<u8> {
         let mut page = Page::EMPTY;

@@ -2,7 +2,7 @@ use super::*;
 use crate::answer::{BROKEN, NOT_THE_IMAGE};
 use crate::calls::Call;
 use crate::commands::hex;
-use crate::page::PAGE_BYTES;
+use crate::test_files::{copy, grown, holding, site};
 use crate::trial::Trial;
 
 mod refusals;
@@ -15,30 +15,6 @@ const UNTOUCHED: u8 = 0xa7;
 const NOTHING: &str = "1000 0403 00000000 00000000 00000000";
 
 const TOP: u64 = 1 << 63;
-
-/// A file with these records, grown so often before they are put.
-fn grown(start: [u16; 3], cap: u16, edition: u64, grows: u16, records: &[(u64, u64)]) -> Trial {
-    let mut file = Trial::fresh(start, cap, edition).expect("agrees");
-    let puts = records.iter().map(|&(key, value)| Call::Put { key, value });
-    let grows = std::iter::repeat_n(Call::Grow, grows.into());
-    for call in grows.chain(puts) {
-        let answer = file.ask(call).expect("agrees");
-        assert_eq!(answer.refusal, 0, "{call:?}");
-    }
-    file
-}
-
-/// A file of edition 1 with n0, N and s all 1 and these records.
-fn holding(cap: u16, records: &[(u64, u64)]) -> Trial {
-    grown([1, 1, 1], cap, 1, 0, records)
-}
-
-fn site(file: &Trial) -> Site<'_> {
-    Site {
-        state: file.state,
-        area: &file.area,
-    }
-}
 
 /// Compares two files and gives the answer and the whole room.
 fn compared(first: &Trial, second: &Trial, room_length: usize) -> (Compared, Vec<u8>) {

@@ -1,5 +1,6 @@
 use super::*;
 use crate::calls::Call;
+use crate::test_files::{copy, grown, holding, site};
 use crate::trial::Trial;
 
 mod refusals;
@@ -10,41 +11,10 @@ const UNTOUCHED: u32 = 0xa7a7_a7a7;
 
 const TOP: u64 = 1 << 63;
 
-/// A file with these records, grown so often before they are put.
-fn grown(start: [u16; 3], cap: u16, edition: u64, grows: u16, records: &[(u64, u64)]) -> Trial {
-    let mut file = Trial::fresh(start, cap, edition).expect("agrees");
-    let puts = records.iter().map(|&(key, value)| Call::Put { key, value });
-    let grows = std::iter::repeat_n(Call::Grow, grows.into());
-    for call in grows.chain(puts) {
-        let answer = file.ask(call).expect("agrees");
-        assert_eq!(answer.refusal, 0, "{call:?}");
-    }
-    file
-}
-
-/// A file of edition 1 with n0, N and s all 1 and these records.
-fn holding(cap: u16, records: &[(u64, u64)]) -> Trial {
-    grown([1, 1, 1], cap, 1, 0, records)
-}
-
 /// These keys, each with its tenfold.
 fn tenfold(keys: impl IntoIterator<Item = u64>) -> Vec<(u64, u64)> {
     let pair = |key: u64| (key, key.wrapping_mul(10));
     keys.into_iter().map(pair).collect()
-}
-
-fn site(file: &Trial) -> Site<'_> {
-    Site {
-        state: file.state,
-        area: &file.area,
-    }
-}
-
-fn copy(file: &Trial) -> Trial {
-    Trial {
-        state: file.state,
-        area: file.area.clone(),
-    }
 }
 
 /// Merges and gives the answer and the row; the living file is left as the

@@ -4,6 +4,7 @@ use crate::commands::hex;
 mod comparisons;
 mod editions;
 mod merges;
+mod of_two;
 
 /// What a state that isn't looked at has for its edition.
 const NO_EDITION: u16 = 0x7776;

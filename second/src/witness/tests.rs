@@ -1,16 +1,12 @@
 use super::*;
 use crate::answer::NOT_THE_IMAGE;
+use crate::test_files;
 
 mod shrinks;
 
 const STATE: State = State {
-    n0: 1,
-    groups: 1,
-    sweeps: 1,
-    pages: 1,
-    cap: 2,
-    edition: 1,
     records: 1,
+    ..test_files::STATE
 };
 
 /// The image of key 3 with value 4.

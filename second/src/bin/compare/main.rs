@@ -42,6 +42,8 @@ mod shrinks;
 mod sink;
 mod sites;
 mod table;
+#[cfg(test)]
+mod test_files;
 mod values;
 mod ways;
 mod wrong;

@@ -1,22 +1,12 @@
 //! What is wrong with either file, and which of it is told.
 
 use super::*;
+use crate::test_files::{self, broken, REFUSALS};
 
-/// A file of so many pages with one record, wrong so that a check gives this
-/// refusal: its edition, its length, its last page or its count.
+/// The record of every file has the same value, so that right ones don't differ.
 fn wrong(cap: u16, refusal: u16) -> Trial {
-    let mut file = holding(cap, &[(5, 9)]);
-    match refusal {
-        OUT_OF_RANGE => file.state.edition = 3,
-        WRONG_AREA => file.area.push(0),
-        BROKEN => file.area[PAGE_BYTES * (usize::from(cap) - 1)] ^= 1,
-        NOT_THE_IMAGE => file.state.records = 2,
-        _ => {}
-    }
-    file
+    test_files::wrong(cap, 9, refusal)
 }
-
-const REFUSALS: [u16; 4] = [OUT_OF_RANGE, WRONG_AREA, BROKEN, NOT_THE_IMAGE];
 
 /// Refusal, page, pages read and file of a comparison that is refused, once
 /// nothing else was seen to be told and the room to be kept.
@@ -80,13 +70,6 @@ fn the_second_file_comes_before_the_room() {
 /// The lowest broken page is told, and no page behind it is judged.
 #[test]
 fn the_lowest_broken_page_of_either_file() {
-    let broken = |cap: u16, pages: &[usize]| {
-        let mut file = wrong(cap, 0);
-        for page in pages {
-            file.area[PAGE_BYTES * page + 10] ^= 1;
-        }
-        file
-    };
     for low in 0..4 {
         let one = broken(5, &[low, 4]);
         let told = (BROKEN, low as u16, low as u32 + 1, 1);

@@ -2,43 +2,16 @@
 
 use super::*;
 use crate::bytes::two;
-use crate::home::next_draw;
 use crate::page::SLOTS;
+use crate::test_files::Draws;
 
-/// Draws one number after the other.
-struct Draws(u64);
-
-impl Draws {
-    fn below(&mut self, limit: u64) -> u64 {
-        self.0 = next_draw(self.0);
-        self.0 % limit
-    }
-
-    /// A key: one of few small ones, or of few that are spread over all 64
-    /// bits.
-    fn key(&mut self) -> u64 {
-        let small = self.below(60);
-        match self.below(2) {
-            0 => small,
-            _ => small.wrapping_mul(0x9e37_79b9_7f4a_7c15),
-        }
-    }
-
-    /// A file with numbers of its own and up to so many records of few values.
-    /// Where there is no room for a record it is left out.
-    fn file(&mut self, most: u64) -> Trial {
-        let start = [3, 3, 8].map(|limit| 1 + self.below(limit) as u16);
-        let least = start[0] * start[1];
-        let cap = least + self.below(8) as u16;
-        let mut file = Trial::fresh(start, cap, 1 + self.below(2)).expect("agrees");
-        for _ in 0..self.below(u64::from(cap - least) + 1) {
-            file.ask(Call::Grow).expect("agrees");
-        }
-        for _ in 0..self.below(most + 1) {
-            let (key, value) = (self.key(), self.below(2));
-            file.ask(Call::Put { key, value }).expect("agrees");
-        }
-        file
+/// Draws files of few keys and few values.
+fn draws(last: u64) -> Draws {
+    Draws {
+        last,
+        keys: 60,
+        spare_pages: 8,
+        value: |draws| draws.below(2),
     }
 }
 
@@ -69,7 +42,7 @@ fn mirrored(list: &[u8]) -> Vec<u8> {
 
 #[test]
 fn the_other_way_round_the_list_is_mirrored() {
-    let mut draws = Draws(1);
+    let mut draws = draws(1);
     let mut kinds = BTreeMap::<u16, usize>::new();
     for round in 0..300 {
         let most = [0, 3, 40, 200][round % 4];
@@ -100,13 +73,10 @@ fn set_of(file: &Trial) -> Set {
 /// What happens to a file is what the list says of it, before and after.
 #[test]
 fn a_file_and_what_became_of_it() {
-    let mut draws = Draws(7);
+    let mut draws = draws(7);
     for round in 0..60 {
         let before = draws.file(60);
-        let mut after = Trial {
-            state: before.state,
-            area: before.area.clone(),
-        };
+        let mut after = copy(&before);
         for _ in 0..draws.below(2 * SLOTS as u64) {
             let (key, value) = (draws.key(), draws.below(3));
             let call = match draws.below(5) {

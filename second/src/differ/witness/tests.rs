@@ -1,35 +1,9 @@
 use super::*;
 use crate::answer::NOT_THE_IMAGE;
-use crate::image::lay_out;
-use crate::state::State;
+use crate::test_files::{file, records, Pairs, STATE};
 
-const STATE: State = State {
-    n0: 1,
-    groups: 1,
-    sweeps: 1,
-    pages: 1,
-    cap: 2,
-    edition: 1,
-    records: 0,
-};
-
-fn records(pairs: &[(u64, u64)]) -> Vec<Record> {
-    let record = |&(key, value): &(u64, u64)| Record { key, value };
-    pairs.iter().map(record).collect()
-}
-
-/// State and area of a file with these records.
-fn file(pairs: &[(u64, u64)]) -> (State, Vec<u8>) {
-    let area = lay_out(STATE, &records(pairs)).unwrap_or_default();
-    let state = State {
-        records: pairs.len() as u32,
-        ..STATE
-    };
-    (state, area)
-}
-
-const ONE: &[(u64, u64)] = &[(3, 4), (5, 6), (7, 8)];
-const TWO: &[(u64, u64)] = &[(5, 6), (7, 9), (8, 1)];
+const ONE: &Pairs = &[(3, 4), (5, 6), (7, 8)];
+const TWO: &Pairs = &[(5, 6), (7, 9), (8, 1)];
 
 const GONE: Difference = Difference::OnlyFirst(Record { key: 3, value: 4 });
 const COME: Difference = Difference::OnlySecond(Record { key: 8, value: 1 });
@@ -108,7 +82,7 @@ fn a_room_that_isnt_kept_is_noticed() {
 
 /// The answers that are allowed for two right files and a room of this length.
 fn allowed(room: &[u8], compared: Compared) -> bool {
-    let ((one, one_area), (two, two_area)) = (file(ONE), file(TWO));
+    let ((one, one_area), (two, two_area)) = (file(STATE, ONE), file(STATE, TWO));
     let first = Site {
         state: one,
         area: &one_area,
@@ -122,8 +96,8 @@ fn allowed(room: &[u8], compared: Compared) -> bool {
 
 #[test]
 fn only_one_answer_is_allowed() {
-    let (state, area) = file(ONE);
-    let (other, other_area) = file(TWO);
+    let (state, area) = file(STATE, ONE);
+    let (other, other_area) = file(STATE, TWO);
     let site = |state, area| Site { state, area };
     let mut room = vec![0; 90];
     let right = differ(site(state, &area), site(other, &other_area), &mut room);

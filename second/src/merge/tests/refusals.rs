@@ -2,23 +2,8 @@
 
 use super::*;
 use crate::answer::{BROKEN, NOT_THE_IMAGE, OUT_OF_RANGE, WRONG_AREA};
-use crate::page::PAGE_BYTES;
+use crate::test_files::{broken, wrong, REFUSALS};
 
-/// A file of so many pages with one record, wrong so that a check gives this
-/// refusal: its edition, its length, its last page or its count.
-fn wrong(cap: u16, value: u64, refusal: u16) -> Trial {
-    let mut file = holding(cap, &[(5, value)]);
-    match refusal {
-        OUT_OF_RANGE => file.state.edition = 3,
-        WRONG_AREA => file.area.push(0),
-        BROKEN => file.area[PAGE_BYTES * (usize::from(cap) - 1)] ^= 1,
-        NOT_THE_IMAGE => file.state.records = 2,
-        _ => {}
-    }
-    file
-}
-
-const REFUSALS: [u16; 4] = [OUT_OF_RANGE, WRONG_AREA, BROKEN, NOT_THE_IMAGE];
 const ANY: [u16; 5] = [0, OUT_OF_RANGE, WRONG_AREA, BROKEN, NOT_THE_IMAGE];
 
 /// Refusal, page, value, pages read and file of a merge that is refused, once
@@ -98,13 +83,6 @@ fn the_other_file_comes_before_the_clash() {
 /// The lowest broken page is told, and no page behind it is judged.
 #[test]
 fn the_lowest_broken_page_of_either_file() {
-    let broken = |cap: u16, pages: &[usize]| {
-        let mut file = wrong(cap, 9, 0);
-        for page in pages {
-            file.area[PAGE_BYTES * page + 10] ^= 1;
-        }
-        file
-    };
     for low in 0..4 {
         let one = broken(5, &[low, 4]);
         let (page, read) = (low as u16, low as u32 + 1);

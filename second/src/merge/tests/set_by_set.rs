@@ -1,44 +1,17 @@
 //! Files drawn at random, merged both ways round and one after the other.
 
 use super::*;
-use crate::home::next_draw;
+use crate::test_files::Draws;
 use std::collections::BTreeMap;
 
-/// Draws one number after the other.
-struct Draws(u64);
-
-impl Draws {
-    fn below(&mut self, limit: u64) -> u64 {
-        self.0 = next_draw(self.0);
-        self.0 % limit
-    }
-
-    /// A key: one of few small ones, or of few that are spread over all 64
-    /// bits.
-    fn key(&mut self) -> u64 {
-        let small = self.below(90);
-        match self.below(2) {
-            0 => small,
-            _ => small.wrapping_mul(0x9e37_79b9_7f4a_7c15),
-        }
-    }
-
-    /// A file with numbers of its own and up to so many records. A key mostly
-    /// has the value that it has in every file.
-    fn file(&mut self, most: u64) -> Trial {
-        let start = [3, 3, 8].map(|limit| 1 + self.below(limit) as u16);
-        let least = start[0] * start[1];
-        let cap = least + self.below(4) as u16;
-        let mut file = Trial::fresh(start, cap, 1 + self.below(2)).expect("agrees");
-        for _ in 0..self.below(u64::from(cap - least) + 1) {
-            file.ask(Call::Grow).expect("agrees");
-        }
-        for _ in 0..self.below(most + 1) {
-            let key = self.key();
-            let value = u64::from(self.below(200) == 0);
-            file.ask(Call::Put { key, value }).expect("agrees");
-        }
-        file
+/// Draws files of few keys, each of which mostly has the value that it has in
+/// every file.
+fn draws() -> Draws {
+    Draws {
+        last: 1,
+        keys: 90,
+        spare_pages: 4,
+        value: |draws| u64::from(draws.below(200) == 0),
     }
 }
 
@@ -57,7 +30,7 @@ fn in_both(one: &Trial, two: &Trial) -> Option<Vec<(u64, u64)>> {
 /// accepted holds the set of both.
 #[test]
 fn either_way_round_the_set_is_that_of_both() {
-    let mut draws = Draws(1);
+    let mut draws = draws();
     let mut refusals = BTreeMap::<(u16, u16), usize>::new();
     for round in 0..400 {
         let most = [3, 40, 80, 200][round % 4];

@@ -1,16 +1,7 @@
 use super::*;
+use crate::test_files::{file, records, Pairs, STATE};
 
 mod by_other_calls;
-
-const STATE: State = State {
-    n0: 1,
-    groups: 1,
-    sweeps: 1,
-    pages: 1,
-    cap: 2,
-    edition: 1,
-    records: 0,
-};
 
 /// The other file is lent three pages.
 const OTHER_STATE: State = State { cap: 3, ..STATE };
@@ -18,23 +9,9 @@ const OTHER_STATE: State = State { cap: 3, ..STATE };
 /// What the row holds before a merge, for as many counts as it has.
 const NINES: [u32; 3] = [9; 3];
 
-type Pairs = [(u64, u64)];
-
 const LIVING: &Pairs = &[(3, 4), (5, 6), (7, 8)];
 const OTHER: &Pairs = &[(5, 6), (9, 0), (1, 2)];
 const BOTH: &Pairs = &[(1, 2), (3, 4), (5, 6), (7, 8), (9, 0)];
-
-fn records(pairs: &Pairs) -> Vec<Record> {
-    let record = |&(key, value): &(u64, u64)| Record { key, value };
-    pairs.iter().map(record).collect()
-}
-
-/// A file of this size with these records.
-fn file(size: State, pairs: &Pairs) -> (State, Vec<u8>) {
-    let area = lay_out(size, &records(pairs)).unwrap_or_default();
-    let records = pairs.len() as u32;
-    (State { records, ..size }, area)
-}
 
 /// A merge that is said to have come to something: the two files, the answer,
 /// the area and the row that it left.

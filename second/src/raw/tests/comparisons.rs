@@ -2,6 +2,7 @@
 
 use super::*;
 use crate::trial::Trial;
+use of_two::{case_of, changed, check_every_cut, longest, page, two_sizes};
 
 /// A file of one page with n0, N and s all 1, with this key and value.
 fn one_record(edition: u64, key: u64, value: u64) -> Trial {
@@ -12,11 +13,8 @@ fn one_record(edition: u64, key: u64, value: u64) -> Trial {
 }
 
 /// A page 0 with one record of key 5 and this value.
-fn page(value: &str) -> Vec<u8> {
-    let record = format!("1400 0100 0500000000000000 {value}00000000000000");
-    let empty = "1400 0000 0000000000000000 0000000000000000".repeat(11);
-    let head = "0001 1100 00000000 0100 000000000000";
-    hex(&format!("{head} {record} {empty}"))
+fn five(value: u8) -> Vec<u8> {
+    page(&[(5, value)])
 }
 
 /// Key 5 with 9 in edition 1 and with 8 in edition 2, in a room of fifty bytes;
@@ -26,9 +24,9 @@ fn record_of_two() -> Vec<u8> {
         hex("84020000 0901 0100 0100 0100 0100 0100 0100 01000000"),
         hex("0B00000000000080 0C00000000000080 0D00000000000080"),
         hex("00010000"),
-        page("09"),
+        five(9),
         hex("10010000 0100 0100 0100 0100 0100 0200 01000000"),
-        page("08"),
+        five(8),
         hex("04000000 18191A1B 32000000"),
         vec![6; 50],
     ]
@@ -40,7 +38,7 @@ fn a_comparison_byte_by_byte() {
     let reply = [
         hex("78010000 0102 0000 0000 0000000000000000 00000000 02000000 00000000 0000 2C000000"),
         hex("0100 0100 0100 0100 0100 0100 01000000 0000 00010000"),
-        page("09"),
+        five(9),
         hex("04000000 18191A1B 32000000"),
         hex("1C00 0303 0500000000000000 0900000000000000 0800000000000000"),
         hex("1000 0403 00000000 00000000 01000000"),
@@ -61,7 +59,7 @@ fn a_comparison_without_room_byte_by_byte() {
     let reply = [
         hex("71010000 0102 0F00 0000 0000000000000000 00000000 02000000 00000000 0000 00000000"),
         hex("0100 0100 0100 0100 0100 0100 01000000 0000 00010000"),
-        page("09"),
+        five(9),
         hex("04000000 18191A1B 2B000000"),
         vec![6; 43],
     ]
@@ -72,13 +70,9 @@ fn a_comparison_without_room_byte_by_byte() {
 /// A comparison of two files, with a room that is always long enough.
 fn comparison(first: &Trial, second: &Trial) -> Case {
     Case {
-        kind: 265,
-        state: first.state,
-        area: first.area.clone(),
-        second: [state_bytes(second.state), second.area.clone()].concat(),
         row: vec![7; 2],
         room: vec![6; 99],
-        ..Case::default()
+        ..case_of(265, first, second)
     }
 }
 
@@ -108,26 +102,12 @@ fn string(bytes: &[u8]) -> Vec<u8> {
     [&(bytes.len() as u32).to_le_bytes()[..], bytes].concat()
 }
 
-/// Two pages in the first file and three in the second.
-fn two_sizes() -> (Trial, Trial) {
-    let file = |cap, key| {
-        let mut file = Trial::of_ones(cap).expect("agrees");
-        file.put_all([1, key]).expect("agrees");
-        file
-    };
-    (file(2, 3), file(3, 4))
-}
-
 #[test]
 fn every_refusal_tells_its_file() {
     let (first, second) = two_sizes();
     let good = comparison(&first, &second);
     assert_eq!(told(&good), (0, 0, 5, 0, 20 + 20 + 16));
-    let with = |change: fn(&mut Case)| {
-        let mut case = good.clone();
-        change(&mut case);
-        told(&case)
-    };
+    let with = |change| told(&changed(&good, change));
     assert_eq!(with(|case| case.state.n0 = 0), (1, 0, 0, 1, 0));
     assert_eq!(with(|case| case.area.truncate(511)), (2, 0, 0, 1, 0));
     assert_eq!(with(|case| case.area[256] ^= 1), (4, 1, 2, 1, 0));
@@ -177,44 +157,25 @@ fn the_second_state_is_laid_out_as_the_first() {
     let record = Case::parse(&record_of_two()).expect("a record");
     let site = record.second_file().expect("a whole state");
     assert_eq!((site.state.edition, site.state.records), (2, 1));
-    assert_eq!(site.area, page("08"));
+    assert_eq!(site.area, five(8));
 }
 
-/// Without sixteen bytes of a second file it is no record, whatever else it
-/// has, and ends the run; with them it is one, even where there is no area.
 #[test]
 fn a_second_file_too_short_for_its_state_ends_the_run() {
     let (first, second) = two_sizes();
-    let whole = comparison(&first, &second);
-    for length in 0..=whole.second.len() {
-        let mut case = whole.clone();
-        case.second.truncate(length);
-        let replies = if length < 16 { 1 } else { 3 };
-        assert_eq!(replies_around(&case.record()), replies, "{length} bytes");
-        let refusal = u16::from(length < whole.second.len()) * 2;
-        if length < 16 {
-            assert_eq!(case.answer(), Ok(None));
-        } else {
-            assert_eq!(told(&case).0, refusal);
-        }
-    }
+    check_every_cut(&comparison(&first, &second), |case| told(case).0);
 }
 
 /// The longest second file has 64 pages, and the longest room 16,400 bytes.
 #[test]
 fn the_longest_strings_are_compared() {
-    let file = |keys: std::ops::Range<u64>| {
-        let mut file = Trial::of_ones(64).expect("agrees");
-        file.put_all(keys).expect("agrees");
-        file
-    };
     // 768 records in each, of which none is in both: 1536 differences.
-    let mut case = comparison(&file(0..768), &file(768..1536));
+    let mut case = comparison(&longest(0..768), &longest(768..1536));
     case.room = vec![6; 16_400];
     assert_eq!(case.second.len(), 16_400);
     assert_eq!(told(&case), (15, 0, 128, 0, 0));
     // 409 in the one and 410 in the other: 16,396 bytes.
-    let mut case = comparison(&file(0..409), &file(768..1178));
+    let mut case = comparison(&longest(0..409), &longest(768..1178));
     case.room = vec![6; 16_400];
     assert_eq!(told(&case), (0, 0, 128, 0, 819 * 20 + 16));
 }

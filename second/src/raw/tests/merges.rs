@@ -2,16 +2,7 @@
 
 use super::*;
 use crate::trial::Trial;
-
-/// A page 0 with these keys, at most nine, each with this value.
-fn page(records: &[(u8, u8)]) -> Vec<u8> {
-    let used = records
-        .iter()
-        .map(|(key, value)| format!("1400 0100 {key:02X}00000000000000 {value:02X}00000000000000"));
-    let empty = "1400 0000 0000000000000000 0000000000000000".repeat(12 - records.len());
-    let head = format!("0001 1100 00000000 0{}00 000000000000", records.len());
-    hex(&(head + &used.collect::<String>() + &empty))
-}
+use of_two::{case_of, changed, check_every_cut, longest, page, two_sizes};
 
 /// Keys 5 and 6 in edition 2 merged into a file of edition 1 with keys 5 and 7,
 /// with a row of one count and something in every field that isn't looked at.
@@ -58,13 +49,9 @@ fn a_clash_byte_by_byte() {
 /// A merge of two files with a row of the right length.
 fn merge_of(living: &Trial, other: &Trial) -> Case {
     Case {
-        kind: 266,
-        state: living.state,
-        area: living.area.clone(),
-        second: [state_bytes(other.state), other.area.clone()].concat(),
         row: vec![7; living.state.cap.into()],
         room: vec![6; 5],
-        ..Case::default()
+        ..case_of(266, living, other)
     }
 }
 
@@ -85,26 +72,12 @@ fn told(case: &Case) -> (u16, u16, u64, u32, u16) {
     (refusal, page, value, read, two(&reply, 30))
 }
 
-/// Two pages in the living file and three in the other, with key 1 in both.
-fn two_sizes() -> (Trial, Trial) {
-    let file = |cap, key| {
-        let mut file = Trial::of_ones(cap).expect("agrees");
-        file.put_all([1, key]).expect("agrees");
-        file
-    };
-    (file(2, 3), file(3, 4))
-}
-
 #[test]
 fn every_refusal_tells_its_file() {
     let (living, other) = two_sizes();
     let good = merge_of(&living, &other);
     assert_eq!(told(&good), (0, 0, 0, 5, 0));
-    let with = |change: fn(&mut Case)| {
-        let mut case = good.clone();
-        change(&mut case);
-        told(&case)
-    };
+    let with = |change| told(&changed(&good, change));
     assert_eq!(with(|case| case.state.n0 = 0), (1, 0, 0, 0, 1));
     assert_eq!(with(|case| case.area.truncate(511)), (2, 0, 0, 0, 1));
     assert_eq!(with(|case| case.row.push(7)), (3, 0, 0, 0, 1));
@@ -147,40 +120,21 @@ fn a_merge_without_room_writes_the_row() {
     );
 }
 
-/// Without sixteen bytes of the other file it is no record, whatever else it
-/// has, and ends the run; with them it is one, even where there is no area.
 #[test]
 fn another_file_too_short_for_its_state_ends_the_run() {
     let (living, other) = two_sizes();
-    let whole = merge_of(&living, &other);
-    for length in 0..=whole.second.len() {
-        let mut case = whole.clone();
-        case.second.truncate(length);
-        let replies = if length < 16 { 1 } else { 3 };
-        assert_eq!(replies_around(&case.record()), replies, "{length} bytes");
-        if length < 16 {
-            assert_eq!(case.answer(), Ok(None));
-        } else {
-            let refusal = u16::from(length < whole.second.len()) * 2;
-            assert_eq!(told(&case).0, refusal);
-        }
-    }
+    check_every_cut(&merge_of(&living, &other), |case| told(case).0);
 }
 
 /// The longest files have 64 pages: 768 records in all, of which half are in
 /// both.
 #[test]
 fn the_longest_strings_are_merged() {
-    let file = |keys: std::ops::Range<u64>| {
-        let mut file = Trial::of_ones(64).expect("agrees");
-        file.put_all(keys).expect("agrees");
-        file
-    };
-    let case = merge_of(&file(0..576), &file(192..768));
+    let case = merge_of(&longest(0..576), &longest(192..768));
     assert_eq!(
         (case.second.len(), told(&case)),
         (16_400, (0, 0, 0, 128, 0))
     );
-    let case = merge_of(&file(0..576), &file(192..769));
+    let case = merge_of(&longest(0..576), &longest(192..769));
     assert_eq!(told(&case), (7, 0, 0, 128, 0));
 }

@@ -7,6 +7,7 @@ use Prim.Native.Nat.{ℕ, zero, suc, _+_, _-_, _*_, _^_, _≤_, _<_}
 use native.Mathlib.Numerals.{add-one}
 use native.Mathlib.Nat.{sub-zero, add-zero, zero-add}
 use native.Mathlib.Omega.{arith}
+use native.Mathlib.Decide.{decLe}
 use borrow.Author.Tests.{eq-eqb, ne-eqb, lt-ltb, le-ltb}
 use lib.Dec.{eqb, ltb}
 use lib.ListN.{length, take, drop, getD}
@@ -27,8 +28,8 @@ use Rattle.pages.proofs.Areas.{lent-part, part-length, held-length}
 use Rattle.lookups.specs.declared.Sought.{Sought}
 use Rattle.lookups.specs.declared.Sought.the-variants.{Held, Absent}
 use Rattle.lookups.specs.steps.Told.{told, heldBy}
-use Rattle.lookups.specs.steps.Skips.{lastBefore, passesOn, Imaged, findFrom}
-use Rattle.lookups.proofs.Passing.{ends-unpassed, image-skips}
+use Rattle.lookups.specs.steps.Skips.{lastBefore, passesOn, Imaged, findFrom, passesAt, Unpassed}
+use Rattle.lookups.proofs.Passing.{ends-unpassed, image-passes, image-skips}
 
 pub by-told : (o : Option Record) → heldBy (told o) ≡ o
 by-told none = refl
@@ -118,13 +119,10 @@ module _ (f : Layout) (area : List ℕ) where
   keys-held b (suc n) a h =
       all-append (λ x. key x < 2 ^ 64) (recordsIn f (partAt area a)) (cat (heldFrom f area n (suc a)) []) (keys-small f area a (omega arith) b) (keys-held b n (suc a) (omega arith))
 
-  -- a page that is passed, and all before it from the home on, are left out
-  pub skip-on : (h : ℕ → ℕ) (cap k lo mid : ℕ) → Imaged f area h cap → length area ≡ 256 * cap → Bytes area → h k ≤ lo → lo ≤ mid → mid < cap
-      → (u : Bool) → u ≡ passesOn (rankIn key h) (slotsOf f) (rankOf h k) (recordsIn f (partAt area mid)) → u ≡ true
-      → findFrom f area h cap k lo ≡ findFrom f area h cap k (mid + 1)
-  skip-on h cap k lo mid i l b g m n u v q =
-      let t = image-skips key h (slotsOf f) i (keys-held b cap 0 (omega arith)) k lo mid g m (rw (page-at cap mid n) (sym v ∙ q)) in
-      rw (left-from cap lo (omega arith), left-from cap (suc mid) (omega arith), ← add-one mid) at t
+  -- up to a page that is passed, from the home on, all are passed
+  pub passes-below : (h : ℕ → ℕ) (cap k j mid : ℕ) → Imaged f area h cap → length area ≡ 256 * cap → Bytes area → h k ≤ j → j ≤ mid → mid < cap → passesAt f area h cap k mid ≡ true → passesAt f area h cap k j ≡ true
+  passes-below h cap k j mid i l b g m n e =
+      rw (page-at cap j (omega arith)) at (image-passes key h (slotsOf f) i (keys-held b cap 0 (omega arith)) (slots-few f .0) k j mid g m (rw (page-at cap mid n) e))
 
   -- the search has come to page a
   abbrev pub Come : (h : ℕ → ℕ) (cap k a : ℕ) → Type 0
@@ -133,6 +131,21 @@ module _ (f : Layout) (area : List ℕ) where
   module _ (h : ℕ → ℕ) (cap k : ℕ) where
     pub come-home : (a : ℕ) → a ≡ h k → a ≤ cap → Come h cap k a
     come-home a e m = rw (← e, left-from cap a m)
+
+    -- and goes on to the first page that it doesn't pass
+    pub come-unpassed : (a r : ℕ) → Come h cap k a → h k ≤ a → Imaged f area h cap → length area ≡ 256 * cap → Bytes area → Unpassed f area h cap k a r → Come h cap k r
+    come-unpassed a r w g i l b u = go (decLe r a)
+      where
+        go : Dec (r ≤ a) → Come h cap k r
+        go (yes m) =
+            let e : a ≡ r = omega (arith, u .after) in
+            rw e at w
+        go (no m) =
+            let n : suc (r - 1) ≡ r = omega arith in
+            let e = u .before (r - 1) (omega arith) (omega arith) in
+            let t = image-skips key h (slotsOf f) i (keys-held b cap 0 (omega arith)) (slots-few f .0) k a (r - 1) g (omega arith) (rw (page-at cap (r - 1) (omega (arith, u .within))) e) in
+            let q : findFrom f area h cap k a ≡ findFrom f area h cap k r = rw (n, left-from cap a (omega (arith, u .within)), left-from cap r (u .within)) at t in
+            sym q ∙ w
 
     pub come-end : (a : ℕ) → Come h cap k a → cap ≤ a → Absent ≡ told (findIn key h (slotsOf f) k (heldFrom f area cap 0))
     come-end a w m =

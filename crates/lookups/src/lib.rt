@@ -13,7 +13,7 @@ ghost use Rattle.placing.specs.Walks.{seek, findIn};
 ghost use Rattle.pages.specs.Page.{key, rank, recordsIn};
 ghost use Rattle.pages.specs.Area.{heldFrom};
 ghost use Rattle.lookups.specs.steps.Told.{told};
-ghost use Rattle.lookups.specs.steps.Skips.{passesOn, Imaged, findFrom};
+ghost use Rattle.lookups.specs.steps.Skips.{passesOn, Imaged, Unpassed};
 
 // So many pages a search looks at one by one: nearly every search ends among them.
 const NEAR: usize = 8;
@@ -67,7 +67,7 @@ fn skip(
     sought: u64,
 ) -> usize
     requires { ⌜ (cap ≤ 4096) × (length (now area) ≡ 256 * cap) × Ready shape × (home ≡ homeIn shape sought) × (home ≤ from) × (from ≤ cap) × Imaged layout (now area) (homeIn shape) cap ⌝ }
-    ensures { λ r. ⌜ (from ≤ r) × (r ≤ cap) × (findFrom layout (now (area .entry)) (homeIn shape) cap sought from ≡ findFrom layout (now (area .entry)) (homeIn shape) cap sought r) ⌝ }
+    ensures { λ r. ⌜ Unpassed layout (now (area .entry)) (homeIn shape) cap sought from r ⌝ }
 {
     let mut lo = from;
     let mut hi = cap;

@@ -8,6 +8,7 @@ use state::Answer;
 use state::State;
 ghost use mathlib.Core.Path.{_≡_};
 ghost use mathlib.Core.Bool.{true};
+ghost use mathlib.Core.Logic.{_↔_};
 ghost use Prim.Native.Nat.{ℕ, _+_, _*_, _≤_, _<_};
 ghost use lib.ListN.{length, getD};
 ghost use Rattle.layouts.specs.Layout.{inUse};
@@ -48,7 +49,7 @@ pub fn seek(area: &[u8], site: Site, home: u64, key: u64) -> Sought
 
 // Whether two shapes are the same.
 fn alike(x: Shape, y: Shape) -> bool
-    ensures { λ r. ⌜ (r ≡ true → x ≡ y) ⌝ }
+    ensures { λ r. ⌜ (r ≡ true) ↔ (x ≡ y) ⌝ }
 {
     let n0 = x.params.n0 == y.params.n0;
     let n = x.params.n == y.params.n;

@@ -3,9 +3,8 @@ use mathlib.Core.Path.{_≡_, refl, sym, ap, _∙_}
 use mathlib.Core.Bool.{Bool, true, false, cond}
 use mathlib.Core.Option.{Option, none, some}
 use mathlib.Core.List.{List, [], _∷_, _++_, List·Permᴰ, List·Permᴰ·trans, Permᴰ·symm}
-use Prim.Native.Nat.{ℕ, _+_, _^_, _<_}
+use Prim.Native.Nat.{ℕ, _^_, _<_}
 use lib.Dec.{eqb}
-use lib.ListN.{length, length-append}
 use borrow.Author.Tests.{eqb-true}
 use Rattle.placing.specs.Image.{All, Distinct, RecordSet}
 use Rattle.placing.specs.Lay.{sort}
@@ -63,11 +62,6 @@ module _ {R : Type 0} (key : R → ℕ) where
     keys = all-append (λ x. key x < 2 ^ 64) (missing key xs ys) xs (missing-all (λ x. key x < 2 ^ 64) xs ys (g .keys)) (f .keys);
     once = distinct-append key (missing key xs ys) xs (missing-once xs ys (g .once)) (f .once) (missing-new xs ys);
   }
-
-  -- how many they are together
-  pub union-count : (xs ys : List R) → length (union key xs ys) ≡ length (missing key xs ys) + length xs
-  unfolding union
-  union-count xs ys = length-append (missing key xs ys) xs
 
   -- what is found among the missing: what the second holds where the first holds nothing
   abbrev unlessHeld : Option R → Option R → Option R

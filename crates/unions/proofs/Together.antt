@@ -5,14 +5,14 @@ use mathlib.Core.List.{List, [], _∷_, _++_, map, map-append}
 use Prim.Native.Nat.{ℕ, zero, suc, _+_, _-_, _*_, _/_, _^_, _≤_, _<_}
 use native.Mathlib.Omega.{arith}
 use lib.ListN.{length, take, drop, length-append, length-map}
-use lib.Seq.{drop-at, take-at, length-take-le}
+use lib.Seq.{drop-at, length-take-le}
 use Rattle.numbers.specs.Little.{Bytes}
 use Rattle.layouts.specs.Layout.{inUse}
 use Rattle.homes.specs.Homes.{homeIn}
 use Rattle.placing.specs.Image.{All, Distinct, RecordSet, cat}
 use Rattle.placing.specs.Lay.{sort, lay, taken}
 use Rattle.placing.proofs.Lists.{all-append}
-use Rattle.pages.specs.Page.{Record, key, homeFor, recordsIn}
+use Rattle.pages.specs.Page.{Record, key, homeFor}
 use Rattle.pages.specs.Small.{Small}
 use Rattle.pages.specs.steps.Known.{KnownHere}
 use Rattle.pages.specs.Area.{partAt, heldFrom, areaFrom}
@@ -29,7 +29,7 @@ use Rattle.rebuild.proofs.Packing.{onPage, partsFrom}
 use Rattle.rebuild.proofs.Commuting.{Right, pages-right, pages-records, taken-records, distinct-records, entries-laid}
 use Rattle.rebuild.proofs.Fitting.{tagged-fit, held-fit}
 use Rattle.sites.specs.declared.Site.{Site}
-use Rattle.sites.specs.steps.Sites.{pagesAt, onPages, Walkable, look}
+use Rattle.sites.specs.steps.Sites.{pagesAt, Walkable, look}
 use Rattle.two_sets.specs.steps.Lowest.{lacking}
 use Rattle.two_sets.proofs.Lowest.{lacking-append, lacking-all, lacking-length}
 use Rattle.unions.specs.steps.Both.{lackingOn, bothOf, lackingEntries}

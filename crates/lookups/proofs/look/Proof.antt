@@ -17,7 +17,7 @@ use Rattle.pages.specs.Area.{partAt}
 use Rattle.pages.proofs.Areas.{lent-part}
 use Rattle.lookups.specs.steps.Told.{told}
 use Rattle.lookups.specs.steps.Skips.{passesOn}
-use Rattle.lookups.proofs.Looking.{lent-length, passes-lent, Come, come-home, come-end, come-held, come-ends, come-on}
+use Rattle.lookups.proofs.Looking.{lent-length, passes-lent, Come, come-home, come-end, come-held, come-ends, come-on, come-unpassed}
 use Rattle.lookups.proofs.look.Statement.{statement}
 use Rattle.lookups.proofs.look.Tie as tie
 
@@ -119,14 +119,18 @@ skip-requires c κs =
     (s .pre .0, s .pre .1, s .pre .2, s .pre .4, omega (arith, l .loop .inv .0), omega (arith, t .loop-test .taken), s .pre .5)
 
 loop-less : tie.Need-loop-less Inv-loop μ-loop
-loop-less c = let t = c .before .before .before .before .before .before .before .before in omega (arith, c .skip .ensures .0, t .loop-test .taken)
+loop-less c = let t = c .before .before .before .before .before .before .before .before in omega (arith, c .skip .ensures .after, t .loop-test .taken)
 
 loop-again : tie.Need-loop-again Inv-loop μ-loop
 loop-again c =
     let n = c .before .before in
     let l = n .before .before .before .before .before .before .before in
-    let e = c .skip .ensures in
-    (omega (arith, e .0, l .loop .inv .0), rw (← e .2) (next n))
+    let s = l .before .before in
+    let a = s .args in
+    let u = c .skip .ensures in (
+      omega (arith, u .after, l .loop .inv .0),
+      come-unpassed (a .layout) (now (a .area)) (homeIn (a .shape)) (a .cap) (a .sought) (l .loop .a + 1) _ (next n) (omega (arith, s .pre .4, l .loop .inv .0)) (s .pre .5) (s .pre .1) (bytes l) u,
+    )
 
 loop-again-2 : tie.Need-loop-again-2 Inv-loop μ-loop
 loop-again-2 c =

@@ -1,6 +1,7 @@
 -- A search that leaves out the pages that it would pass.
-use Prim.Native.Nat.{ℕ, _-_}
-use mathlib.Core.Bool.{Bool, false, not, _&&_}
+use Prim.Native.Nat.{ℕ, _-_, _≤_, _<_}
+use mathlib.Core.Path.{_≡_}
+use mathlib.Core.Bool.{Bool, true, false, not, _&&_}
 use mathlib.Core.Option.{Option}
 use mathlib.Core.List.{List, [], _∷_}
 use lib.Dec.{ltb}
@@ -9,8 +10,8 @@ use Rattle.layouts.specs.Layout.{Layout, slotsOf}
 use Rattle.placing.specs.Image.{cat, Image}
 use Rattle.placing.specs.Lay.{rankOf, rankIn}
 use Rattle.placing.specs.Walks.{find}
-use Rattle.pages.specs.Page.{Record, key}
-use Rattle.pages.specs.Area.{heldFrom}
+use Rattle.pages.specs.Page.{Record, key, recordsIn}
+use Rattle.pages.specs.Area.{partAt, heldFrom}
 
 module _ {R : Type 0} (rank : R → ℕ) where
   -- whether the last of some records stands before the sought (home, key)
@@ -31,3 +32,14 @@ module _ (f : Layout) (area : List ℕ) (h : ℕ → ℕ) (cap : ℕ) where
   -- what the search for a key finds from page a on
   abbrev pub findFrom : (k a : ℕ) → Option Record
   findFrom k a = find (rankIn key h) (slotsOf f) (rankOf h k) (heldFrom f area (cap - a) a)
+
+  -- whether that search passes page a
+  abbrev pub passesAt : (k a : ℕ) → Bool
+  passesAt k a = passesOn (rankIn key h) (slotsOf f) (rankOf h k) (recordsIn f (partAt area a))
+
+  -- page r is the first from page a on that it doesn't pass, or the end
+  pub record Unpassed (k a r : ℕ) : Type 0 where
+    pub after : a ≤ r
+    pub within : r ≤ cap
+    pub before : (j : ℕ) → a ≤ j → j < r → passesAt k j ≡ true
+    pub here : r < cap → passesAt k r ≡ false

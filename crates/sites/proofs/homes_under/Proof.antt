@@ -1,10 +1,8 @@
 -- `sites::homes_under` meets its contract: the homes are known, or worked out.
 use denote.Ref.{now}
 use mathlib.Core.Path.{_≡_}
-use native.Mathlib.Omega.{arith}
 use borrow.Author.Needs.{needs}
 use Rattle.layouts.specs.Layout.{inUse}
-use Rattle.homes.specs.declared.Shape.{Shape}
 use Rattle.homes.specs.Homes.{homeIn}
 use Rattle.pages.specs.Area.{partAt}
 use Rattle.pages.specs.steps.Slots.{recordsOf}
@@ -18,7 +16,7 @@ homes-here-requires : tie.Need-homes-here-requires
 homes-here-requires c κs =
     let s = c .before .before .before in
     let p = s .pre in
-    let e : s .args .own ≡ s .args .shape = c .before .alike .ensures (c .if1 .taken) in
+    let e : s .args .own ≡ s .args .shape = c .before .alike .ensures .0 (c .if1 .taken) in
     let known : KnownHere inUse (homeIn (s .args .shape)) (now (s .args .area)) (s .args .a) = rw e at (p .4) in
     ((p .0, p .1, p .2), (p .3, known))
 

@@ -17,7 +17,7 @@ use Rattle.pages.specs.Area.{partAt}
 use Rattle.pages.proofs.Memory.{page-records}
 use Rattle.entries.specs.steps.Entries.{size, rowBytes}
 use Rattle.rebuild.proofs.Tags.{page-few}
-use Rattle.rebuild.proofs.Packing.{onPage, Above, above-start, above-length, above-room, below-same, above-turn, above-end, none-behind}
+use Rattle.rebuild.proofs.Packing.{Above, above-start, above-length, above-room, below-same, above-turn, above-end, none-behind}
 use Rattle.sites.specs.steps.Sites.{look}
 use Rattle.two_sets.specs.steps.Lowest.{lacking}
 use Rattle.unions.specs.steps.Both.{lackingEntries}

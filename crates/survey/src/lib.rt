@@ -1,11 +1,10 @@
 // Looks at all pages of an area: whether they are an image, and how many records there are of each
 // home.
 use homes::Shape;
-use homes::new_homes::NewHomes;
 use pages::Judged;
 ghost use mathlib.Core.Path.{_≡_};
 ghost use mathlib.Core.List.{[]};
-ghost use Prim.Native.Nat.{ℕ, _*_, _≤_};
+ghost use Prim.Native.Nat.{ℕ, _+_, _*_, _≤_, _<_};
 ghost use lib.ListN.{length, take, getD, replicate};
 ghost use lib.Dec.{eqb};
 ghost use Rattle.homes.specs.Homes.{Ready, homeIn};
@@ -14,8 +13,8 @@ ghost use Rattle.placing.specs.Image.{cat};
 ghost use Rattle.placing.specs.Rows.{leftOver};
 ghost use Rattle.pages.specs.Area.{heldFrom};
 ghost use Rattle.survey.specs.Survey.{surveyed};
-ghost use Rattle.survey.specs.steps.Looks.{unseen, looked, tallied};
-ghost use Rattle.survey.specs.steps.Counts.{Stands, Countable, homesOf, Counts};
+ghost use Rattle.survey.specs.steps.Looks.{unseen, looked, added, tallied};
+ghost use Rattle.survey.specs.steps.Counts.{homesOf, Counts, Countable, Placed};
 
 // The lowest broken page; or, with none broken, whether the pages are an image, and of how many
 // records.
@@ -24,10 +23,10 @@ pub enum Verdict {
     Whole { image: bool, records: u32 },
 }
 
-// What is counted while the pages are judged: nothing, or the records of each new home.
+// What is counted while the pages are judged: nothing, or the records of each home.
 pub enum Count {
     Nothing,
-    Homes { new: NewHomes },
+    Homes,
 }
 
 // What has been seen of the pages so far: whether they may be an image, whether the last of them is
@@ -98,38 +97,47 @@ fn clear(row: &mut [u32])
     }
 }
 
-// The keys of a judged page, counted by their new homes, if that is wanted. Where a page keeps
-// its keys their homes are known, and that is asked once for a run of them; others are worked out.
-fn tally(judged: Judged, count: Count, row: &mut [u32])
-    requires { ⌜ (judged .count ≤ 12) × (length (judged .keys) ≡ 12) × ((k : ℕ) → getD (now row) k 0 ≤ 49152) ⌝ }
-    requires { ⌜ Countable count (Stands judged) (length (now row)) ⌝ }
-    ensures { λ _. ⌜ now (row .exit) ≡ tallied (homesOf count (take (judged .count) (judged .keys))) (now (row .entry)) ⌝ }
+// n more at a place of a row.
+fn add(row: &mut [u32], at: usize, n: u32)
+    requires { ⌜ (at < length (now row)) × (length (now row) ≤ 4096) × (getD (now row) at 0 + n ≤ 4294967295) ⌝ }
+    ensures { λ _. ⌜ now (row .exit) ≡ added (now (row .entry)) at n ⌝ }
 {
-    let Count::Homes { new } = count else {
+    row[at] = row[at] + n;
+}
+
+// The records of a judged page, counted by their homes, if that is wanted. Records of one home mostly
+// stand side by side, so a run of them is counted first, and goes to the row where it ends.
+fn tally(judged: Judged, count: Count, row: &mut [u32])
+    requires { ⌜ (judged .count ≤ 12) × (length (judged .homes) ≡ 12) × ((k : ℕ) → getD (now row) k 0 ≤ 49152) ⌝ }
+    requires { ⌜ Placed count judged (length (now row)) ⌝ }
+    ensures { λ _. ⌜ now (row .exit) ≡ tallied (homesOf count (take (judged .count) (judged .homes))) (now (row .entry)) ⌝ }
+{
+    let Count::Homes = count else {
         return;
     };
-    let shape = new.shape;
-    let homes = judged.homes;
     let held = judged.count;
-    let keys = judged.keys;
-    let mut seen = shape.p;
-    let mut keeps = false;
-    let mut i = 0;
+    if held == 0 {
+        return;
+    }
+    let homes = judged.homes;
+    let mut seen = homes[0] as usize;
+    let mut n = 1;
+    let mut i = 1;
     while i < held {
-        let old = homes[i];
-        if old != seen {
-            keeps = new.keeps(old);
-            seen = old;
+        let home = homes[i] as usize;
+        if home != seen {
+            add(row, seen, n);
+            seen = home;
+            n = 0;
         }
-        let to = if keeps { old } else { shape.home(keys[i]) };
-        let home = to as usize;
-        row[home] = row[home] + 1;
+        n += 1;
         i += 1;
     }
+    add(row, seen, n);
 }
 
 // Judges the pages from 0 upward, and stops at the first broken one. Where none is broken, all
-// records are counted whose homes are wanted.
+// records are counted by their homes, if that is wanted.
 pub fn survey(
     area: &[u8],
     cap: usize,
@@ -138,9 +146,9 @@ pub fn survey(
     count: Count,
     row: &mut [u32],
 ) -> Verdict
-    requires { ⌜ (cap ≤ 4096) × (length (now area) ≡ 256 * cap) × Ready shape × Countable count (λ k a. homeIn shape k ≡ a) (length (now row)) ⌝ }
+    requires { ⌜ (cap ≤ 4096) × (length (now area) ≡ 256 * cap) × Ready shape × Countable count (shape .p) (length (now row)) ⌝ }
     ensures { λ r. ⌜ r ≡ surveyed layout (homeIn shape) (now (area .entry)) cap ⌝ }
-    ensures counted { λ r. ⌜ Counts r count (cat (heldFrom layout (now (area .entry)) cap 0) []) (length (now (row .entry))) (now (row .exit)) ⌝ }
+    ensures counted { λ r. ⌜ Counts r count (homeIn shape) (cat (heldFrom layout (now (area .entry)) cap 0) []) (length (now (row .entry))) (now (row .exit)) ⌝ }
 {
     clear(row);
     let mut seen = unseen();

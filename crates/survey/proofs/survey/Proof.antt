@@ -11,17 +11,18 @@ use lib.ListN.{length, length-replicate}
 use borrow.Author.Tests.{not-true, not-false}
 use borrow.Author.Needs.{needs}
 use Rattle.homes.specs.Homes.{homeIn}
+use Rattle.homes.proofs.Homes.{home-below}
 use Rattle.pages.specs.Page.{recordsIn, judged}
 use Rattle.pages.specs.Area.{partAt}
 use Rattle.pages.proofs.Read.{held-twelve}
 use Rattle.pages.proofs.Judging.{judged-held}
 use Rattle.survey.proofs.Looking.{ToSurvey, survey-starts, survey-breaks, survey-goes-on, survey-ends}
-use Rattle.survey.proofs.Counting.{ToCount, count-starts, count-goes-on, count-ends, judged-places, judged-keys, page-countable}
+use Rattle.survey.proofs.Counting.{ToCount, count-starts, count-goes-on, count-ends, judged-places, judged-homes, page-placed}
 use Rattle.survey.proofs.survey.Statement.{statement}
 use Rattle.survey.proofs.survey.Tie as tie
 
 abbrev Inv-loop : tie.InvT-loop
-Inv-loop area cap layout shape count row₀ seen₀ a₀ row seen a = ToSurvey layout (homeIn shape) area cap seen a × ToCount layout count area cap (length row₀) row a
+Inv-loop area cap layout shape count row₀ seen₀ a₀ row seen a = ToSurvey layout (homeIn shape) area cap seen a × ToCount layout count (homeIn shape) area cap (length row₀) row a
 
 abbrev μ-loop : tie.MeasureT-loop
 μ-loop area cap layout shape count row₀ seen₀ a₀ row seen a = cap - a
@@ -29,7 +30,7 @@ abbrev μ-loop : tie.MeasureT-loop
 loop-holds : tie.Need-loop-holds Inv-loop μ-loop
 loop-holds c =
     let a = c .before .before .before .before .before .before .before .args in
-    (survey-starts (a .layout) (homeIn (a .shape)) (now (a .area)) (a .cap) _ (c .unseen .ensures), count-starts _ _ _ _ (length (now (a .row))) _ (c .before .before .before .clear .ensures))
+    (survey-starts (a .layout) (homeIn (a .shape)) (now (a .area)) (a .cap) _ (c .unseen .ensures), count-starts _ _ _ _ _ (length (now (a .row))) _ (c .before .before .before .clear .ensures))
 
 -- the row is cleared, and stays as long as it was
 cleared : (c : tie.After-clear Inv-loop μ-loop) → length (c .clear .last .0) ≡ length (now (c .before .before .before .before .args .row))
@@ -64,7 +65,7 @@ tally-requires c κs =
     let b = c .before .before .before .before .before .before .before .before .before .before .before .before .before .before in
     let p = judged-places _ _ _ (held e) (held-twelve _ _) in (
       (p .0, p .1, λ k. omega (arith, l .loop .inv .1 .small k, c .before .before .before .before .before .loop-test .taken, b .pre .0)),
-      page-countable _ _ _ (held e) (b .args .count) _ _ (long l) (b .pre .3),
+      page-placed _ _ _ (held e) (b .args .shape .p) (λ k. home-below _ _ k (b .pre .2)) (b .args .count) _ _ (long l) (b .pre .3),
     )
 
 add-a : tie.Need-add-a Inv-loop μ-loop
@@ -77,7 +78,7 @@ loop-again c =
     let l = c .before .before .before .before .before .before .before .before .before .loop in
     let a = c .before .before .before .before .before .before .before .before .before .before .before .before .before .before .before .before .before .args in (
       survey-goes-on (a .layout) (homeIn (a .shape)) (now (a .area)) (a .cap) (l .seen) (l .a) t (l .inv .0) _ (e .before .before .judge-at .ensures) (not-false _ (e .if1 .left)) _ (c .before .before .before .before .look .ensures),
-      count-goes-on (l .inv .1) _ (judged-keys _ _ _ (held e)) t (c .before .before .tally .ensures),
+      count-goes-on (l .inv .1) _ (judged-homes _ _ _ (held e)) t (c .before .before .tally .ensures),
     )
 
 same-length-2 : tie.Need-same-length-2 Inv-loop μ-loop

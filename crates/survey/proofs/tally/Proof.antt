@@ -1,100 +1,85 @@
 -- `survey::tally` meets its contract: where nothing is counted the row stays. The loop's invariant
--- is `Tallied`: the first i keys are counted, and what page `seen` says is known.
+-- is `Tallied`: the first i homes are counted, but for a run that is still to be added.
 -- The measure is how many records are left.
-use mathlib.Core.Path.{_≡_, refl, sym, _∙_}
-use mathlib.Core.Bool.{true}
+use mathlib.Core.Path.{ap, _∙_}
 use mathlib.Core.Logic.{⊎-elim}
-use Prim.Native.Nat.{_-_, _<_}
+use Prim.Native.Nat.{_+_, _-_, _≤_, _<_}
 use native.Mathlib.Omega.{arith}
-use lib.ListN.{length, getD}
+use lib.ListN.{length, getD, length-set}
 use denote.Ref.{now}
 use borrow.Author.Needs.{needs}
-use Rattle.homes.specs.steps.NewHomes.{newHome, keepsAt}
-use Rattle.homes.proofs.Homes.{home-below}
 use Rattle.survey.specs.declared.Count.the-variants.{Homes}
-use Rattle.survey.specs.steps.Counts.{Countable, Stands}
-use Rattle.survey.proofs.Counting.{new-home, Tallied, tally-starts, part-length, part-le, tally-goes-on, tally-ends}
+use Rattle.survey.specs.steps.Counts.{Placed}
+use Rattle.survey.proofs.Counting.{Tallied, run-starts, run-length, run-le, run-goes-on, run-changes, run-ends}
 use Rattle.survey.proofs.tally.Statement.{statement}
 use Rattle.survey.proofs.tally.Tie as tie
 
 abbrev Inv-loop : tie.InvT-loop
-Inv-loop row₀ new shape homes held keys seen₀ keeps₀ i₀ row seen keeps i = Tallied new held keys row₀ row seen keeps i
+Inv-loop row₀ held homes seen₀ n₀ i₀ row seen n i = Tallied held homes row₀ row seen n i
 
 abbrev μ-loop : tie.MeasureT-loop
-μ-loop row₀ new shape homes held keys seen₀ keeps₀ i₀ row seen keeps i = held - i
+μ-loop row₀ held homes seen₀ n₀ i₀ row seen n i = held - i
 
--- the variant from which a turn comes
-abbrev top : tie.At-loop Inv-loop μ-loop → tie.After-count Inv-loop μ-loop
-top l = l .before .before .before .before .before
+-- where a turn's counting was asked for
+abbrev top : tie.At-loop Inv-loop μ-loop → tie.After-enum-told Inv-loop μ-loop
+top l = l .before .before .before
 
--- what is known where homes are counted
-known : (c : tie.After-count Inv-loop μ-loop) → Countable (Homes (c .count .given .0 .0)) (Stands (c .before .before .before .args .judged)) (length (now (c .before .before .before .args .row)))
-known c = rw (c .count .given .1) at (c .before .before .before .pre .1)
+-- what is known there
+placed : (c : tie.After-enum-told Inv-loop μ-loop) → Placed Homes (c .before .before .before .args .judged) (length (now (c .before .before .before .args .row)))
+placed c = rw (c .enum-told .given .1) at (c .before .before .before .pre .1)
+
+-- the page has a place for each home
+rooms : (c : tie.After-enum-told Inv-loop μ-loop) → c .before .before .before .args .judged .count ≤ length (c .before .before .before .args .judged .homes)
+rooms c = let b = c .before .before .before in omega (arith, b .pre .0 .0, b .pre .0 .1)
+
+returns : tie.Need-returns Inv-loop μ-loop
+returns c = rw (c .enum-told2 .given .1)
+
+returns-2 : tie.Need-returns-2 Inv-loop μ-loop
+returns-2 c = rw (c .before .enum-told .given .1, c .if1 .taken)
 
 loop-holds : tie.Need-loop-holds Inv-loop μ-loop
-loop-holds c = tally-starts _ _ _ _ _
+loop-holds c =
+    let w = c .before .before in
+    let more : 0 < w .before .before .before .args .judged .count = omega (arith, c .before .if1 .left) in
+    run-starts _ _ _ more (rooms w) (placed w .0 0 more)
 
-keeps-requires : tie.Need-keeps-requires Inv-loop μ-loop
-keeps-requires c κs = known (top (c .before .before)) .0
+-- a run may go to the row
+addable : (l : tie.At-loop Inv-loop μ-loop)
+    → (l .loop .seen < length (l .loop .row)) × (length (l .loop .row) ≤ 4096) × (getD (l .loop .row) (l .loop .seen) 0 + l .loop .n ≤ 4294967295)
+addable l =
+    let t = l .loop .inv in
+    let b = top l .before .before .before in
+    let e = run-length t in
+    (omega (arith, t .place), omega (arith, placed (top l) .1), omega (arith, run-le t, b .pre .0 .2 (l .loop .seen), t .low, b .pre .0 .0))
 
-home-requires : tie.Need-home-requires Inv-loop μ-loop
-home-requires c κs = known (top (c .before .before .before)) .0 .ready
-
--- what the page of record i's home says is asked for, or known
-asked : (c : tie.Joined1 Inv-loop μ-loop)
-    → (c .if1 .seen ≡ getD (top (c .before .before) .before .before .before .args .judged .homes) (c .before .before .loop .i) 0)
-    × (c .if1 .keeps ≡ true → keepsAt (top (c .before .before) .count .given .0 .0) (c .if1 .seen) ≡ true)
-asked c =
-    ⊎-elim
-    (λ w. (w .2, λ t. rw (w .2, ← w .1 .ensures, ← w .3) t))
-    (λ w. (w .1 ∙ sym (w .0 .left), rw (w .1, w .2) (c .before .before .loop .inv .asked)))
-    (c .if1 .came)
-
--- so it is the home of its key
-at-home : (c : tie.Joined2 Inv-loop μ-loop)
-    → c .if2 .to ≡ newHome (top (c .before .before .before) .count .given .0 .0) (getD (top (c .before .before .before) .before .before .before .args .judged .keys) (c .before .before .before .loop .i) 0)
-at-home c =
+add-n : tie.Need-add-n Inv-loop μ-loop
+add-n c =
     let l = c .before .before .before in
-    let a = asked (c .before) in
-    new-home _ _ (a .0) (a .1) (known (top l) .3 _ _ (record { slot = l .loop .i; low = c .before .before .loop-test .taken; key = refl; home = refl }))
-    (⊎-elim (λ w. rw (w .0 .taken) (w .1)) (λ w. rw (w .0 .left) (w .2 ∙ w .1 .ensures)) (c .if2 .came))
-
--- and a place of the row
-inside : (c : tie.Joined2 Inv-loop μ-loop) → c .if2 .to < length (c .before .before .before .loop .row)
-inside c =
-    let l = c .before .before .before in
-    let w = known (top l) in
-    omega (arith, part-length (l .loop .inv), at-home c, w .1, home-below _ _ (getD (top l .before .before .before .args .judged .keys) (l .loop .i) 0) (w .0 .ready))
-
-mul-row : tie.Need-mul-row Inv-loop μ-loop
-mul-row c =
-    let l = c .before .before .before .before in
-    omega (arith, part-length (l .loop .inv), inside (c .before), known (top l) .2)
-
-add-row : tie.Need-add-row Inv-loop μ-loop
-add-row c =
-    let l = c .before .before .before .before .before in
-    let x = c .before .before .if2 .to in
-    omega (arith, part-le (l .loop .inv) x, top l .before .before .before .pre .0 .2 x, c .before .before .before .before .loop-test .taken, top l .before .before .before .pre .0 .0)
-
-mul-row-2 : tie.Need-mul-row-2 Inv-loop μ-loop
-mul-row-2 c = mul-row (c .before)
+    let few = top l .before .before .before .pre .0 .0 in
+    ⊎-elim (λ w. omega (arith, w .7)) (λ w. omega (arith, w .3, l .loop .inv .few, c .before .before .loop-test .taken)) (c .before .if2 .came)
 
 loop-again : tie.Need-loop-again Inv-loop μ-loop
 loop-again c =
-    let l = c .before .before .before .before .before in
-    let b = top l .before .before .before in
-    let t = c .before .before .before .before .loop-test .taken in
-    tally-goes-on (l .loop .inv) t (omega (arith, b .pre .0 .0, b .pre .0 .1)) (asked (c .before .before .before) .1) (at-home (c .before .before))
+    let l = c .before .before .before in
+    let t = c .before .before .loop-test .taken in
+    let k = rooms (top l) in
+    ⊎-elim
+    (λ w. rw (w .6, w .7) (run-changes (l .loop .inv) t k (w .5 ∙ w .2 .ensures) (placed (top l) .0 _ t)))
+    (λ w. rw (w .1, w .2, w .3) (run-goes-on (l .loop .inv) t k (w .0 .left)))
+    (c .before .if2 .came)
 
 same-length : tie.Need-same-length Inv-loop μ-loop
-same-length c = part-length (c .before .loop .inv)
+same-length c =
+    let e = c .before .before in
+    let l = e .before .before .before in
+    ap length (e .add2 .ensures) ∙ length-set (l .loop .row) (l .loop .seen) (getD (l .loop .row) (l .loop .seen) 0 + l .loop .n) ∙ run-length (l .loop .inv)
 
-returns-2 : tie.Need-returns-2 Inv-loop μ-loop
-returns-2 c =
-    let k = top (c .before) in
-    let b = k .before .before .before in
-    tally-ends (b .args .count) _ (k .count .given .1) (c .before .loop .inv) (c .loop-test .left)
+returns-3 : tie.Need-returns-3 Inv-loop μ-loop
+returns-3 c =
+    let e = c .before .before in
+    let l = e .before .before .before in
+    rw (top l .enum-told .given .1) (run-ends (l .loop .inv) (e .before .before .loop-test .left) (e .add2 .ensures))
 
 pub tally-spec : {M : Type 1} → statement M
 tally-spec =
@@ -104,21 +89,17 @@ tally-spec =
     μ-loop
     (λ c. search needs)
     (λ c. search needs)
+    returns
+    returns-2
     (λ c. search needs)
     loop-holds
     (λ c. search needs)
     (λ c. search needs)
-    keeps-requires
-    (λ c. search needs)
-    (λ c. search needs)
-    home-requires
-    mul-row
-    (λ c. inside (c .before .before))
-    add-row
-    mul-row-2
-    (λ c. inside (c .before .before))
+    (λ c κs. addable (c .before .before .before))
+    add-n
     (λ c. search needs)
     (λ c. search needs)
     loop-again
+    (λ c κs. addable (c .before .before))
     same-length
-    returns-2)
+    returns-3)

@@ -1,10 +1,8 @@
 -- What a survey counts beside its verdict. What is quoted is 01's.
 use Prim.Native.Nat.{ℕ, _≤_, _<_}
 use mathlib.Core.Path.{_≡_}
-use mathlib.Core.Bool.{true}
-use mathlib.Core.List.{List, [], map}
+use mathlib.Core.List.{List, []}
 use lib.ListN.{getD}
-use Rattle.homes.specs.steps.NewHomes.{newHome, Usable, keepsAt}
 use Rattle.placing.specs.Rows.{counts}
 use Rattle.pages.specs.declared.Judged.{Judged}
 use Rattle.pages.specs.Page.{Record, homeFor}
@@ -14,27 +12,25 @@ use Rattle.survey.specs.declared.Verdict.{Verdict}
 use Rattle.survey.specs.declared.Verdict.the-variants.{Whole}
 use Rattle.survey.specs.declared.Verdict.the-variants as verdicts
 
--- the homes that are counted of these keys
+-- which of these homes are counted: none, or all
 abbrev pub homesOf : Count → List ℕ → List ℕ
-homesOf Nothing ks = []
-homesOf (Homes new) ks = map (newHome new) ks
+homesOf Nothing hs = []
+homesOf Homes hs = hs
 
--- what a survey leaves in a row of n counts, where no page is broken and homes are counted: "the
--- number of records of each home"
-abbrev pub Counts : Verdict → Count → List Record → (n : ℕ) → List ℕ → Type 0
-Counts (verdicts.Broken a) count rs n row = Unit {0}
-Counts (Whole image records) Nothing rs n row = Unit {0}
-Counts (Whole image records) (Homes new) rs n row = row ≡ counts (homeFor (newHome new)) rs n 0
+-- what a survey leaves in a row of n counts, where no page is broken and homes are counted, h being
+-- the home of a key: "the number of records of each home"
+abbrev pub Counts : Verdict → Count → (h : ℕ → ℕ) → List Record → (n : ℕ) → List ℕ → Type 0
+Counts (verdicts.Broken a) count h rs n row = Unit {0}
+Counts (Whole image records) Nothing h rs n row = Unit {0}
+Counts (Whole image records) Homes h rs n row = row ≡ counts (homeFor h) rs n 0
 
--- What is asked for that, where `had k a` says that key k had its home on page a: a home is a place
--- of the row, and on a page that keeps its keys it is what it was.
-abbrev pub Countable : Count → (had : ℕ → ℕ → Type 0) → (n : ℕ) → Type 0
-Countable Nothing had n = Unit {0}
-Countable (Homes new) had n = Usable new × (new .shape .p ≤ n) × (n ≤ 4096) × ((k a : ℕ) → had k a → keepsAt new a ≡ true → newHome new k ≡ a)
+-- what is asked for that of a row of n counts, where all homes are below p: that each is a place of
+-- the row
+abbrev pub Countable : Count → (p n : ℕ) → Type 0
+Countable Nothing p n = Unit {0}
+Countable Homes p n = (p ≤ n) × (n ≤ 4096)
 
--- key k stands on a judged page, with home a
-pub record Stands (j : Judged) (k a : ℕ) : Type 0 where
-  pub slot : ℕ
-  pub low : slot < j .count
-  pub key : getD (j .keys) slot 0 ≡ k
-  pub home : getD (j .homes) slot 0 ≡ a
+-- and of the homes of a judged page
+abbrev pub Placed : Count → Judged → (n : ℕ) → Type 0
+Placed Nothing j n = Unit {0}
+Placed Homes j n = ((i : ℕ) → i < j .count → getD (j .homes) i 0 < n) × (n ≤ 4096)

@@ -27,7 +27,11 @@ looked f s a n hs ks =
       records = s .records + n;
     })
 
+-- n more at place j of a row
+abbrev pub added : List ℕ → (j n : ℕ) → List ℕ
+added row j n = set row j (getD row j 0 + n)
+
 -- one more for each of these homes
 abbrev pub tallied : List ℕ → List ℕ → List ℕ
 tallied [] row = row
-tallied (j ∷ hs) row = tallied hs (set row j (getD row j 0 + 1))
+tallied (j ∷ hs) row = tallied hs (added row j 1)

@@ -12,9 +12,7 @@ use borrow.Author.Tests.{eqb-true, eq-eqb}
 use Rattle.numbers.specs.Little.{Bytes}
 use Rattle.layouts.specs.Layout.{Layout, slotsOf}
 use Rattle.homes.specs.declared.Shape.{Shape}
-use Rattle.homes.specs.declared.new_homes.NewHomes.{NewHomes}
 use Rattle.homes.specs.Homes.{shapeOf, homeIn}
-use Rattle.homes.specs.steps.NewHomes.{newHome}
 use Rattle.numbers.proofs.Records.{and-left, and-right}
 use Rattle.placing.specs.Image.{cat, RecordSet, Image}
 use Rattle.placing.specs.Rows.{counts}
@@ -84,11 +82,10 @@ module _ (s : State) (v : Verdict) where
     image-shut u = rw (e, u)
 
   -- where it is open, no page is broken, and the homes that were to be counted are
-  pub open-counted : (new : NewHomes) (rs : List Record) (n : ℕ) (row : List ℕ) → imageOf s v ≡ Open → Counts v (Homes new) rs n row
-      → row ≡ counts (homeFor (newHome new)) rs n 0
-  open-counted new rs n row e k = go v e k
+  pub open-counted : (h : ℕ → ℕ) (rs : List Record) (n : ℕ) (row : List ℕ) → imageOf s v ≡ Open → Counts v Homes h rs n row → row ≡ counts (homeFor h) rs n 0
+  open-counted h rs n row e k = go v e k
     where
-      go : (w : Verdict) → imageOf s w ≡ Open → Counts w (Homes new) rs n row → row ≡ counts (homeFor (newHome new)) rs n 0
+      go : (w : Verdict) → imageOf s w ≡ Open → Counts w Homes h rs n row → row ≡ counts (homeFor h) rs n 0
       go (verdicts.Broken a) q k = absurd (let z : _≡_ {A = ℕ} 0 1 = cc in omega arith)
       go (Whole image records) q k = k
 

@@ -85,20 +85,20 @@ module _ (s next : State) (e : next ≡ shrunk s) (range : inRange inUse s ≡ t
       let a : s .p - 1 + 1 ≡ s .p = omega arith in
       record { usable = u; follows = rw b (rw e, rw a, inr (omega arith, omega arith)); low = rw b (omega (arith, ranged inUse s range .p-high)) }
 
+-- the homes of a file's records may be counted in a row of all pages
+pub countable : (s : State) → inRange inUse s ≡ true → (shape : Shape) → shape ≡ shapeOf (s .params) (s .p) → (n : ℕ) → n ≡ s .cap → Countable Homes (shape .p) n
+countable s range shape f n l = (rw f (omega (arith, ranged inUse s range .p-high)), omega (arith, ranged inUse s range .cap-high))
+
+-- and past the gate of the pages they are counted
+pub counted-if : (s : State) (shape : Shape) → shape ≡ shapeOf (s .params) (s .p) → (area row : List ℕ) (n : ℕ) → n ≡ s .cap → (v : Verdict) (g : Gate) → g ≡ imageOf s v
+    → Counts v Homes (homeIn shape) (cat (heldFrom inUse area (s .cap) 0) []) n row → CountedIf g s area row
+counted-if s shape f area row n l v Open e k = rw (f, l) at (open-counted s v (homeIn shape) (cat (heldFrom inUse area (s .cap) 0) []) n row (sym e) k)
+counted-if s shape f area row n l v (Shut why) e k = tt
+
 -- new homes of a file's records
 module _ (s : State) (range : inRange inUse s ≡ true) {new : NewHomes} (m : Rehomes s new) where
   same-page : Agrees (homes s) new
   same-page = agrees (shapeOf (s .params) (s .p)) new (in-shape inUse s range) (m .usable .ready) (m .follows)
-
-  -- may be counted in a row of all pages, if those before were of the file as it is
-  pub countable : (old : Shape) → old ≡ shapeOf (s .params) (s .p) → (n : ℕ) → n ≡ s .cap → Countable (Homes new) (λ k a. homeIn old k ≡ a) n
-  countable old f n l = (m .usable, omega (arith, m .low), omega (arith, ranged inUse s range .cap-high), λ k a e on. same-page k a on .0 (rw f at e))
-
-  -- and past the gate of the pages they are counted
-  pub counted-if : (area row : List ℕ) (n : ℕ) → n ≡ s .cap → (v : Verdict) → (g : Gate) → g ≡ imageOf s v → Counts v (Homes new) (cat (heldFrom inUse area (s .cap) 0) []) n row
-      → CountedIf g s new area row
-  counted-if area row n l v Open e k = rw l at (open-counted s v new (cat (heldFrom inUse area (s .cap) 0) []) n row (sym e) k)
-  counted-if area row n l v (Shut why) e k = tt
 
   -- what is known of the homes on its pages, if they are an image
   pub rehomed-known : (area : List ℕ) → Bytes area → length area ≡ 256 * s .cap → imageGate inUse s area ≡ Open → (a : ℕ) → a < s .cap → KnownAt inUse new area a

@@ -19,16 +19,16 @@ ghost use Rattle.gates.specs.steps.Past.{OpenImage, EnteredToGrow};
 ghost use Rattle.register.specs.steps.Past.{Judgeable, Rehomes, CountedIf, grewEntered};
 ghost use Rattle.register.specs.Calls.{grownCounts, growOpen};
 
-// Whether the area is the image of the state's records; their new homes are counted meanwhile.
-fn judge(state: State, new: NewHomes, area: &[u8], counts: &mut [u32]) -> Gate
-    requires { ⌜ Judgeable state (length (now area)) (length (now counts)) × Rehomes state new ⌝ }
+// Whether the area is the image of the state's records, which are counted meanwhile by their homes as
+// they are.
+fn judge(state: State, area: &[u8], counts: &mut [u32]) -> Gate
+    requires { ⌜ Judgeable state (length (now area)) (length (now counts)) ⌝ }
     ensures { λ r. ⌜ r ≡ imageGate inUse state (now (area .entry)) ⌝ }
-    ensures counted { λ r. ⌜ CountedIf r state new (now (area .entry)) (now (counts .exit)) ⌝ }
+    ensures counted { λ r. ⌜ CountedIf r state (now (area .entry)) (now (counts .exit)) ⌝ }
 {
     let cap = state.cap as usize;
-    let old = state.shape();
-    let count = Count::Homes { new };
-    let verdict = survey::survey(area, cap, IN_USE, old, count, counts);
+    let shape = state.shape();
+    let verdict = survey::survey(area, cap, IN_USE, shape, Count::Homes, counts);
     gates::image_of(state, verdict)
 }
 
@@ -55,7 +55,7 @@ fn grow_counting(state: State, area: &mut [u8], row: &mut [u32], counts: &mut [u
 {
     let next = state.grown();
     let new = remaking::beside(next, next);
-    let gate = judge(state, new, &area[..], counts);
+    let gate = judge(state, &area[..], counts);
     match gate {
         Gate::Shut { why } => Done { state, answer: why },
         Gate::Open => {

@@ -9,13 +9,13 @@ use Rattle.homes.specs.declared.new_homes.NewHomes.{NewHomes}
 use Rattle.homes.specs.declared.new_homes.Stays.the-variants.{Beside}
 use Rattle.homes.specs.Homes.{shapeOf}
 use Rattle.homes.specs.steps.Last.{lastStep}
-use Rattle.homes.specs.steps.NewHomes.{newHome, Usable, Follows}
+use Rattle.homes.specs.steps.NewHomes.{Usable, Follows}
 use Rattle.placing.specs.Image.{cat}
 use Rattle.placing.specs.Rows.{counts}
 use Rattle.pages.specs.Page.{homeFor}
 use Rattle.pages.specs.Area.{heldFrom}
 use Rattle.state.specs.declared.State.{State}
-use Rattle.state.specs.State.{inRange}
+use Rattle.state.specs.State.{inRange, homes}
 use Rattle.gates.specs.declared.Gate.{Gate}
 use Rattle.gates.specs.declared.Gate.the-variants.{Open, Shut}
 use Rattle.gates.specs.Gates.{onGate, imageGate}
@@ -37,10 +37,10 @@ pub record Rehomes (s : State) (new : NewHomes) : Type 0 where
   pub follows : Follows (shapeOf (s .params) (s .p)) new (new .stays)
   pub low : new .shape .p ≤ s .cap
 
--- where the pages pass, their homes are counted
-abbrev pub CountedIf : Gate → State → NewHomes → List ℕ → (row : List ℕ) → Type 0
-CountedIf Open s new area row = row ≡ counts (homeFor (newHome new)) (cat (heldFrom inUse area (s .cap) 0) []) (s .cap) 0
-CountedIf (Shut why) s new area row = Unit {0}
+-- where the pages pass, their records are counted by the homes that they have
+abbrev pub CountedIf : Gate → State → List ℕ → (row : List ℕ) → Type 0
+CountedIf Open s area row = row ≡ counts (homeFor (homes s)) (cat (heldFrom inUse area (s .cap) 0) []) (s .cap) 0
+CountedIf (Shut why) s area row = Unit {0}
 
 -- what a growth comes to that enters
 abbrev pub grewEntered : State → List ℕ → (row : List ℕ) → Growth

@@ -3,7 +3,6 @@ use Prim.Native.Nat.{ℕ, _-_, _*_, _≤_}
 use mathlib.Core.Path.{_≡_}
 use mathlib.Core.Bool.{true}
 use mathlib.Core.List.{List, []}
-use lib.ListN.{length}
 use Rattle.layouts.specs.Layout.{inUse}
 use Rattle.homes.specs.declared.new_homes.NewHomes.{NewHomes}
 use Rattle.homes.specs.declared.new_homes.Stays.the-variants.{Beside}

@@ -289,6 +289,15 @@ pub fn parse_at(area: &[u8], a: usize, layout: u8) -> Page
     parse(&area[at..at + 256], layout)
 }
 
+// How many records the page at an address says that it holds.
+pub fn count_at(area: &[u8], a: usize, layout: u8) -> usize
+    requires { ⌜ (a < 4096) × (256 * (a + 1) ≤ length (now area)) ⌝ }
+    ensures { λ r. ⌜ r ≡ length (recordsIn layout (partAt (now (area .entry)) a)) ⌝ }
+{
+    let at = 256 * a;
+    count_in(&area[at..at + 256], layout)
+}
+
 // A page to its place in the area: the part that is its own is lent on.
 pub fn store_at(area: &mut [u8], a: usize, layout: u8, page: Page)
     requires { ⌜ (a < 4096) × (256 * (a + 1) ≤ length (now area)) × (page .count ≤ 12) × (page ≡ inMemory (recordsOf page)) ⌝ }

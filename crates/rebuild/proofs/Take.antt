@@ -40,7 +40,7 @@ fitting-length (suc b) a (e ∷ es) = go (leb (home e) a) (fitting-length b a es
     go false h = omega arith
 
 -- a page that holds n records in its rows, with the entries of a list stored behind them
-abbrev filled : (a : ℕ) (ks vs us : List ℕ) (n at m : ℕ) → List Entry → Took
+abbrev pub filled : (a : ℕ) (ks vs us : List ℕ) (n at m : ℕ) → List Entry → Took
 filled a ks vs us n at m es = record {
   page = record { count = n + length es; keys = sets ks n (map (λ e. e .held .key) es); values = sets vs n (map (λ e. e .held .value) es); runs = sets us n (map (λ e. e .held .run) es) };
   next = at + size * length es;
@@ -52,14 +52,28 @@ unfoldable pub filling : (a : ℕ) → List Entry → (ks vs us : List ℕ) (n a
 filling a es ks vs us n at m = filled a ks vs us n at m (take (fitting (slots - n) a es) es)
 
 -- the page in hand as it is
-abbrev inHand : (ks vs us : List ℕ) (n at m : ℕ) → Took
+abbrev pub inHand : (ks vs us : List ℕ) (n at m : ℕ) → Took
 inHand ks vs us n at m = record { page = record { count = n; keys = ks; values = vs; runs = us }; next = at; moved = m }
 
--- the row of a field of those that fit
-row-first : (g : Entry → ℕ) (a : ℕ) (es : List Entry) → sets (replicate 12 0) 0 (map g (take (fitting slots a es) es)) ≡ padded (map g (take (fitting slots a es) es))
-row-first g a es =
-    row-starts (map g (take (fitting slots a es) es))
-    (rw (length-map, length-take) (omega (arith, fitting-few slots a es)))
+-- twelve entries at most in an empty page are the page of their records
+pub filled-start : (a at : ℕ) (es : List Entry) → length es ≤ 12
+    → filled a (replicate 12 0) (replicate 12 0) (replicate 12 0) 0 at 0 es ≡ record { page = inMemory (map recordIn es); next = at + size * length es; moved = hops a es }
+unfolding inMemory
+filled-start a at es l =
+    rw (
+      row-first (λ e. e .held .key),
+      row-first (λ e. e .held .value),
+      row-first (λ e. e .held .run),
+      map-map key recordIn es,
+      map-map value recordIn es,
+      map-map run recordIn es,
+      length-map es recordIn,
+      zero-add (length es),
+      zero-add (hops a es),
+    )
+  where
+    row-first : (g : Entry → ℕ) → sets (replicate 12 0) 0 (map g es) ≡ padded (map g es)
+    row-first g = row-starts (map g es) (rw length-map l)
 
 -- what an empty page can take is the page asked for
 filling-start : (a at : ℕ) (es : List Entry) → filling a es (replicate 12 0) (replicate 12 0) (replicate 12 0) 0 at 0 ≡ took a at es
@@ -68,22 +82,10 @@ filling-start a at es =
     let p : List Entry = take (fitting slots a es) es in
     let k : length p ≡ fitting slots a es = length-take (fitting slots a es) es ∙ omega (arith, fitting-length slots a es) in
     let z : slots - 0 ≡ slots = omega arith in
-    rw (
-      z,
-      row-first (λ e. e .held .key) a es,
-      row-first (λ e. e .held .value) a es,
-      row-first (λ e. e .held .run) a es,
-      map-map key recordIn p,
-      map-map value recordIn p,
-      map-map run recordIn p,
-      length-map p recordIn,
-      k,
-      zero-add (fitting slots a es),
-      zero-add (hops a p),
-    )
+    rw z (filled-start a at p (omega (arith, k, fitting-few slots a es)) ∙ rw k)
 
 -- an entry that fits is stored
-filled-cons : (a : ℕ) (ks vs us : List ℕ) (n at m : ℕ) (e : Entry) (es : List Entry)
+pub filled-cons : (a : ℕ) (ks vs us : List ℕ) (n at m : ℕ) (e : Entry) (es : List Entry)
     → filled a (set ks n (e .held .key)) (set vs n (e .held .value)) (set us n (e .held .run)) (n + 1) (at + size) (m + one (not (eqb (e .from) a))) es ≡ filled a ks vs us n at m (e ∷ es)
 filled-cons a ks vs us n at m e es =
     let i : n + 1 ≡ suc n = omega arith in
@@ -104,7 +106,7 @@ filling-turn a l ks vs us n at m f e d s w h g =
     (filled-cons a ks vs us n at m e (take (fitting (slots - (n + 1)) a es) es))
 
 -- nothing more is stored
-filled-none : (a : ℕ) (ks vs us : List ℕ) (n at m : ℕ) → inHand ks vs us n at m ≡ filled a ks vs us n at m []
+pub filled-none : (a : ℕ) (ks vs us : List ℕ) (n at m : ℕ) → inHand ks vs us n at m ≡ filled a ks vs us n at m []
 filled-none a ks vs us n at m =
     let p : n + 0 ≡ n = omega arith in
     let q : at + size * 0 ≡ at = omega arith in

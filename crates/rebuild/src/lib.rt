@@ -123,7 +123,7 @@ fn take_page(area: &[u8], at: usize, a: usize) -> Took
 }
 
 // 1 where an entry comes from another page than a.
-fn strange(from: u16, a: usize) -> u32
+pub fn strange(from: u16, a: usize) -> u32
     ensures { λ r. ⌜ r ≡ one (not (eqb from a)) ⌝ }
 {
     if from as usize == a { 0 } else { 1 }

@@ -11,6 +11,7 @@ pub mod Addresses
 pub mod Turn
 pub mod Beginning
 pub mod Last
+pub mod Given
 pub mod Keeping
 pub mod Rowed
 pub mod Together

@@ -1,17 +1,17 @@
 -- The laws of the steps, for any test of a mover and any way to a new page that leads into [F, F +
 -- G).
 --
-use mathlib.Core.Path.{_≡_, refl, sym, ap, _∙_}
-use mathlib.Core.Bool.{Bool, true, false, cond, _&&_}
+use mathlib.Core.Path.{_≡_, refl, sym, _∙_}
+use mathlib.Core.Bool.{Bool, true, false, cond, _&&_, and-false}
 use mathlib.Core.Logic.{_⊎_, inl, inr, ⊎-elim}
 use Prim.Native.Nat.{ℕ, zero, suc, _+_, _-_, _*_, _%_, _≤_, _<_}
 use native.Mathlib.Omega.{arith}
 use lib.Dec.{ltb, eqb}
-use borrow.Author.Tests.{ltb-true, ltb-false, lt-ltb, le-ltb}
+use borrow.Author.Tests.{ltb-true, ltb-false, eqb-true, lt-ltb, le-ltb, eq-eqb, ne-eqb}
 use Rattle.homes.specs.declared.Stage.{Stage}
-use Rattle.homes.specs.Homes.{np, movedTo, nextGroups, steps}
-use Rattle.homes.specs.steps.Stages.{stageAt, nextStep, After}
-use Rattle.homes.specs.steps.Last.{lastFrom}
+use Rattle.homes.specs.Homes.{movedTo, nextGroups, steps}
+use Rattle.homes.specs.steps.Stages.{stageAt, nextStep}
+use Rattle.homes.specs.steps.Last.{numbered, lastFrom}
 use Rattle.draws.proofs.Split.{split}
 
 -- A way to a new page leads into the pages that a step adds.
@@ -28,27 +28,20 @@ moved-past P mv new a h = rw (le-ltb new P h) (none mv)
     none true = refl
     none false = refl
 
--- A step from a page below P leads to a page below P.
-pub moved-below : (P : ℕ) (mv : Bool) (new a : ℕ) → a < P → movedTo P mv new a < P
+-- A step from a page below Q leads to a page below Q, where a new page below P is one.
+pub moved-below : (P Q : ℕ) (mv : Bool) (new a : ℕ) → (new < P → new < Q) → a < Q → movedTo P mv new a < Q
 unfolding movedTo
-moved-below P mv new a h = go mv (ltb new P) refl
+moved-below P Q mv new a l h = go mv (ltb new P) refl
   where
-    go : (m u : Bool) → ltb new P ≡ u → cond (m && u) new a < P
+    go : (m u : Bool) → ltb new P ≡ u → cond (m && u) new a < Q
     go false u e = h
     go true false e = h
-    go true true e = ltb-true new P e
+    go true true e = l (ltb-true new P e)
 
--- With one page more a step does the same, or leads to that page.
-pub moved-grown : (P : ℕ) (mv : Bool) (new a : ℕ) → (movedTo (P + 1) mv new a ≡ movedTo P mv new a) ⊎ ((movedTo (P + 1) mv new a ≡ P) × (new ≡ P))
+-- To a page below P a step leads with one page more as well.
+moved-alike : (P : ℕ) (mv : Bool) (new a : ℕ) → new < P → movedTo (P + 1) mv new a ≡ movedTo P mv new a
 unfolding movedTo
-moved-grown P mv new a = go mv (ltb new P) (ltb new (P + 1)) refl refl
-  where
-    go : (m u v : Bool) → ltb new P ≡ u → ltb new (P + 1) ≡ v → (cond (m && v) new a ≡ cond (m && u) new a) ⊎ ((cond (m && v) new a ≡ P) × (new ≡ P))
-    go false u v e e′ = inl refl
-    go true true true e e′ = inl refl
-    go true true false e e′ = absurd (omega (arith, ltb-true, ltb-false))
-    go true false false e e′ = inl refl
-    go true false true e e′ = inr (omega (arith, ltb-true, ltb-false), omega (arith, ltb-true, ltb-false))
+moved-alike P mv new a h = rw (lt-ltb new P h, lt-ltb new (P + 1) (omega arith))
 
 -- There is always a group.
 pub groups-pos : (n0 x G : ℕ) → 0 < G → 0 < nextGroups n0 x G
@@ -59,12 +52,8 @@ groups-pos n0 x G h = go (eqb ((x - 1) % n0) (n0 - 1))
     go true = omega arith
     go false = h
 
--- A step adds a page for each group.
-pub grows : (n0 i : ℕ) (t r : Stage) → t .np ≡ np n0 (suc i) → After n0 t r → r .f ≡ t .f + t .g
-grows n0 i t r e after = ap (λ (u : Stage). u .f) (after (suc i) (omega arith) e)
-
 -- A step that reaches size P is the last.
-pub last-here : (n0 P left x : ℕ) (t : Stage) → P ≤ t .f + t .g → lastFrom n0 P left x t ≡ t
+pub last-here : (n0 P left x : ℕ) (t : Stage) → P ≤ t .f + t .g → lastFrom n0 P left x t ≡ numbered x t
 unfolding lastFrom
 last-here n0 P zero x t h = refl
 last-here n0 P (suc left) x t h = rw (le-ltb (t .f + t .g) P h)
@@ -111,102 +100,82 @@ module _ (moves : ℕ → ℕ → Bool) (goes : ℕ → ℕ → ℕ → ℕ) (n0
   unfolding steps
   steps-below zero x F G a h = h
   steps-below (suc left) x F G a h =
-      go (ltb F P) (steps-below left (suc x) (F + G) (nextGroups n0 x G) _ (moved-below P (moves x F) (goes F G a) a h))
+      go (ltb F P) (steps-below left (suc x) (F + G) (nextGroups n0 x G) _ (moved-below P P (moves x F) (goes F G a) a (λ l. l) h))
     where
       go : {on : ℕ} (t : Bool) → on < P → cond t on a < P
       go true l = l
       go false l = h
 
--- What one page more, page P, does to a page: it stays, or becomes P, where the last step leads
--- there from it.
-abbrev pub OneMore : (goes : ℕ → ℕ → ℕ → ℕ) (P : ℕ) (last : Stage) (a b : ℕ) → Type 0
-OneMore goes P last a b = (b ≡ a) ⊎ ((b ≡ P) × (goes (last .f) (last .g) a ≡ P))
+  -- Of the steps from one on that reaches size P only that one is taken, or none.
+  pub last-taken : (left x F G a : ℕ) → P ≤ F + left → P ≤ F + G → F ≤ goes F G a → steps moves goes n0 P left x F G a ≡ movedTo P (moves x F) (goes F G a) a
+  last-taken left x F G a enough reach low =
+      ⊎-elim (on left enough) (λ ge. stopped left x F G a ge ∙ sym (moved-past P (moves x F) (goes F G a) a (omega arith))) (split F P)
+    where
+      on : (l : ℕ) → P ≤ F + l → F < P → steps moves goes n0 P l x F G a ≡ movedTo P (moves x F) (goes F G a) a
+      on zero h lt = absurd (omega arith)
+      on (suc l) h lt = goes-on l x F G a lt ∙ stopped l (suc x) (F + G) (nextGroups n0 x G) _ reach
+
+-- What one page more, page P, makes of a page, where the last step is at size F with G groups: for
+-- a mover page P, where the page was there before the step and the step leads from it to P.
+abbrev pub grownTo : (goes : ℕ → ℕ → ℕ → ℕ) (P F G : ℕ) → Bool → (a : ℕ) → ℕ
+grownTo goes P F G mv a = cond (ltb a F && eqb (goes F G a) P && mv) P a
+
+-- So the page stays, or becomes P, where the step leads there from it.
+pub grown-cases : (goes : ℕ → ℕ → ℕ → ℕ) (P F G : ℕ) (mv : Bool) (a : ℕ) → (grownTo goes P F G mv a ≡ a) ⊎ ((grownTo goes P F G mv a ≡ P) × (goes F G a ≡ P))
+grown-cases goes P F G mv a = go (ltb a F) (eqb (goes F G a) P) mv refl
+  where
+    go : (t u m : Bool) → eqb (goes F G a) P ≡ u → (cond (t && u && m) P a ≡ a) ⊎ ((cond (t && u && m) P a ≡ P) × (goes F G a ≡ P))
+    go false u m e = inl refl
+    go true false m e = inl refl
+    go true true false e = inl refl
+    go true true true e = inr (refl, eqb-true (goes F G a) P e)
 
 module _ (moves : ℕ → ℕ → Bool) (goes : ℕ → ℕ → ℕ → ℕ) (into : Into goes) (n0 P : ℕ) where
+  -- The last step does so.
+  moved-grown : (F G : ℕ) (mv : Bool) (a : ℕ) → a < F → movedTo (P + 1) mv (goes F G a) a ≡ grownTo goes P F G mv (movedTo P mv (goes F G a) a)
+  unfolding movedTo
+  moved-grown F G mv a below = go mv (ltb (goes F G a) P) (ltb (goes F G a) (P + 1)) refl refl
+    where
+      go : (m u v : Bool) → ltb (goes F G a) P ≡ u → ltb (goes F G a) (P + 1) ≡ v → cond (m && v) (goes F G a) a ≡ grownTo goes P F G m (cond (m && u) (goes F G a) a)
+      go false u v e e′ = rw (and-false (ltb a F && eqb (goes F G a) P))
+      go true true true e e′ = rw (le-ltb (goes F G a) F (into .low F G a))
+      go true true false e e′ = absurd (omega (arith, ltb-true, ltb-false))
+      go true false false e e′ =
+          let past : eqb (goes F G a) P ≡ false = ne-eqb (goes F G a) P (λ q. omega (arith, ltb-false (goes F G a) (P + 1) e′)) in
+          rw (past, and-false (ltb a F))
+      go true false true e e′ =
+          let here : goes F G a ≡ P = omega (arith, ltb-true, ltb-false) in
+          rw (lt-ltb a F below, eq-eqb (goes F G a) P here) here
+
   -- what is shown of the steps with one page more
   abbrev Grown : (left x F G a : ℕ) → Type 0
   Grown left x F G a =
-      OneMore goes P (lastFrom n0 (P + 1) left x (stageAt n0 x F G)) (steps moves goes n0 P left x F G a) (steps moves goes n0 (P + 1) left x F G a)
+      let last = lastFrom n0 (P + 1) left x (stageAt n0 x F G) in
+      steps moves goes n0 (P + 1) left x F G a ≡ grownTo goes P (last .stage .f) (last .stage .g) (moves (last .x) (last .stage .f)) (steps moves goes n0 P left x F G a)
 
-  -- one step, where `rest` shows it of the steps after
-  grown-step : (left x F G a : ℕ) → 0 < G → Grown left (suc x) (F + G) (nextGroups n0 x G) (movedTo P (moves x F) (goes F G a) a) → Grown (suc left) x F G a
-  grown-step left x F G a hG rest =
-      ⊎-elim
-      (λ lt. ⊎-elim (same lt) (to (omega arith)) step)
-      (λ ge. ⊎-elim (λ lt. ⊎-elim (stays ge lt) (to lt) step) past (split F (P + 1)))
-      (split F P)
-    where
-      new : ℕ
-      new = goes F G a
+  -- The last step is taken with one page more and without it,
+  grown-here : (left x F G a : ℕ) → a < F → P + 1 ≤ F + left → P + 1 ≤ F + G → Grown left x F G a
+  grown-here left x F G a below most over =
+      let low = into .low F G a in
+      rw (last-here n0 (P + 1) left x (stageAt n0 x F G) over, last-taken moves goes n0 (P + 1) left x F G a most over low, last-taken moves goes n0 P left x F G a (omega arith) (omega arith) low)
+      (moved-grown F G (moves x F) a below)
 
-      a′ : ℕ
-      a′ = movedTo P (moves x F) new a
+  -- and a step before it does the same in both.
+  grown-on : (left x F G a : ℕ) → 0 < G → F + G < P + 1 → Grown left (suc x) (F + G) (nextGroups n0 x G) (movedTo P (moves x F) (goes F G a) a) → Grown (suc left) x F G a
+  grown-on left x F G a hG lt rest =
+      rw (last-later n0 (P + 1) left x (stageAt n0 x F G) lt, goes-on moves goes n0 (P + 1) left x F G a (omega arith), goes-on moves goes n0 P left x F G a (omega arith), moved-alike P (moves x F) (goes F G a) a (omega (arith, into .high F G a hG)))
+      rest
 
-      b′ : ℕ
-      b′ = movedTo (P + 1) (moves x F) new a
-
-      step : (b′ ≡ a′) ⊎ ((b′ ≡ P) × (new ≡ P))
-      step = moved-grown P (moves x F) new a
-
-      then : (size b : ℕ) → ℕ
-      then size b = steps moves goes n0 size left (suc x) (F + G) (nextGroups n0 x G) b
-
-      on : F < P + 1 → steps moves goes n0 (P + 1) (suc left) x F G a ≡ then (P + 1) b′
-      on lt = goes-on moves goes n0 (P + 1) left x F G a lt
-
-      off : F < P → then P a′ ≡ steps moves goes n0 P (suc left) x F G a
-      off lt = sym (goes-on moves goes n0 P left x F G a lt)
-
-      ends : (size b : ℕ) → size ≤ F + G → then size b ≡ b
-      ends size b h = stopped moves goes n0 size left (suc x) (F + G) (nextGroups n0 x G) b h
-
-      -- both move alike, and take further steps
-      further : F < P → F + G < P + 1 → b′ ≡ a′ → Grown left (suc x) (F + G) (nextGroups n0 x G) a′ → Grown (suc left) x F G a
-      further lt more e (inl r) = inl (on (omega arith) ∙ ap (then (P + 1)) e ∙ r ∙ off lt)
-      further lt more e (inr r) =
-          inr (on (omega arith) ∙ ap (then (P + 1)) e ∙ r .0, rw (last-later n0 (P + 1) left x (stageAt n0 x F G) more, ← off lt) (r .1))
-
-      -- both move alike, by the last step or one before it
-      same : F < P → b′ ≡ a′ → Grown (suc left) x F G a
-      same lt e =
-          ⊎-elim
-          (λ more. further lt more e rest)
-          (λ over. inl (on (omega arith) ∙ ends (P + 1) b′ over ∙ e ∙ sym (ends P a′ (omega arith)) ∙ off lt))
-          (split (F + G) (P + 1))
-
-      -- who does not go to a new page P stays
-      kept : P ≤ new → P ≤ F + G → steps moves goes n0 P (suc left) x F G a ≡ a
-      kept h over =
-          ⊎-elim
-          (λ lt. sym (off lt) ∙ ends P a′ over ∙ moved-past P (moves x F) new a h)
-          (λ ge. stopped moves goes n0 P (suc left) x F G a ge)
-          (split F P)
-
-      -- one moves to page P, and ends there; the other stays
-      to : F < P + 1 → (b′ ≡ P) × (new ≡ P) → Grown (suc left) x F G a
-      to lt w =
-          let over : P + 1 ≤ F + G = omega (arith, w .1, into .high F G a hG) in
-          inr (on lt ∙ ends (P + 1) b′ over ∙ w .0, rw (last-here n0 (P + 1) (suc left) x (stageAt n0 x F G) over, kept (omega (arith, w .1)) (omega arith)) (w .1))
-
-      -- the size is P, and one takes a step more, by which it stays
-      stays : P ≤ F → F < P + 1 → b′ ≡ a′ → Grown (suc left) x F G a
-      stays ge lt e =
-          inl (on lt ∙ ends (P + 1) b′ (omega arith) ∙ e ∙ moved-past P (moves x F) new a (omega (arith, into .low F G a)) ∙ sym (stopped moves goes n0 P (suc left) x F G a ge))
-
-      -- the size is past P, and both have ended
-      past : P + 1 ≤ F → Grown (suc left) x F G a
-      past gt =
-          inl (stopped moves goes n0 (P + 1) (suc left) x F G a gt ∙ sym (stopped moves goes n0 P (suc left) x F G a (omega arith)))
-
-  -- With one page more and as many steps left, the steps lead to the same page or to that one.
-  pub steps-grown : (left x F G a : ℕ) → 0 < G → OneMore goes P (lastFrom n0 (P + 1) left x (stageAt n0 x F G)) (steps moves goes n0 P left x F G a) (steps moves goes n0 (P + 1) left x F G a)
-  unfolding steps
-  steps-grown zero x F G a hG = inl refl
-  steps-grown (suc left) x F G a hG =
-      grown-step left x F G a hG
-      (steps-grown left (suc x) (F + G) (nextGroups n0 x G) (movedTo P (moves x F) (goes F G a) a) (groups-pos n0 x G hG))
+  -- From a page below F, and with enough steps left for both, the steps lead with one page more to
+  -- what the last of them makes of the page that they lead to without it.
+  steps-grown : (left x F G a : ℕ) → a < F → 0 < G → P + 1 ≤ F + left → Grown left x F G a
+  steps-grown zero x F G a below hG most = grown-here zero x F G a below most (omega arith)
+  steps-grown (suc left) x F G a below hG most =
+      let new : movedTo P (moves x F) (goes F G a) a < F + G = moved-below P (F + G) (moves x F) (goes F G a) a (λ l. into .high F G a hG) (omega arith) in
+      let rest = steps-grown left (suc x) (F + G) (nextGroups n0 x G) (movedTo P (moves x F) (goes F G a) a) new (groups-pos n0 x G hG) (omega arith) in
+      ⊎-elim (λ lt. grown-on left x F G a hG lt rest) (grown-here (suc left) x F G a below most) (split (F + G) (P + 1))
 
   -- The same with just enough steps left in both.
-  pub grown : (x F G a : ℕ) → 0 < G → OneMore goes P (lastFrom n0 (P + 1) (P + 1 - F) x (stageAt n0 x F G)) (steps moves goes n0 P (P - F) x F G a) (steps moves goes n0 (P + 1) (P + 1 - F) x F G a)
-  grown x F G a hG =
-      rw (← enough moves goes n0 P (P + 1 - F) (P - F) x F G a hG (omega arith) (omega arith)) (steps-grown (P + 1 - F) x F G a hG)
+  pub grown : (x F G a : ℕ) → a < F → 0 < G → let last = lastFrom n0 (P + 1) (P + 1 - F) x (stageAt n0 x F G) in steps moves goes n0 (P + 1) (P + 1 - F) x F G a ≡ grownTo goes P (last .stage .f) (last .stage .g) (moves (last .x) (last .stage .f)) (steps moves goes n0 P (P - F) x F G a)
+  grown x F G a below hG =
+      rw (← enough moves goes n0 P (P + 1 - F) (P - F) x F G a hG (omega arith) (omega arith)) (steps-grown (P + 1 - F) x F G a below hG (omega arith))

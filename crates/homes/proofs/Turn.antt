@@ -83,7 +83,7 @@ module _ {n0 x : ℕ} {t : Stage} (on : Stepping n0 x t) where
       go (suc l) c r = (l, omega arith, r)
 
   module _ {t′ : Stage} (after : After n0 t t′) where
-    next-is : t′ ≡ nextStep n0 x t
+    pub next-is : t′ ≡ nextStep n0 x t
     next-is = after x (on .first) (on .np-is)
 
     groups-next : t′ .g ≡ nextGroups n0 x (t .g)

@@ -3,5 +3,6 @@ pub mod Starts
 pub mod Sweeps
 pub mod Stages
 pub mod Last
+pub mod Giving
 pub mod NewHomes
 pub mod Lanes

@@ -1,4 +1,5 @@
 // Where a key lives: its home page, from the numbers of the file and the key.
+pub mod giving;
 mod lane;
 pub mod lanes;
 pub mod new_homes;
@@ -124,13 +125,8 @@ impl Shape {
         ensures { λ r. ⌜ r ≡ lastStep self ⌝ }
         ensures within { λ r. ⌜ Within r ⌝ }
     {
-        let n0 = self.params.n0 as u64;
-        let p = self.p;
-        let mut stage = self.first();
-        while stage.f + stage.g < p {
-            stage = stage.next(n0);
-        }
-        stage
+        let last = self.last();
+        last.stage
     }
 
     // Whether the keys that have their home on a page are the same with the page that the step

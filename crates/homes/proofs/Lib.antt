@@ -12,6 +12,7 @@ pub mod Turn
 pub mod Beginning
 pub mod Last
 pub mod Given
+pub mod Givers
 pub mod Keeping
 pub mod Rowed
 pub mod Together

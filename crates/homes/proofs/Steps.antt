@@ -107,7 +107,7 @@ module _ (moves : ℕ → ℕ → Bool) (goes : ℕ → ℕ → ℕ → ℕ) (n0
       go false l = h
 
   -- Of the steps from one on that reaches size P only that one is taken, or none.
-  pub last-taken : (left x F G a : ℕ) → P ≤ F + left → P ≤ F + G → F ≤ goes F G a → steps moves goes n0 P left x F G a ≡ movedTo P (moves x F) (goes F G a) a
+  last-taken : (left x F G a : ℕ) → P ≤ F + left → P ≤ F + G → F ≤ goes F G a → steps moves goes n0 P left x F G a ≡ movedTo P (moves x F) (goes F G a) a
   last-taken left x F G a enough reach low =
       ⊎-elim (on left enough) (λ ge. stopped left x F G a ge ∙ sym (moved-past P (moves x F) (goes F G a) a (omega arith))) (split F P)
     where

@@ -2,11 +2,12 @@
 // their keys go.
 use crate::Shape;
 use crate::Stage;
+use crate::sweeps::Sweeps;
 ghost use mathlib.Core.Path.{_≡_};
 ghost use Prim.Native.Nat.{_*_, _<_};
 ghost use Rattle.homes.specs.Homes.{Ready};
 ghost use Rattle.homes.specs.steps.Last.{lastOf, Lasts};
-ghost use Rattle.homes.specs.steps.Giving.{Gives, givingOf, givesAt, takesKey};
+ghost use Rattle.homes.specs.steps.Giving.{Gives, givingOf, givesAt, takesKey, firstGiver};
 
 // A step, and which it is.
 pub struct Numbered {
@@ -84,5 +85,22 @@ impl Giving {
         ensures { λ r. ⌜ r ≡ takesKey self key ⌝ }
     {
         draws::draw(draws::twice_seed(key), self.power) <= self.limit
+    }
+
+    // The lowest page that gives; the others come each g pages after the one before. It is one of
+    // the first g, and is found with nothing divided.
+    pub fn first(self) -> u64
+        requires { ⌜ Gives self ⌝ }
+        ensures { λ r. ⌜ r ≡ firstGiver self ⌝ }
+        ensures within { λ r. ⌜ r < self .g ⌝ }
+    {
+        let groups = self.g as u16;
+        let behind = (self.added - self.f) as u16;
+        let sweeps = Sweeps::new(self.s, groups);
+        let mut group = 0;
+        while sweeps.target(groups, group) != behind {
+            group += 1;
+        }
+        group as u64
     }
 }

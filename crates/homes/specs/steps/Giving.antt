@@ -1,8 +1,8 @@
 -- How a file grows into its last page: which pages give keys to it, and which of their keys go. A
 -- step between code and definition.
-use Prim.Native.Nat.{ℕ, _+_, _-_, _*_, _%_, _≤_, _<_}
+use Prim.Native.Nat.{ℕ, zero, suc, _+_, _-_, _*_, _%_, _≤_, _<_}
 use mathlib.Core.Path.{_≡_}
-use mathlib.Core.Bool.{Bool, _&&_}
+use mathlib.Core.Bool.{Bool, cond, _&&_}
 use lib.Dec.{leb, ltb, eqb}
 use Rattle.draws.specs.Draws.{seedOf, later}
 use Rattle.draws.specs.steps.Powers.{power, limit}
@@ -43,3 +43,12 @@ givesAt t a = ltb a (t .f) && eqb (newPage (t .s) (t .f) (t .g) a) (t .added)
 -- whether the step's draw makes a key a mover
 unfoldable pub takesKey : Giving → (K : ℕ) → Bool
 takesKey t K = leb (t .power * seedOf K % 2147483647) (t .limit)
+
+-- the lowest page that gives, from page a on and before page a + left
+unfoldable pub giverFrom : Giving → (left a : ℕ) → ℕ
+giverFrom t zero a = a
+giverFrom t (suc left) a = cond (givesAt t a) a (giverFrom t left (suc a))
+
+-- and of them all, of which one is among the first g
+abbrev pub firstGiver : Giving → ℕ
+firstGiver t = giverFrom t (t .g) 0

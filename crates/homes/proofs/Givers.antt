@@ -31,12 +31,12 @@ gives-is t a = (there (ltb a (t .f)) (eqb (newPage (t .s) (t .f) (t .g) a) (t .a
     there false v e f on = absurd (false≢true on)
 
 module _ {t : Giving} (w : Gives t) where
-  -- Of the first g pages that one gives whose group grows into the added page.
+  -- Of the first g pages one gives whose group grows into the added page.
   pub gives-behind : (a : ℕ) → a < t .g → swept (t .s) 0 (t .g) (t .g - 1 - a) ≡ t .added - t .f → givesAt t a ≡ true
   gives-behind a l e =
       gives-is t a .1 (omega (arith, w .more), new-at (t .s) (t .f) (t .g) a l ∙ omega (arith, e, w .low))
 
-  -- One of them does.
+  -- There is one.
   pub giver : (a : ℕ) × (a < t .g) × (swept (t .s) 0 (t .g) (t .g - 1 - a) ≡ t .added - t .f)
   giver =
       let o = new-onto (t .s) (t .f) (t .g) (t .added) (w .s-low) (w .low) (w .high) in
@@ -47,7 +47,7 @@ module _ {t : Giving} (w : Gives t) where
   same-group a b e f =
       new-one (t .s) (t .f) (t .g) a b (w .s-low) (w .groups) (gives-is t a .0 e .1 ∙ sym (gives-is t b .0 f .1))
 
-  -- So the search comes to the one that does.
+  -- So a search from a page before it, or from it, comes to the one of the first g that gives,
   reaches : (b left a : ℕ) → b < t .g → givesAt t b ≡ true → a ≤ b → b ≤ a + left → giverFrom t left a ≡ b
   unfolding giverFrom
   reaches b zero a l on low high = omega arith
@@ -58,6 +58,7 @@ module _ {t : Giving} (w : Gives t) where
       go false e rest =
           ⊎-elim rest (λ ge. let here : a ≡ b = omega arith in absurd (false≢true (sym e ∙ rw here on))) (split a b)
 
+  -- as the search for the first giver does.
   pub first-is : (b : ℕ) → b < t .g → givesAt t b ≡ true → firstGiver t ≡ b
   first-is b l on = reaches b (t .g) 0 l on (omega arith) (omega arith)
 

@@ -10,6 +10,7 @@ use Rattle.layouts.specs.Layout.{inUse}
 use Rattle.placing.specs.Image.{cat}
 use Rattle.placing.specs.Lay.{count}
 use Rattle.placing.specs.Walks.{seek}
+use Rattle.placing.proofs.Lists.{count-append}
 use Rattle.pages.specs.Page.{Record, key, value}
 use Rattle.pages.specs.Area.{heldFrom}
 use Rattle.state.specs.declared.State.{State}
@@ -18,7 +19,7 @@ use Rattle.sites.specs.Held.{same, heldIn}
 use Rattle.sites.specs.steps.Sites.{look, siteOf}
 use Rattle.sites.proofs.Known.{Known}
 use Rattle.two_sets.specs.Differences.{isOnlyFirst, isOnlySecond, isUnlike, unlike, ofFirst, firsts, differences}
-use Rattle.two_sets.proofs.Counting.{count-append, Balance, balance}
+use Rattle.two_sets.proofs.Counting.{Balance, balance}
 use Rattle.differences.specs.declared.Tally.{Tally}
 use Rattle.differences.specs.steps.Passes.{D, ofAll, isOnly, tallied, Passes}
 use Rattle.differences.proofs.Meaning.{tells, pass-firsts}

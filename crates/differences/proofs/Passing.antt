@@ -12,6 +12,7 @@ use lib.ListN.{length, getD, length-append, length-map}
 use Rattle.layouts.specs.Layout.{inUse}
 use Rattle.placing.specs.Image.{cat}
 use Rattle.placing.specs.Lay.{one, count}
+use Rattle.placing.proofs.Lists.{count-append}
 use Rattle.pages.specs.declared.Page.{Page}
 use Rattle.pages.specs.Page.{Record, key, value, recordWith, inMemory, recordsIn}
 use Rattle.pages.specs.steps.Slots.{paired, recordsOf}
@@ -22,7 +23,6 @@ use Rattle.pages.proofs.Read.{held-twelve}
 use Rattle.entries.specs.steps.Entries.{size}
 use Rattle.sites.specs.Held.{same}
 use Rattle.two_sets.specs.Differences.{onlyFirst, onlySecond, unlike, isUnlike}
-use Rattle.two_sets.proofs.Counting.{count-append}
 use Rattle.differences.specs.declared.Tally.{Tally}
 use Rattle.differences.specs.steps.Passes.{D, ofOne, ofAll, kindIn, entryOf, entriesOf, fitted, isOnly, Passes}
 use Rattle.differences.proofs.Marking.{one-marked}

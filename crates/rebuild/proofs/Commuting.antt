@@ -51,7 +51,7 @@ module _ (h : ℕ → ℕ) where
   pages-right a [] = tt
   pages-right a (p ∷ ps) = all-append (Right h) (tagged h a p) (taggedFrom h (suc a) ps) (tagged-right a p) (pages-right (suc a) ps)
 
-  tagged-records : (a : ℕ) (p : List Record) → map recordIn (tagged h a p) ≡ p
+  pub tagged-records : (a : ℕ) (p : List Record) → map recordIn (tagged h a p) ≡ p
   tagged-records a [] = refl
   tagged-records a (x ∷ p) = ap (λ (s : List Record). x ∷ s) (tagged-records a p)
 

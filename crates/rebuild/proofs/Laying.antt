@@ -33,7 +33,7 @@ use Rattle.entries.proofs.Reading.{Whole, left-length, left-behind}
 use Rattle.rebuild.proofs.Take.{fitting-few, fitting-length}
 
 -- in a rank the home counts most
-home-first : (x y : Entry) → rank x ≤ rank y → home x ≤ home y
+pub home-first : (x y : Entry) → rank x ≤ rank y → home x ≤ home y
 home-first x y h = omega arith
 
 -- homes rise, so a page takes all that may lie on it, as far as it has slots
@@ -114,12 +114,12 @@ hops-taken : (a : ℕ) (es : List Entry) → hops a (take (fitting slots a es) e
 hops-taken a es = omega (arith, count-le (λ e. not (eqb (e .from) a)) (take (fitting slots a es) es), length-take (fitting slots a es) es, fitting-few slots a es)
 
 -- the area with page a written: what stands before its end, and the entries from beyond its end on
-with-front : (area : List ℕ) (a : ℕ) (p : List Record) → 256 * (a + 1) ≤ length area → take (256 * (a + 1)) (withPage inUse area a p) ≡ take (256 * a) area ++ pageBytes inUse a p
+pub with-front : (area : List ℕ) (a : ℕ) (p : List Record) → 256 * (a + 1) ≤ length area → take (256 * (a + 1)) (withPage inUse area a p) ≡ take (256 * a) area ++ pageBytes inUse a p
 with-front area a p h =
     let n : 256 * (a + 1) ≡ 256 * a + length (pageBytes inUse a p) = omega (arith, page-length inUse a p) in
     rw n (written-front area (256 * a) (pageBytes inUse a p) (omega arith))
 
-with-beyond : (area : List ℕ) (a : ℕ) (p : List Record) (k : ℕ) → 256 * (a + 1) ≤ length area → 256 * (a + 1) ≤ k → drop k (withPage inUse area a p) ≡ drop k area
+pub with-beyond : (area : List ℕ) (a : ℕ) (p : List Record) (k : ℕ) → 256 * (a + 1) ≤ length area → 256 * (a + 1) ≤ k → drop k (withPage inUse area a p) ≡ drop k area
 with-beyond area a p k h m = written-beyond area (256 * a) (pageBytes inUse a p) k (omega arith) (omega (arith, page-length inUse a p))
 
 module _ {first : List ℕ} {cap base : ℕ} {area : List ℕ} {moved at a : ℕ} (h : Unpacking first cap base area moved at a) where

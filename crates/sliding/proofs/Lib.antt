@@ -1,3 +1,9 @@
 pub mod Places
 pub mod Passing
 pub mod Pulling
+pub mod Coherent
+pub mod Counted
+pub mod Onward
+pub mod Closing
+pub mod Sinking
+pub mod Untouched

@@ -19,6 +19,7 @@ use Rattle.entries.proofs.Reading.{left-first, left-none}
 use Rattle.rebuild.specs.steps.Rebuild.{tagged}
 use Rattle.rebuild.proofs.Tags.{tagged-length}
 use Rattle.sliding.specs.steps.Reading.{held, onward, rest, left, isNext, behind, Whole}
+use Rattle.sliding.specs.steps.Closing.{isFrom}
 
 -- the entry of a record of a page
 abbrev pub entryOn : (ℕ → ℕ) → ℕ → Record → Entry
@@ -67,3 +68,11 @@ next-none row at k l = rw (left-none row at l)
 pub next-key : (row : List ℕ) (at k : ℕ) → at + size ≤ length row → isNext (left row at) k ≡ eqb k (numberAt 8 row (at + 4))
 unfolding entryAt
 next-key row at k l = rw (left-first row at l)
+
+-- and the page that it comes from stands two bytes on
+pub from-none : (row : List ℕ) (at a : ℕ) → length row ≤ at → false ≡ isFrom (left row at) a
+from-none row at a l = rw (left-none row at l)
+
+pub from-there : (row : List ℕ) (at a : ℕ) → at + size ≤ length row → isFrom (left row at) a ≡ eqb (numberAt 2 row (at + 2)) a
+unfolding entryAt
+from-there row at a l = rw (left-first row at l)

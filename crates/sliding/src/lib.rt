@@ -1,14 +1,18 @@
 // A growth that moves only the records that have to move. Those that leave for the new page were
 // found before; the others keep their order and sink to where they leave room, and those that left
 // stand behind them.
+use homes::Shape;
 use layouts::IN_USE;
 use layouts::SLOTS;
 use layouts::WIDTH;
 use pages::Page;
 ghost use mathlib.Core.Path.{_≡_};
-ghost use Prim.Native.Nat.{ℕ, _*_, _≤_};
-ghost use lib.ListN.{length};
+ghost use Prim.Native.Nat.{ℕ, _-_, _*_, _≤_, _<_, min};
+ghost use lib.ListN.{length, getD};
+ghost use Rattle.homes.specs.Homes.{homeIn};
+ghost use Rattle.rebuild.specs.steps.Rebuild.{slots, hopsFrom};
 ghost use Rattle.sliding.specs.steps.Reading.{left, isNext, Whole, Stands, Stays, Passes, Pulls};
+ghost use Rattle.sliding.specs.steps.Closing.{isFrom, calmAt, past, ownAt, closed, bytesOf, Leaving};
 
 // Where reading stands: the next record of the area, and the next of those that leave, as an offset
 // into their row.
@@ -99,4 +103,90 @@ fn pull(area: &[u8], cap: usize, row: &[u8], from: Place, want: usize, a: usize)
         runs,
     };
     Pulled { page, place, moved }
+}
+
+// Whether the next one that leaves comes from page a.
+fn comes_from(row: &[u8], at: usize, a: usize) -> bool
+    requires { ⌜ Whole at (now row) ⌝ }
+    ensures { λ r. ⌜ r ≡ isFrom (left (now (row .entry)) at) a ⌝ }
+{
+    if row.len() <= at {
+        return false;
+    }
+    numbers::get_u16(row, at + 2) as usize == a
+}
+
+// Whether page a may stay as it is, which has some records and is to have so many.
+fn calm(row: &[u8], place: Place, a: usize, count: usize, want: usize) -> bool
+    requires { ⌜ Whole (place .next) (now row) ⌝ }
+    ensures { λ r. ⌜ r ≡ calmAt (now (row .entry)) place a count want ⌝ }
+{
+    let here = comes_from(row, place.next, a);
+    let own = (place.page == a) & ((place.slot == 0) & !here);
+    (count == want) & ((count == 0) | own)
+}
+
+// A place with page a behind it, where reading has not passed that page yet.
+fn past(place: Place, a: usize) -> Place
+    requires { ⌜ a < 4096 ⌝ }
+    ensures { λ r. ⌜ r ≡ past place a ⌝ }
+{
+    if place.page == a {
+        return Place {
+            page: a + 1,
+            slot: 0,
+            next: place.next,
+        };
+    }
+    place
+}
+
+// How many records of home a stay: none of the new page, or of one above it.
+fn own(counts: &[u32], added: usize, a: usize) -> usize
+    requires { ⌜ added ≤ length (now counts) ⌝ }
+    ensures { λ r. ⌜ r ≡ ownAt (now (counts .entry)) added a ⌝ }
+{
+    if a < added { counts[a] as usize } else { 0 }
+}
+
+fn at_most(waiting: usize) -> usize
+    ensures { λ r. ⌜ r ≡ min slots waiting ⌝ }
+{
+    if waiting < SLOTS { waiting } else { SLOTS }
+}
+
+// The records that stay, sunk to where those that leave make room, from page 0 upward; the answer is
+// how many change their page. How many come to lie on a page the counts alone say, and a page that
+// neither loses nor gets a record is not written.
+fn close_up(area: &mut [u8], cap: usize, shape: Shape, counts: &[u32], row: &[u8]) -> u32
+    requires { ⌜ (cap ≤ 4096) × (length (now area) ≡ 256 * cap) × (shape .p ≤ cap) × (1 ≤ shape .p) × (length (now counts) ≡ cap) × ((k : ℕ) → getD (now counts) k 0 ≤ 49152) ⌝ }
+    requires { ⌜ Leaving (homeIn shape) (shape .p - 1) cap (now area) (now counts) (now row) ⌝ }
+    ensures { λ r. let ps = closed (homeIn shape) (shape .p - 1) cap (now (area .entry)) in ⌜ (r ≡ hopsFrom 0 ps) × (now (area .exit) ≡ bytesOf ps) ⌝ }
+{
+    let added = (shape.p - 1) as usize;
+    let mut place = Place {
+        page: 0,
+        slot: 0,
+        next: 0,
+    };
+    let mut over = 0;
+    let mut moved = 0;
+    let mut a = 0;
+    while a < cap {
+        let waiting = over + own(counts, added, a);
+        let want = at_most(waiting);
+        let count = pages::count_at(&area[..], a, IN_USE);
+        if calm(row, place, a, count, want) {
+            place = past(place, a);
+        } else {
+            let t = pull(&area[..], cap, row, place, want, a);
+            let page = t.page;
+            pages::store_at(area, a, IN_USE, page);
+            place = t.place;
+            moved += t.moved;
+        }
+        over = waiting - want;
+        a += 1;
+    }
+    moved
 }

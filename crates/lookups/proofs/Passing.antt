@@ -16,7 +16,7 @@ use Rattle.placing.specs.Walks.{seek, lastAfter, endsOn, find}
 use Rattle.placing.proofs.Lists.{all-right, all-page}
 use Rattle.placing.proofs.Order.{sorted-left, sorted-right}
 use Rattle.placing.proofs.Seek.{seek-ne, seek-low}
-use Rattle.placing.proofs.Packed.{Packed}
+use Rattle.placing.specs.steps.Packed.{Packed}
 use Rattle.placing.proofs.Find.{Sought}
 use Rattle.placing.proofs.Rank.{Small, sought, rising-sorted}
 use Rattle.placing.proofs.Tidy.{arranged-packed}

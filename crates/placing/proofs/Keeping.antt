@@ -2,11 +2,11 @@
 use mathlib.Core.Path.{_≡_, refl, sym, ap, _∙_}
 use mathlib.Core.Bool.{Bool, true, false, cond, not}
 use mathlib.Core.List.{List, [], _∷_, _++_, List·Permᴰ, List·Permᴰ·nil, List·Permᴰ·cons, List·Permᴰ·swap, List·Permᴰ·trans, Permᴰ·refl, Permᴰ·symm, Permᴰ·middle}
-use Prim.Native.Nat.{ℕ, suc, _≤_, _<_}
+use Prim.Native.Nat.{ℕ, suc, _+_, _≤_, _<_}
 use native.Mathlib.Omega.{arith}
 use lib.ListN.{length}
 use Rattle.placing.specs.Image.{All, Distinct}
-use Rattle.placing.specs.Lay.{sort, Sorted}
+use Rattle.placing.specs.Lay.{one, count, sort, Sorted}
 use Rattle.placing.proofs.Perms.{sorted-unique, sort-perm, sort-sorted}
 use Rattle.placing.specs.steps.Keep.{keep}
 
@@ -51,6 +51,18 @@ module _ {R : Type 0} (on : R → Bool) where
       go : (u : Bool) → length (keep on s) ≤ length s → length (cond u (x ∷ keep on s) (keep on s)) ≤ suc (length s)
       go true k = omega arith
       go false k = omega arith
+
+  -- as many are kept as pass
+  pub keep-count : (s : List R) → length (keep on s) ≡ count on s
+  keep-count [] = refl
+  keep-count (x ∷ s) = go (on x) (keep-count s)
+    where
+      go : (u : Bool) → length (keep on s) ≡ count on s → length (cond u (x ∷ keep on s) (keep on s)) ≡ one u + count on s
+      go true k = omega arith
+      go false k = omega arith
+
+  pub count-none : (s : List R) → All (λ x. on x ≡ false) s → count on s ≡ 0
+  count-none s h = sym (keep-count s) ∙ ap length (keep-none s h)
 
   pub keep-sorted : (rank : R → ℕ) (s : List R) → Sorted rank s → Sorted rank (keep on s)
   keep-sorted rank [] h = tt

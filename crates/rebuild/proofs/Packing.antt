@@ -72,7 +72,7 @@ page-done l m h a b i ks vs us z e =
     sym (written-nil l b) ∙ ap (λ (n : ℕ). written l b (rows h a n ks vs us)) (sym y) ∙ e
 
 -- n pages from address a on, of which page i holds `part i`
-abbrev pub partsFrom : (ℕ → List Record) → (n a : ℕ) → List (List Record)
+abbrev pub partsFrom : {R : Type 0} → (ℕ → List R) → (n a : ℕ) → List (List R)
 partsFrom part zero a = []
 partsFrom part (suc n) a = part a ∷ partsFrom part n (suc a)
 

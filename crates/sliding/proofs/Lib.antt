@@ -7,3 +7,4 @@ pub mod Onward
 pub mod Closing
 pub mod Sinking
 pub mod Untouched
+pub mod Topping

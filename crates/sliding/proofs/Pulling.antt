@@ -77,7 +77,7 @@ stayed-few (suc k) es (x ∷ xs) = go (isNext es (x .held .key)) (stayed-few (su
     go true m n = m
     go false m n = omega arith
 
-one-few : (t : Bool) → one t ≤ 1
+pub one-few : (t : Bool) → one t ≤ 1
 one-few true = omega arith
 one-few false = omega arith
 

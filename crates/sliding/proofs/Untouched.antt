@@ -39,7 +39,7 @@ hops-own : (h : ℕ → ℕ) (a : ℕ) (p : List Record) → hops a (tagged h a 
 hops-own h a [] = refl
 hops-own h a (x ∷ p) = rw (eq-eqb a a refl) (omega (arith, hops-own h a p))
 
-held-at : (area : List ℕ) (n b i : ℕ) → i < n → getD (heldFrom inUse area n b) i [] ≡ held area (b + i)
+pub held-at : (area : List ℕ) (n b i : ℕ) → i < n → getD (heldFrom inUse area n b) i [] ≡ held area (b + i)
 held-at area zero b i l = absurd (omega arith)
 held-at area (suc n) b zero l = rw add-zero
 held-at area (suc n) b (suc i) l = let q : b + suc i ≡ suc b + i = omega arith in rw q (held-at area n (suc b) i (omega arith))

@@ -9,9 +9,13 @@ use pages::Page;
 ghost use mathlib.Core.Path.{_≡_};
 ghost use Prim.Native.Nat.{ℕ, _-_, _*_, _≤_, _<_, min};
 ghost use lib.ListN.{length, getD};
+ghost use Rattle.layouts.specs.Layout.{inUse};
 ghost use Rattle.homes.specs.Homes.{homeIn};
+ghost use Rattle.pages.specs.Area.{heldFrom, areaFrom};
+ghost use Rattle.entries.specs.steps.Entries.{entriesIn};
 ghost use Rattle.rebuild.specs.steps.Rebuild.{slots, hopsFrom};
 ghost use Rattle.sliding.specs.steps.Reading.{left, isNext, Whole, Stands, Stays, Passes, Pulls};
+ghost use Rattle.sliding.specs.steps.Topping.{topped, toppedHops};
 ghost use Rattle.sliding.specs.steps.Closing.{isFrom, calmAt, past, ownAt, closed, bytesOf, Leaving};
 
 // Where reading stands: the next record of the area, and the next of those that leave, as an offset
@@ -187,6 +191,30 @@ fn close_up(area: &mut [u8], cap: usize, shape: Shape, counts: &[u32], row: &[u8
         }
         over = waiting - want;
         a += 1;
+    }
+    moved
+}
+
+// Those that left, in their order, behind what stands on the pages from the new one on; the answer is
+// how many come to lie on another page than the one that they come from.
+fn top_up(area: &mut [u8], cap: usize, added: usize, row: &[u8]) -> u32
+    requires { ⌜ (cap ≤ 4096) × (length (now area) ≡ 256 * cap) × (added ≤ cap) × Whole 0 (now row) × (length (now row) ≤ 65536) ⌝ }
+    requires { ⌜ now area ≡ areaFrom inUse 0 (heldFrom inUse (now area) cap 0) ⌝ }
+    ensures { λ r. let ps = heldFrom inUse (now (area .entry)) cap 0 in let m = entriesIn (now (row .entry)) in ⌜ (r ≡ toppedHops added 0 ps m) × (now (area .exit) ≡ areaFrom inUse 0 (topped added ps m)) ⌝ }
+{
+    let mut at = 0;
+    let mut moved = 0;
+    let mut a = added;
+    while (a < cap) & (at < row.len()) {
+        let count = pages::count_at(&area[..], a, IN_USE);
+        if count < SLOTS {
+            let e = entries::get_entry(row, at);
+            slots::insert_at(area, a, IN_USE, count, e.held);
+            moved += rebuild::strange(e.from, a);
+            at += WIDTH;
+        } else {
+            a += 1;
+        }
     }
     moved
 }

@@ -128,12 +128,17 @@ topped-start cap added row area l b k w f = record {
       where
         go : Dec (i < cap) → Q (getD (heldFrom inUse area cap 0) i [])
         go (yes m) = rw (held-at area cap 0 i m, zero-add i) (q i m)
-        go (no m) = rw (List·getD-eq-default (heldFrom inUse area cap 0) [] (omega (arith, held-length inUse area cap 0))) z
+        go (no m) =
+            let k : length (heldFrom inUse area cap 0) ≤ i = omega (arith, held-length inUse area cap 0) in
+            rw (List·getD-eq-default (heldFrom inUse area cap 0) [] k) z
 
 module _ {ps₀ : List (List Record)} {cap added : ℕ} {row area : List ℕ} {at moved a : ℕ} (g : Topped ps₀ cap added row area at moved a) where
   -- the page in hand
   abbrev p : List Record
   p = getD (g .ps) a []
+
+  pub long : length area ≡ 256 * cap
+  long = ap length (g .is) ∙ area-length inUse 0 (g .ps) ∙ rw (g .many)
 
   module _ (t : (ltb a cap && ltb at (length row)) ≡ true) (c : cap ≤ 4096) where
     pub page-more : a < cap
@@ -141,9 +146,6 @@ module _ {ps₀ : List (List Record)} {cap added : ℕ} {row area : List ℕ} {a
 
     pub entry-more : at + size ≤ length row
     entry-more = omega (arith, g .whole, ltb-true at (length row) (and-right (ltb a cap) (ltb at (length row)) t))
-
-    long : length area ≡ 256 * cap
-    long = ap length (g .is) ∙ area-length inUse 0 (g .ps) ∙ rw (g .many)
 
     part-is : partAt area a ≡ pageBytes inUse a p
     part-is = ap (λ (l : List ℕ). partAt l a) (g .is) ∙ part-area inUse a (g .ps) (omega (arith, g .many, page-more))
@@ -198,7 +200,7 @@ module _ {ps₀ : List (List Record)} {cap added : ℕ} {row area : List ℕ} {a
             where
               go : (u : Bool) → eqb a i ≡ u → Q (getD (set (g .ps) a q) i [])
               go true r = rw (← eqb-true a i r, getD-set-same (g .ps) a q [] (omega (arith, g .many, page-more))) x
-              go false r = rw (getD-set-other (g .ps) a i q [] (eqb-false a i r)) y
+              go false r = rw (getD-set-other (g .ps) a i q [] (λ e. eqb-false a i r (sym e))) y
 
       -- the next page
       pub topped-next : slots ≤ count → Topped ps₀ cap added row area at moved (a + 1)

@@ -8,3 +8,6 @@ pub mod Closing
 pub mod Sinking
 pub mod Untouched
 pub mod Topping
+pub mod Behind
+pub mod Leavers
+pub mod Finishing

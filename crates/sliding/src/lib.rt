@@ -7,16 +7,22 @@ use layouts::SLOTS;
 use layouts::WIDTH;
 use pages::Page;
 ghost use mathlib.Core.Path.{_≡_};
+ghost use mathlib.Core.List.{[]};
 ghost use Prim.Native.Nat.{ℕ, _-_, _*_, _≤_, _<_, min};
 ghost use lib.ListN.{length, getD};
 ghost use Rattle.layouts.specs.Layout.{inUse};
-ghost use Rattle.homes.specs.Homes.{homeIn};
+ghost use Rattle.homes.specs.Homes.{Ready, firstPages, shapeOf, homeIn};
+ghost use Rattle.placing.specs.Image.{cat};
+ghost use Rattle.placing.specs.Rows.{counts, strayed};
+ghost use Rattle.pages.specs.Page.{key, homeFor};
 ghost use Rattle.pages.specs.Area.{heldFrom, areaFrom};
-ghost use Rattle.entries.specs.steps.Entries.{entriesIn};
+ghost use Rattle.entries.specs.steps.Entries.{entriesIn, rowBytes};
+ghost use Rattle.rebuild.specs.Relaid.{relaid};
+ghost use Rattle.leaving.specs.steps.Leaving.{leavers};
 ghost use Rattle.rebuild.specs.steps.Rebuild.{slots, hopsFrom};
 ghost use Rattle.sliding.specs.steps.Reading.{left, isNext, Whole, Stands, Stays, Passes, Pulls};
 ghost use Rattle.sliding.specs.steps.Topping.{topped, toppedHops};
-ghost use Rattle.sliding.specs.steps.Closing.{isFrom, calmAt, past, ownAt, closed, bytesOf, Leaving};
+ghost use Rattle.sliding.specs.steps.Closing.{isFrom, calmAt, past, ownAt, closed, bytesOf, Leaving, WasImage};
 
 // Where reading stands: the next record of the area, and the next of those that leave, as an offset
 // into their row.
@@ -217,4 +223,20 @@ fn top_up(area: &mut [u8], cap: usize, added: usize, row: &[u8]) -> u32
         }
     }
     moved
+}
+
+// The records of a file that was an image before its last page was added, laid anew; the answer is how
+// many come to lie on another page. The row has those whose home is that page, in the order in which they
+// stand, and `homes` says how many have each home.
+pub fn slide(area: &mut [u8], cap: usize, shape: Shape, homes: &[u32], row: &mut [u8]) -> u32
+    requires { ⌜ (cap ≤ 4096) × (length (now area) ≡ 256 * cap) × Ready shape × (firstPages (shape .params) < shape .p) × (shape .p ≤ cap) × (length (now row) ≤ 65536) ⌝ }
+    requires { ⌜ WasImage (homeIn (shapeOf (shape .params) (shape .p - 1))) cap (now area) ⌝ }
+    requires { ⌜ (now homes ≡ counts (homeFor (homeIn shape)) (cat (heldFrom inUse (now area) cap 0) []) cap 0) × (now row ≡ rowBytes (leavers (homeIn shape) (shape .p - 1) cap (now area))) ⌝ }
+    ensures { λ r. let ps = heldFrom inUse (now (area .entry)) cap 0 in let qs = relaid slots (homeIn shape) cap ps in ⌜ (r ≡ strayed key ps qs) × (now (area .exit) ≡ areaFrom inUse 0 qs) ⌝ }
+{
+    let added = shape.p - 1;
+    let sunk = close_up(area, cap, shape, homes, &row[..]);
+    entries::sort_row(row, added as u16, true);
+    let gone = top_up(area, cap, added as usize, &row[..]);
+    sunk + gone
 }

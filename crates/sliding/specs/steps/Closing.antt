@@ -6,11 +6,12 @@ use mathlib.Core.List.{List, [], _∷_, map}
 use lib.ListN.{getD}
 use lib.Dec.{ltb, eqb}
 use Rattle.layouts.specs.Layout.{inUse}
-use Rattle.placing.specs.Image.{All, Distinct}
-use Rattle.placing.specs.Lay.{lay, Sorted}
+use Rattle.placing.specs.Image.{All, cat, Distinct, RecordSet}
+use Rattle.placing.specs.Lay.{rankIn, lay, Sorted}
 use Rattle.placing.specs.Rows.{atHome}
 use Rattle.placing.specs.steps.Keep.{keep}
-use Rattle.pages.specs.Page.{Record}
+use Rattle.placing.specs.steps.Packed.{Packed}
+use Rattle.pages.specs.Page.{key, homeFor}
 use Rattle.pages.specs.Area.{heldFrom, areaFrom}
 use Rattle.entries.specs.declared.Entry.{Entry}
 use Rattle.entries.specs.steps.Entries.{entriesIn, rank, home}
@@ -67,3 +68,10 @@ pub record Leaving (h : ℕ → ℕ) (P cap : ℕ) (area counts row : List ℕ) 
   pub leave : entriesIn row ≡ leaving h P cap area
   pub whole : Whole 0 row
   pub homes : (c : ℕ) → c < P → getD counts c 0 ≡ atHome home c (staying h P cap area)
+
+-- an area that is the image of its records for the homes `was`, and the bytes of them
+pub record WasImage (was : ℕ → ℕ) (cap : ℕ) (area : List ℕ) : Type 0 where
+  pub packed : Packed (homeFor was) slots 0 (heldFrom inUse area cap 0) []
+  pub sorted : Sorted (rankIn key was) (cat (heldFrom inUse area cap 0) [])
+  pub set : RecordSet key (cat (heldFrom inUse area cap 0) [])
+  pub formed : area ≡ areaFrom inUse 0 (heldFrom inUse area cap 0)

@@ -3,6 +3,7 @@ pub mod Clearing
 pub mod Answers
 pub mod Settling
 pub mod MadeAnew
+pub mod Parting
 pub mod CheckImage
 pub mod Rooms
 pub mod Promises

@@ -20,7 +20,7 @@ use Rattle.homes.proofs.Homes.{home-below}
 use Rattle.homes.proofs.Keeping.{agrees}
 use Rattle.placing.specs.Image.{All, cat, RecordSet, Room}
 use Rattle.placing.specs.Lay.{taken}
-use Rattle.placing.specs.Rows.{leftOver, strayed}
+use Rattle.placing.specs.Rows.{counts, leftOver, strayed}
 use Rattle.placing.proofs.Images.{room-taken}
 use Rattle.placing.proofs.Rows.{counts-length, row-room}
 use Rattle.pages.specs.Page.{Record, key, homeFor}
@@ -33,6 +33,7 @@ use Rattle.survey.specs.steps.Counts.{Counts, Countable}
 use Rattle.survey.proofs.ImageTest.{good-pages}
 use Rattle.survey.proofs.Knowing.{image-known}
 use Rattle.state.specs.declared.State.{State}
+use Rattle.state.specs.declared.Done.{Done}
 use Rattle.state.specs.declared.Answer.the-variants.{Accepted}
 use Rattle.state.specs.State.{inRange, homes, grown, shrunk}
 use Rattle.state.proofs.Ranges.{ranged, in-shape, grown-range, shrunk-range}
@@ -106,9 +107,9 @@ module _ (s : State) (range : inRange inUse s ≡ true) {new : NewHomes} (m : Re
       let k : GoodFile inUse s area = open-good inUse s area e in
       image-known inUse (homes s) area new same-page (s .cap) (good-pages inUse (homes s) area b (s .cap) 0 (omega arith) (k .whole)) (k .image)
 
--- the homes that were counted are those at one page more
-pub counted : (s next : State) → next ≡ grown s → (new : NewHomes) → new .shape ≡ shapeOf (next .params) (next .p) → (area row : List ℕ) (g : Gate) → CountedIf g s new area row → g ≡ Open → row ≡ grownCounts inUse s area
-counted s next m new of area row g k e = rw m at (rw of at (rw e at k))
+-- past an open gate the homes are counted
+pub counted-open : (s : State) (area row : List ℕ) (g : Gate) → CountedIf g s area row → g ≡ Open → row ≡ counts (homeFor (homes s)) (cat (heldFrom inUse area (s .cap) 0) []) (s .cap) 0
+counted-open s area row g k e = rw e at k
 
 -- the row of a file that may grow
 module _ (form : Layout) (s : State) (range : inRange form s ≡ true) (low : s .p < s .cap) where
@@ -150,6 +151,6 @@ module _ (form : Layout) (s next : State) (area : List ℕ) (new : NewHomes) (of
   -- and makes the file anew
   pub remake-done : (moved : ℕ) → moved ≡ strayed key (heldFrom form area (s .cap) 0) (relaid (slotsOf form) (newHome new) (s .cap) (heldFrom form area (s .cap) 0))
       → (made : List ℕ) → made ≡ areaFrom form 0 (relaid (slotsOf form) (newHome new) (s .cap) (heldFrom form area (s .cap) 0))
-      → Comes (done next (Accepted 0 (s .cap) moved)) made (remade form s next area)
+      → (d : Done) → d ≡ done next (Accepted 0 (s .cap) moved) → Comes d made (remade form s next area)
   unfolding remade
-  remake-done moved k made n = (rw (k, same-homes), n ∙ rw same-homes)
+  remake-done moved k made n d e = (e ∙ rw (k, same-homes), n ∙ rw same-homes)

@@ -10,8 +10,10 @@ ghost use Prim.Native.Nat.{_<_};
 ghost use Rattle.layouts.specs.Layout.{inUse};
 ghost use Rattle.homes.specs.Homes.{firstPages, shapeOf};
 ghost use Rattle.homes.specs.steps.NewHomes.{Usable};
+ghost use Rattle.state.specs.declared.Answer.the-variants.{Accepted};
 ghost use Rattle.state.specs.State.{inRange};
 ghost use Rattle.gates.specs.steps.Past.{OpenImage};
+ghost use Rattle.changes.specs.Changes.{done};
 ghost use Rattle.register.specs.steps.Past.{besides, Rehomes};
 ghost use Rattle.register.specs.Calls.{hasRoom, remade};
 
@@ -44,9 +46,16 @@ pub(crate) fn remake(state: State, next: State, new: NewHomes, area: &mut [u8]) 
 {
     let cap = state.cap as usize;
     let moved = rebuild::rebuild(area, cap, new);
+    made(next, cap as u32, moved)
+}
+
+// What is told of a file that was made anew for the state `next`, after so many pages were read.
+pub(crate) fn made(next: State, read: u32, moved: u32) -> Done
+    ensures { λ r. ⌜ r ≡ done next (Accepted 0 read moved) ⌝ }
+{
     let answer = Answer::Accepted {
         value: 0,
-        read: cap as u32,
+        read,
         moved,
     };
     Done {

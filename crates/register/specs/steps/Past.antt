@@ -3,6 +3,7 @@ use Prim.Native.Nat.{ℕ, _-_, _*_, _≤_}
 use mathlib.Core.Path.{_≡_}
 use mathlib.Core.Bool.{true}
 use mathlib.Core.List.{List, []}
+use lib.ListN.{length, take}
 use Rattle.layouts.specs.Layout.{inUse}
 use Rattle.homes.specs.declared.new_homes.NewHomes.{NewHomes}
 use Rattle.homes.specs.declared.new_homes.Stays.the-variants.{Beside}
@@ -13,8 +14,11 @@ use Rattle.placing.specs.Image.{cat}
 use Rattle.placing.specs.Rows.{counts}
 use Rattle.pages.specs.Page.{homeFor}
 use Rattle.pages.specs.Area.{heldFrom}
+use Rattle.entries.specs.declared.Entry.{Entry}
+use Rattle.entries.specs.steps.Entries.{size, rowBytes}
+use Rattle.leaving.specs.steps.Leaving.{leavers}
 use Rattle.state.specs.declared.State.{State}
-use Rattle.state.specs.State.{inRange, homes}
+use Rattle.state.specs.State.{inRange, homes, grown}
 use Rattle.gates.specs.declared.Gate.{Gate}
 use Rattle.gates.specs.declared.Gate.the-variants.{Open, Shut}
 use Rattle.gates.specs.Gates.{onGate, imageGate}
@@ -48,3 +52,13 @@ grewEntered s area row = onGate (imageGate inUse s area) (λ why. withRow (refus
 -- what a shrinking comes to that enters
 abbrev pub shrankEntered : State → List ℕ → Outcome
 shrankEntered s area = onGate (imageGate inUse s area) (refused s area) (shrinkOpen inUse s area)
+
+-- the records that a growth takes to its new page
+abbrev pub goers : State → List ℕ → List Entry
+goers s area = leavers (homes (grown s)) (s .p) (s .cap) area
+
+-- they take so many bytes, and stand in a room that has as many
+pub record Parted (s : State) (area room : List ℕ) (end : ℕ) : Type 0 where
+  pub many : end ≡ size * length (goers s area)
+  pub bytes : end ≤ length room → take end room ≡ rowBytes (goers s area)
+  pub short : length room ≤ 65536

@@ -19,8 +19,8 @@ slice-aggregate-grow-counting c =
 
 grow-counting-requires : tie.Need-grow-counting-requires
 grow-counting-requires c κs =
-    let b = c .before .before .before .before .before .before in
-    (b .pre, cut 4096 (b .args .state .cap) (ranged inUse (b .args .state) (b .pre .0) .cap-high))
+    let b = c .before .before .before .before .before .before .before in
+    (b .pre, cut 4096 (b .args .state .cap) (ranged inUse (b .args .state) (b .pre .0) .cap-high), search needs)
 
 pub grow-entered-spec : {M : Type 1} → statement M
 grow-entered-spec =
@@ -29,6 +29,7 @@ grow-entered-spec =
     (λ c. search needs)
     array-borrow-prefix-counts
     slice-aggregate-grow-counting
+    (λ c. search needs)
     grow-counting-requires
     (λ c. search needs)
     (λ c. search needs)

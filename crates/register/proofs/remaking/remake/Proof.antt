@@ -27,9 +27,9 @@ rebuild-requires c κs =
 
 returns : tie.Need-returns
 returns c =
-    let v = c .before .before in
+    let v = c .before .before .before in
     let b = v .before .before .before .before in
-    remake-done inUse (b .args .state) (b .args .next) (now (b .args .area)) (b .args .new) (b .pre .2) _ (v .rebuild .ensures .0) _ (v .rebuild .ensures .1)
+    remake-done inUse (b .args .state) (b .args .next) (now (b .args .area)) (b .args .new) (b .pre .2) _ (v .rebuild .ensures .0) _ (v .rebuild .ensures .1) _ (c .made .ensures)
 
 pub remake-spec : {M : Type 1} → statement M
-remake-spec = tie.close (tie.spec (λ c. search needs) rebuild-requires (λ c. search needs) (λ c. search needs) returns)
+remake-spec = tie.close (tie.spec (λ c. search needs) rebuild-requires (λ c. search needs) (λ c κs. search needs) (λ c. search needs) returns)

@@ -46,6 +46,7 @@ pub fn put_open(state: State, area: &mut [u8], home: u64, new: Record) -> Done
             at,
             last,
             read,
+            rises,
         } => {
             if state.r == SLOTS as u32 * (state.cap as u32) {
                 return Done {
@@ -53,7 +54,7 @@ pub fn put_open(state: State, area: &mut [u8], home: u64, new: Record) -> Done
                     answer: Answer::NotImage { read },
                 };
             }
-            walks::put::pour(area, shape, first, at, last, new);
+            walks::put::pour(area, shape, first, at, last, rises, new);
             let next = state.one_more();
             wrote(next, first, last, read)
         }
@@ -74,6 +75,7 @@ pub fn remove_open(state: State, area: &mut [u8], key: u64) -> Done
             at,
             last,
             read,
+            rises,
         } => {
             if state.r == 0 {
                 return Done {
@@ -81,7 +83,7 @@ pub fn remove_open(state: State, area: &mut [u8], key: u64) -> Done
                     answer: Answer::NotImage { read },
                 };
             }
-            walks::remove::draw_back(area, shape, first, at, last);
+            walks::remove::draw_back(area, shape, first, at, last, rises);
             let next = state.one_less();
             wrote(next, first, last, read)
         }

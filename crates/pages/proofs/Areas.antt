@@ -9,10 +9,11 @@ use native.Mathlib.Omega.{arith}
 use lib.ListN.{length, take, drop, getD, set, length-append, length-take, length-drop, take-append-drop, drop-of-length-le}
 use lib.Seq.{take-at, drop-at, take-append-le, drop-append-le, take-append-add, drop-append-add, length-take-le, drop-drop}
 use Rattle.numbers.specs.Little.{Bytes, written}
-use Rattle.numbers.proofs.Laws.{bytes-take, bytes-drop, written-length, written-after}
+use Rattle.numbers.proofs.Laws.{written-length, written-after}
 use Rattle.layouts.specs.Layout.{Layout}
 use Rattle.pages.specs.Page.{Record, pageBytes, readPage}
 use Rattle.pages.specs.Area.{partAt, pagesFrom, heldFrom, areaFrom, withPage}
+use Rattle.pages.proofs.Bounds.{part-bytes}
 use Rattle.pages.proofs.Write.{page-length}
 use Rattle.pages.proofs.RoundTrip.{read-bytes}
 
@@ -109,8 +110,7 @@ module _ (f : Layout) where
   pages-from h area b (suc k) a (p ∷ ps) n e =
       let here : readPage f h a (partAt area a) ≡ some p = cc in
       let rest : pagesFrom f h area k (suc a) ≡ map some ps = cc in
-      let bs : Bytes (partAt area a) = bytes-take 256 (drop (256 * a) area) (bytes-drop (256 * a) area b) in
-      let q : partAt area a ≡ pageBytes f a p = read-bytes f h a (partAt area a) p here (part-length area a (omega arith)) bs in
+      let q : partAt area a ≡ pageBytes f a p = read-bytes f h a (partAt area a) p here (part-length area a (omega arith)) (part-bytes area a b) in
       split q (pages-from h area b k (suc a) ps (omega arith) rest)
     where
       split : partAt area a ≡ pageBytes f a p → drop (256 * suc a) area ≡ areaFrom f (suc a) ps → drop (256 * a) area ≡ pageBytes f a p ++ areaFrom f (suc a) ps

@@ -18,6 +18,11 @@ run-fits : (f : Layout) (l : List ℕ) (at : ℕ) → at + widthOf f ≤ length 
 run-fits zero l at h b = omega arith
 run-fits (suc f) l at h b = number-bound 4 l (at + 20) (omega arith) b
 
+-- a page's part of bytes is bytes
+pub part-bytes : (area : List ℕ) (a : ℕ) → Bytes area → Bytes (partAt area a)
+unfolding partAt
+part-bytes area a b = bytes-take 256 (drop (256 * a) area) (bytes-drop (256 * a) area b)
+
 module _ (f : Layout) where
   small-from : (l : List ℕ) → length l ≡ 256 → Bytes l → (n i : ℕ) → n + i ≤ slotsOf f → All (Small f) (recordsFrom f n i l)
   small-from l e b zero i h = tt
@@ -35,7 +40,7 @@ module _ (f : Layout) where
   pub part-small : (area : List ℕ) (a : ℕ) → 256 * (a + 1) ≤ length area → Bytes area → All (Small f) (recordsIn f (partAt area a))
   unfolding partAt
   part-small area a h b =
-      held-small (partAt area a) (length-part 256 area (256 * a) (omega arith)) (bytes-take 256 (drop (256 * a) area) (bytes-drop (256 * a) area b))
+      held-small (partAt area a) (length-part 256 area (256 * a) (omega arith)) (part-bytes area a b)
 
   pub keys-small : (area : List ℕ) (a : ℕ) → 256 * (a + 1) ≤ length area → Bytes area → All (λ x. key x < 2 ^ 64) (recordsIn f (partAt area a))
   keys-small area a h b = all-map (Small f) (λ x. key x < 2 ^ 64) (λ x k. k .0) (recordsIn f (partAt area a)) (part-small area a h b)

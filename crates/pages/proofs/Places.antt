@@ -16,7 +16,7 @@ use Rattle.placing.proofs.Seek.{seek-ne}
 use Rattle.pages.specs.Places.{ahead}
 use Rattle.pages.specs.steps.Slots.{opened, upToBack}
 
-all-at : {R : Type 0} (P : R → Type 0) (n : ℕ) (s : List R) (d : R) → n < length s → All P s → P (getD s n d)
+pub all-at : {R : Type 0} (P : R → Type 0) (n : ℕ) (s : List R) (d : R) → n < length s → All P s → P (getD s n d)
 all-at P n [] d l h = absurd (omega arith)
 all-at P zero (x ∷ s) d l h = h .0
 all-at P (suc n) (x ∷ s) d l h = all-at P n s d (omega arith) (h .1)
@@ -42,7 +42,7 @@ module _ {R : Type 0} (rank : R → ℕ) where
       go false ih = omega arith
 
   -- one of sorted records is counted exactly where it stands before r
-  ahead-test : (r : ℕ) (d : R) (s : List R) (n : ℕ) → Sorted rank s → n < length s → ltb (rank (getD s n d)) r ≡ ltb n (ahead rank r s)
+  pub ahead-test : (r : ℕ) (d : R) (s : List R) (n : ℕ) → Sorted rank s → n < length s → ltb (rank (getD s n d)) r ≡ ltb n (ahead rank r s)
   ahead-test r d [] n h l = absurd (omega arith)
   ahead-test r d (y ∷ s) zero h l = go (leb r (rank y)) refl
     where
@@ -72,7 +72,22 @@ module _ {R : Type 0} (rank : R → ℕ) where
   pub back-ahead : (r : ℕ) (d : R) (s : List R) → Sorted rank s → upToBack rank r d s (length s) ≡ ahead rank r s
   back-ahead r d s h = omega (arith, up-to r d s h (length s) (omega arith), ahead-le r s)
 
-  -- and it is one among the records
+  -- where all are counted, all stand before r
+  pub ahead-every : (r : ℕ) (s : List R) → length s ≤ ahead rank r s → All (λ y. rank y < r) s
+  ahead-every r [] l = tt
+  ahead-every r (y ∷ s) l = go (leb r (rank y)) refl l (ahead-every r s)
+    where
+      go : (u : Bool) → leb r (rank y) ≡ u → suc (length s) ≤ cond u 0 (suc (ahead rank r s)) → (length s ≤ ahead rank r s → All (λ w. rank w < r) s)
+          → All (λ w. rank w < r) (y ∷ s)
+      go true e m ih = absurd (omega arith)
+      go false e m ih = (leb-false r (rank y) e, ih (omega arith))
+
+  -- and then none is passed over from the back
+  pub back-every : (r : ℕ) (d : R) (s : List R) → All (λ y. rank y < r) s → (n : ℕ) → n ≤ length s → upToBack rank r d s n ≡ n
+  back-every r d s h zero l = refl
+  back-every r d s h (suc n) l = rw (lt-ltb (rank (getD s n d)) r (all-at (λ y. rank y < r) n s d l h))
+
+  -- the place from the back is one among the records
   pub back-le : (r : ℕ) (d : R) (s : List R) (n : ℕ) → upToBack rank r d s n ≤ n
   back-le r d s zero = omega arith
   back-le r d s (suc n) = go (ltb (rank (getD s n d)) r) (back-le r d s n)

@@ -112,20 +112,28 @@ module _ (f : Layout) where
         rw (stays, new, e, from-there q, from-there (x ∷ take j q))
         (written-tail front (encode (slots f (suc j) q)) (encode (slots f (suc j) (x ∷ take j q))) at front-length (slots-long (x ∷ take j q) ∙ sym (slots-long q)))
 
-    -- the record in that slot gone, those behind it one slot down, and an empty slot at the end
-    slot-closed : (y : Record) (q : List Record) (l : List ℕ) → length q ≤ j → l ≡ counted address n (p ++ (y ∷ q))
-        → written l (slotAt f (length p)) (drop (slotAt f (suc (length p))) l ++ encode (emptySlot f)) ≡ counted address n (p ++ q)
-    slot-closed y q l few e =
+    -- the record in that slot gone, those behind it one slot down, and another slot at the end
+    slot-closed : (y : Record) (q r : List Record) (last : List Field) (l : List ℕ) → slots f (suc j) r ≡ slots f j q ++ last → l ≡ counted address n (p ++ (y ∷ q))
+        → written l (slotAt f (length p)) (drop (slotAt f (suc (length p))) l ++ encode last) ≡ counted address n (p ++ r)
+    slot-closed y q r last l ends e =
         let at : ℕ = slotAt f (length p) in
         let k : length (encode (recordSlot f y)) ≡ slotAt f (suc (length p)) - at = omega (arith, length-encode (recordSlot f y), slot-width f 1 y, slot-next f (length p)) in
         let s : at + (slotAt f (suc (length p)) - at) ≡ slotAt f (suc (length p)) = omega (arith, slot-next f (length p)) in
         let stays : drop (slotAt f (suc (length p))) l ≡ encode (slots f j q) =
         rw (← s, ← drop-drop (slotAt f (suc (length p)) - at) at l, e, from-there (y ∷ q), drop-at front (encode (slots f (suc j) (y ∷ q))) at front-length, encode-append (recordSlot f y) (slots f j q))
         (drop-at (encode (recordSlot f y)) (encode (slots f j q)) (slotAt f (suc (length p)) - at) k) in
-        let new : encode (slots f j q) ++ encode (emptySlot f) ≡ encode (slots f (suc j) q) =
-        sym (rw (slots-last j q, take-all j q few, drop-of-length-le q {i = j} few, append-nil (emptySlot f)) (encode-append (slots f j q) (emptySlot f))) in
-        rw (stays, new, e, from-there (y ∷ q), from-there q)
-        (written-tail front (encode (slots f (suc j) (y ∷ q))) (encode (slots f (suc j) q)) at front-length (slots-long q ∙ sym (slots-long (y ∷ q))))
+        let new : encode (slots f j q) ++ encode last ≡ encode (slots f (suc j) r) = sym (rw ends (encode-append (slots f j q) last)) in
+        rw (stays, new, e, from-there (y ∷ q), from-there r)
+        (written-tail front (encode (slots f (suc j) (y ∷ q))) (encode (slots f (suc j) r)) at front-length (slots-long r ∙ sym (slots-long (y ∷ q))))
+
+  -- slots of which the last is empty, and slots that a record more fills
+  ends-empty : (j : ℕ) (q : List Record) → length q ≤ j → slots f (suc j) q ≡ slots f j q ++ emptySlot f
+  ends-empty j q few = rw (slots-last j q, take-all j q few, drop-of-length-le q {i = j} few, append-nil (emptySlot f))
+
+  ends-filled : (j : ℕ) (q : List Record) (x : Record) → length q ≡ j → slots f (suc j) (q ++ (x ∷ [])) ≡ slots f j q ++ recordSlot f x
+  ends-filled j q x full =
+      let e : length q + 1 ≡ suc j = omega arith in
+      rw (e, full, append-nil (recordSlot f x)) at (slots-split q (x ∷ []) 1)
 
   -- another count written to the head
   recounted : (address n m : ℕ) (rs : List Record) → written (counted address n rs) 8 (bytesOf 2 m) ≡ counted address m rs
@@ -164,8 +172,22 @@ module _ (f : Layout) where
         let j : ℕ = slotsOf f - suc at in
         let y : Record = getD rs at vacant in
         let whole : l ≡ counted address (length rs) (take at rs ++ (y ∷ drop (suc at) rs)) = rw (← drop-cons rs at vacant held, take-append-drop) is in
-        let moved : m ≡ counted address (length rs) (closed at rs) = e ∙ rw cut at (slot-closed address (length rs) (take at rs) j all y (drop (suc at) rs) l (omega (arith, length-drop (suc at) rs)) whole) in
+        let moved : m ≡ counted address (length rs) (closed at rs) = e ∙ rw cut at (slot-closed address (length rs) (take at rs) j all y (drop (suc at) rs) (drop (suc at) rs) (emptySlot f) l (ends-empty j (drop (suc at) rs) (omega (arith, length-drop (suc at) rs))) whole) in
         rw (moved, k) (recounted address (length rs) (length (closed at rs)) (closed at rs))
+
+    -- one that was full, with another record in the last slot, has that record behind the others
+    pub page-exchanged : length rs ≡ slotsOf f → (x : Record) (m : List ℕ) → m ≡ written l (slotAt f at) (drop (slotAt f (suc at)) l ++ encode (recordSlot f x))
+        → m ≡ pageBytes f address (closed at rs ++ (x ∷ []))
+    unfolding pageBytes closed
+    page-exchanged full x m e =
+        let j : ℕ = slotsOf f - suc at in
+        let y : Record = getD rs at vacant in
+        let rest : List Record = drop (suc at) rs in
+        let whole : l ≡ counted address (length rs) (take at rs ++ (y ∷ rest)) = rw (← drop-cons rs at vacant (omega arith), take-append-drop) is in
+        let moved = rw cut at (slot-closed address (length rs) (take at rs) j all y rest (rest ++ (x ∷ [])) (recordSlot f x) l (ends-filled j rest x (omega (arith, length-drop (suc at) rs))) whole) in
+        let count : length rs ≡ length (take at rs ++ (rest ++ (x ∷ []))) =
+        omega (arith, cut, length-append (take at rs) (rest ++ (x ∷ [])), length-append rest (x ∷ []), length-drop (suc at) rs) in
+        e ∙ moved ∙ rw (append-assoc (take at rs) rest (x ∷ []), ← count)
 
   module _ (l : List ℕ) (at : ℕ) (size : length l ≡ 256) (low : at < slotsOf f) where
     -- a slot opened in two writes: what stands from it on goes up, and then the record takes its place
@@ -178,16 +200,15 @@ module _ (f : Layout) where
         let to : slotAt f at + widthOf f ≡ slotAt f at + length (encode (recordSlot f x)) = omega arith in
         rw (g, e, k, to) (written-before l (slotAt f at) (encode (recordSlot f x)) (take (256 - slotAt f (suc at)) (drop (slotAt f at) l)) (omega (arith, slot-fits f at low)))
 
-    -- and one closed: what stands behind it goes down, and then an empty slot takes the last place
-    pub closed-twice : (m n : List ℕ) → m ≡ written l (slotAt f (suc at) - widthOf f) (take (256 - slotAt f (suc at)) (drop (slotAt f (suc at)) l))
-        → n ≡ written m (256 - widthOf f) (encode (emptySlot f))
-        → n ≡ written l (slotAt f at) (drop (slotAt f (suc at)) l ++ encode (emptySlot f))
-    closed-twice m n e g =
+    -- and one closed: what stands behind it goes down, and then another slot takes the last place
+    pub closed-twice : (last m n : List ℕ) → m ≡ written l (slotAt f (suc at) - widthOf f) (take (256 - slotAt f (suc at)) (drop (slotAt f (suc at)) l))
+        → n ≡ written m (256 - widthOf f) last → n ≡ written l (slotAt f at) (drop (slotAt f (suc at)) l ++ last)
+    closed-twice last m n e g =
         let tail : List ℕ = drop (slotAt f (suc at)) l in
         let long : length tail ≡ 256 - slotAt f (suc at) = omega (arith, length-drop (slotAt f (suc at)) l) in
         let from : slotAt f (suc at) - widthOf f ≡ slotAt f at = omega (arith, slot-next f at) in
         let to : 256 - widthOf f ≡ slotAt f at + length tail = omega (arith, slot-next f at, slot-fits f at low) in
-        rw (g, e, from, take-all (256 - slotAt f (suc at)) tail (omega arith), to) (written-written l (slotAt f at) tail (encode (emptySlot f)) (omega (arith, slot-fits f at low)))
+        rw (g, e, from, take-all (256 - slotAt f (suc at)) tail (omega arith), to) (written-written l (slotAt f at) tail last (omega (arith, slot-fits f at low)))
 
 -- a record taken out of a page that holds what its bytes say leaves such a page
 pub page-shut : (f : Layout) (a : ℕ) (l m : List ℕ) (at : ℕ) → a < 2 ^ 32 → length l ≡ 256 → Bytes l → m ≡ pageBytes f a (closed at (recordsIn f l))

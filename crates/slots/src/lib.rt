@@ -5,7 +5,7 @@ use homes::Shape;
 use pages::Record;
 ghost use mathlib.Core.Path.{_≡_};
 ghost use mathlib.Core.Bool.{true};
-ghost use mathlib.Core.List.{_++_};
+ghost use mathlib.Core.List.{[], _∷_, _++_};
 ghost use Prim.Native.Nat.{ℕ, suc, _+_, _-_, _*_, _^_, _≤_, _<_};
 ghost use lib.ListN.{length, take, drop, getD};
 ghost use Rattle.numbers.specs.Fields.{encode};
@@ -13,7 +13,7 @@ ghost use Rattle.numbers.specs.Little.{written};
 ghost use Rattle.layouts.specs.Layout.{slotsOf, slotAt};
 ghost use Rattle.homes.specs.Homes.{Ready, homeIn};
 ghost use Rattle.placing.specs.Lay.{ranked, ins};
-ghost use Rattle.pages.specs.Page.{key, vacant, rank, recordSlot, emptySlot, pageBytes, countIn, recordsIn, wellFormed};
+ghost use Rattle.pages.specs.Page.{key, vacant, rank, slot, recordSlot, pageBytes, countIn, recordsIn, wellFormed};
 ghost use Rattle.pages.specs.Area.{partAt, withPage};
 ghost use Rattle.pages.specs.Places.{closed, ahead};
 ghost use Rattle.pages.specs.steps.Slots.{opened, upToBack, backed};
@@ -105,20 +105,15 @@ fn open_slot(part: &mut [u8], layout: u8, at: usize, x: Record)
     pages::slot::put(part, start, layout, 1, x);
 }
 
-// The slots closed up over one of them, with an empty slot at the end.
-fn close_slot(part: &mut [u8], layout: u8, at: usize)
+// The slots closed up over one of them, with a slot of either kind at the end.
+fn close_slot(part: &mut [u8], layout: u8, at: usize, kind: u16, x: Record)
     requires { ⌜ (length (now part) ≡ 256) × (at < slotsOf layout) ⌝ }
-    ensures { λ _. let l = now (part .entry) in ⌜ now (part .exit) ≡ written l (slotAt layout at) (drop (slotAt layout (suc at)) l ++ encode (emptySlot layout)) ⌝ }
+    ensures { λ _. let l = now (part .entry) in ⌜ now (part .exit) ≡ written l (slotAt layout at) (drop (slotAt layout (suc at)) l ++ encode (slot layout kind x)) ⌝ }
 {
     let width = layouts::width(layout) as usize;
     let start = layouts::slot_at(layout, at + 1);
     shift_down(part, start, 256, width);
-    let none = Record {
-        key: 0,
-        value: 0,
-        run: 0,
-    };
-    pages::slot::put(part, 256 - width, layout, 0, none);
+    pages::slot::put(part, 256 - width, layout, kind, x);
 }
 
 // A record to a place of a page. Of one more than there are slots the last comes back; where there
@@ -149,7 +144,12 @@ fn take_out(part: &mut [u8], layout: u8, at: usize)
     if count <= at {
         return;
     }
-    close_slot(part, layout, at);
+    let none = Record {
+        key: 0,
+        value: 0,
+        run: 0,
+    };
+    close_slot(part, layout, at, 0, none);
     numbers::put_u16(part, 8, (count - 1) as u16);
 }
 
@@ -215,6 +215,16 @@ pub fn refill_at(area: &mut [u8], a: usize, layout: u8, shape: Shape, at: usize,
 {
     let from = 256 * a;
     refill(&mut area[from..from + 256], layout, shape, at, x);
+}
+
+// The record at a place of the full page at an address taken out, and another put behind the last.
+// The count stays, and no home is worked out.
+pub fn exchange_at(area: &mut [u8], a: usize, layout: u8, at: usize, x: Record)
+    requires { ⌜ (a < 4096) × (256 * (a + 1) ≤ length (now area)) × (at < slotsOf layout) × (countIn layout (partAt (now area) a) ≡ slotsOf layout) × (wellFormed layout a (partAt (now area) a) ≡ true) ⌝ }
+    ensures { λ _. let l = now (area .entry) in ⌜ now (area .exit) ≡ withPage layout l a (closed at (recordsIn layout (partAt l a)) ++ (x ∷ [])) ⌝ }
+{
+    let from = 256 * a;
+    close_slot(&mut area[from..from + 256], layout, at, 1, x);
 }
 
 // The record at a place of the page at an address taken out, if there is one.

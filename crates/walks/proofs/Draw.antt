@@ -4,7 +4,6 @@ use mathlib.Core.List.{List}
 use Prim.Native.Nat.{ℕ, suc, _+_, _-_, _<_}
 use native.Mathlib.Omega.{arith}
 use Rattle.layouts.specs.Layout.{inUse}
-use Rattle.pages.specs.Page.{Record}
 use Rattle.pages.specs.Places.{closed}
 use Rattle.pages.specs.steps.Slots.{backed}
 use Rattle.pages.specs.Area.{withPage}
@@ -15,12 +14,12 @@ use Rattle.walks.proofs.Pouring.{Untouched}
 -- page a is written to an area that agrees with the first area from there on
 module _ (h : ℕ → ℕ) (start area new : List ℕ) (last a slot : ℕ) (same : Untouched start area a) where
   -- filled with the first record of the next page, where it isn't the last
-  pub draw-turn : (next : Record) → next ≡ firstOf (held area (a + 1)) → new ≡ withPage inUse area a (backed slots h next (closed slot (held area a))) → a < last
+  pub draw-turn : new ≡ withPage inUse area a (backed slots h (firstOf (held area (a + 1))) (closed slot (held area a))) → a < last
       → writes inUse new (drawn h start (last - (a + 1)) (a + 1) 0) ≡ writes inUse area (drawn h start (last - a) a slot)
-  draw-turn next f d l =
+  draw-turn d l =
       let n : last - a ≡ suc (last - (a + 1)) = omega arith in
       let m : a + 1 ≡ suc a = omega arith in
-      rw (d, f, n, same a (omega arith), same (a + 1) (omega arith), m)
+      rw (d, n, same a (omega arith), same (a + 1) (omega arith), m)
 
   -- closed up only, where it is
   pub draw-last : last ≡ a → new ≡ withPage inUse area last (closed slot (held area last)) → new ≡ writes inUse area (drawn h start (last - a) a slot)

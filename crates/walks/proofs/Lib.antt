@@ -1,6 +1,7 @@
 pub mod Scanning
 pub mod Holds
 pub mod Meeting
+pub mod Seams
 pub mod Formed
 pub mod PutPlan
 pub mod Pouring

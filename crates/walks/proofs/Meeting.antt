@@ -3,7 +3,7 @@
 use mathlib.Core.Path.{_≡_, refl, sym, ap, subst, _∙_}
 use mathlib.Core.Bool.{Bool, true, false, cond, _||_}
 use mathlib.Core.Option.{Option, none, some}
-use mathlib.Core.List.{List, _∷_}
+use mathlib.Core.List.{List, _∷_, map}
 use Prim.Native.Nat.{ℕ, zero, suc, _+_, _*_, _-_, _^_, _≤_, _<_}
 use native.Mathlib.Numerals.{add-one}
 use native.Mathlib.Omega.{arith}
@@ -17,7 +17,7 @@ use Rattle.homes.proofs.Homes.{home-below}
 use Rattle.placing.specs.Lay.{rankOf, rankIn, Sorted}
 use Rattle.placing.specs.Walks.{seek, lastAfter, endsOn}
 use Rattle.pages.specs.declared.Judged.{Judged}
-use Rattle.pages.specs.Page.{Record, key, readPage, judged}
+use Rattle.pages.specs.Page.{Record, key, homeFor, padded, readPage, judged}
 use Rattle.pages.specs.Places.{ahead}
 use Rattle.pages.specs.Area.{partAt, pagesFrom}
 use Rattle.pages.proofs.Read.{held-few}
@@ -29,8 +29,9 @@ use Rattle.pages.proofs.Bounds.{keys-small}
 use Rattle.walks.specs.declared.Met.{Met}
 use Rattle.walks.specs.declared.Met.the-variants.{Found, Ends}
 use Rattle.walks.specs.declared.Met.the-variants as mets
+use Rattle.walks.specs.declared.Walk.{Walk}
 use Rattle.walks.specs.Walks.{heldAt, onHeld, meets, walk}
-use Rattle.walks.specs.steps.Plans.{slots, held}
+use Rattle.walks.specs.steps.Plans.{slots, held, lastHome, ended}
 use Rattle.walks.proofs.Holds.{away-rank}
 use Rattle.walks.proofs.Scanning.{After, after-last, ToScan, left-away, left-place, Rows}
 
@@ -57,7 +58,7 @@ module _ {h : ℕ → ℕ} {area : List ℕ} {cap a : ℕ} {j : Judged} (seen : 
     pub page-read : readPage inUse h a (partAt area a) ≡ some (held area a)
     page-read = judged-good inUse h a (partAt area a) j (seen .is) g
 
-    page-is : j ≡ judged h (some (held area a))
+    pub page-is : j ≡ judged h (some (held area a))
     page-is = judged-held inUse h a (partAt area a) j (seen .is) g
 
     -- it counts its records, of which there are no more than slots
@@ -66,6 +67,11 @@ module _ {h : ℕ → ℕ} {area : List ℕ} {cap a : ℕ} {j : Judged} (seen : 
 
     pub page-few : j .count ≤ 12
     page-few = omega (arith, page-counts, held-few inUse (partAt area a))
+
+    -- the home in its last slot is that of the record there, if there is one
+    pub page-last : getD (j .homes) 11 0 ≡ getD (padded (map (homeFor h) (held area a))) 11 0
+    unfolding judged
+    page-last = rw page-is
 
     -- its rows, where the area holds it
     pub page-rows : 256 * (a + 1) ≤ length area → ((i : ℕ) → getD area i 0 < 256) → Rows h (held area a) j
@@ -137,6 +143,10 @@ module _ {h : ℕ → ℕ} {area : List ℕ} {cap a : ℕ} {j : Judged} (seen : 
       -- past the last slot it goes on
       pub walk-on : slots ≤ at → walkLeft h area cap k (a + 1) (n + 1) ≡ walkLeft h area cap k a n
       walk-on l = sym (at-place (after-last h k rs at (omega (arith, held-few inUse (partAt area a)))) ∙ rw (le-ltb at slots l))
+
+-- a walk as it ended, told with the home in the last slot
+pub walk-told : (h : ℕ → ℕ) (area : List ℕ) (m w : Met) (last : ℕ) → m ≡ w → last ≡ lastHome h area m → _≡_ {A = Walk} (record { met = m; last = last }) (ended h area w)
+walk-told h area m w last e t = rw (t, e)
 
 -- a page that is good, and counted
 pub record Counted (h : ℕ → ℕ) (area : List ℕ) (a c : ℕ) : Type 0 where

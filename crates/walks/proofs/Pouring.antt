@@ -8,14 +8,16 @@ use native.Mathlib.Omega.{arith}
 use lib.ListN.{length, take, getD}
 use Rattle.layouts.specs.Layout.{inUse}
 use Rattle.placing.specs.Lay.{rankIn, ins}
-use Rattle.pages.specs.Page.{Record, key, rank, wellFormed}
+use Rattle.pages.specs.Page.{Record, key, rank, recordsIn, wellFormed}
 use Rattle.pages.specs.Places.{ahead}
 use Rattle.pages.specs.steps.Slots.{opened}
 use Rattle.pages.specs.Area.{partAt, withPage}
+use Rattle.pages.proofs.Read.{held-few}
 use Rattle.pages.proofs.Places.{ins-opened}
 use Rattle.pages.proofs.Areas.{with-length, part-other}
 use Rattle.walks.specs.Walks.{writes}
-use Rattle.walks.specs.steps.Plans.{slots, held, poured, Formed}
+use Rattle.walks.specs.steps.Plans.{slots, held, seam, poured, Formed}
+use Rattle.walks.proofs.Seams.{to-front}
 
 -- the pages from page a on are as they were
 abbrev pub Untouched : (start area : List ℕ) → ℕ → Type 0
@@ -60,6 +62,14 @@ module _ (h : ℕ → ℕ) (area to : List ℕ) (a last : ℕ) (x over : Record)
       ap (writes inUse to) (poured-same h area to (suc last - (a + 1)) (a + 1) over same)
       ∙ pour-turn (rw is at o) (rw is at t) area (λ b k. refl)
       ∙ ap (λ (n : ℕ). writes inUse area (poured h area n a x)) m
+
+-- a record that went to the front of a page sends one on to the front of the next, where their seam
+-- rises
+pub pour-front : (h : ℕ → ℕ) (start area : List ℕ) (a : ℕ) (x over : Record) → Untouched start area a → seam h (held start a) (held start (a + 1)) ≡ true
+    → ahead (rank h) (rank h x) (held start a) ≡ 0 → over ≡ getD (ins (rankIn key h) x (held area a)) slots x → ahead (rank h) (rank h over) (held start (a + 1)) ≡ 0
+pour-front h start area a x over same s z o =
+    let e : held area a ≡ held start a = ap (recordsIn inUse) (same a (omega arith)) in
+    to-front h (held start a) (held start (a + 1)) (held-few inUse (partAt start a)) s 0 x over (omega arith) (o ∙ rw (e, ins-opened (rankIn key h) x (held start a), z))
 
 -- at the end nothing is left to write
 pub pour-ends : (h : ℕ → ℕ) (start area : List ℕ) (last a : ℕ) (x : Record) → last < a → writes inUse area (poured h start (suc last - a) a x) ≡ area

@@ -26,13 +26,13 @@ use Rattle.walks.specs.declared.Met.the-variants as mets
 use Rattle.walks.specs.declared.Plan.{Plan}
 use Rattle.walks.specs.declared.Plan.the-variants.{Go, Stop}
 use Rattle.walks.specs.Walks.{Pages, went, stopped, andPage, walk, carry, putMet, putWalk}
-use Rattle.walks.specs.steps.Plans.{slots, held, poured, reached, planned, placedIn, formedIn}
-use Rattle.walks.proofs.Formed.{LastFrom, later, plan-formed, reached-formed}
+use Rattle.walks.specs.steps.Plans.{slots, held, poured, rising, reached, planned, placedIn, formedIn, risesIn}
+use Rattle.walks.proofs.Formed.{LastFrom, later, plan-formed, plan-rises, reached-formed}
 use Rattle.walks.proofs.Meeting.{Seen, pages-next, page-broken, page-read, page-counts, Known, walk-known}
 
 -- what is left of the way to the first page with room, from page a on, where n pages were read
 abbrev pub reachLeft : (ℕ → ℕ) → List ℕ → (cap f at a n : ℕ) → Plan
-reachLeft h area cap f at a n = reached slots f at a n (pagesFrom inUse h area (cap - a) a)
+reachLeft h area cap f at a n = reached slots (rising h area f) f at a n (pagesFrom inUse h area (cap - a) a)
 
 -- past the end there is no room
 pub reach-past : (h : ℕ → ℕ) (area : List ℕ) (cap f at a n : ℕ) → cap ≤ a → Stop (NoRoom n) ≡ reachLeft h area cap f at a n
@@ -46,48 +46,48 @@ module _ {h : ℕ → ℕ} {area : List ℕ} {cap a : ℕ} {j : Judged} (seen : 
   reach-sick g = rw (pages-next seen, page-broken seen g, add-one)
 
   module _ (g : j .good ≡ true) where
-    at-page : reachLeft h area cap f at a n ≡ cond (ltb (j .count) slots) (Go f at a (n + 1)) (reachLeft h area cap f at (a + 1) (n + 1))
+    at-page : reachLeft h area cap f at a n ≡ cond (ltb (j .count) slots) (Go f at a (n + 1) (rising h area f a)) (reachLeft h area cap f at (a + 1) (n + 1))
     at-page = rw (pages-next seen, page-read seen g, ← page-counts seen g, add-one n, add-one a)
 
     -- a page with room is the last
-    pub reach-here : j .count < slots → Go f at a (n + 1) ≡ reachLeft h area cap f at a n
-    reach-here l = sym (at-page ∙ rw (lt-ltb (j .count) slots l))
+    pub reach-here : j .count < slots → (u : Bool) → u ≡ rising h area f a → Go f at a (n + 1) u ≡ reachLeft h area cap f at a n
+    reach-here l u e = rw e (sym (at-page ∙ rw (lt-ltb (j .count) slots l)))
 
     -- after a full one it goes on
     pub reach-on : slots ≤ j .count → reachLeft h area cap f at (a + 1) (n + 1) ≡ reachLeft h area cap f at a n
     reach-on l = sym (at-page ∙ rw (le-ltb (j .count) slots l))
 
-module _ (f at : ℕ) where
+module _ (f at : ℕ) (told : ℕ → Bool) where
   -- so is one to the first page with room
-  reached-from : (b a n : ℕ) (ps : List (Option (List Record))) → LastFrom f at a (reached b f at a n ps)
+  reached-from : (b a n : ℕ) (ps : List (Option (List Record))) → LastFrom f at told a (reached b told f at a n ps)
   reached-from b a n [] = tt
   reached-from b a n (none ∷ ps) = tt
-  reached-from b a n (some p ∷ ps) = go (ltb (length p) b) (later f at a (reached b f at (suc a) (suc n) ps) (reached-from b (suc a) (suc n) ps))
+  reached-from b a n (some p ∷ ps) = go (ltb (length p) b) (later f at told a (reached b told f at (suc a) (suc n) ps) (reached-from b (suc a) (suc n) ps))
     where
-      go : (u : Bool) → LastFrom f at a (reached b f at (suc a) (suc n) ps) → LastFrom f at a (cond u (Go f at a (suc n)) (reached b f at (suc a) (suc n) ps))
-      go true l = (refl, refl, omega arith)
+      go : (u : Bool) → LastFrom f at told a (reached b told f at (suc a) (suc n) ps) → LastFrom f at told a (cond u (Go f at a (suc n) (told a)) (reached b told f at (suc a) (suc n) ps))
+      go true l = (refl, refl, omega arith, refl)
       go false l = l
 
-module _ (h : ℕ → ℕ) (area : List ℕ) (f at : ℕ) where
+module _ (h : ℕ → ℕ) (area : List ℕ) (f at : ℕ) (told : ℕ → Bool) where
   -- the pages that are poured from page a on, which is the m-th after the first of the plan
   abbrev pouredOn : (m a : ℕ) → Record → (n b i : ℕ) → Pages
   pouredOn m a x n b i = poured h area (suc (n - m)) a x
 
   -- a full page before those that are left
-  wrote-on : (m a : ℕ) (x : Record) (p : Plan) → f + m ≡ a → LastFrom f at (suc a) p
+  wrote-on : (m a : ℕ) (x : Record) (p : Plan) → f + m ≡ a → LastFrom f at told (suc a) p
       → andPage a (take slots (ins (rankIn key h) x (held area a))) (planned (pouredOn (suc m) (suc a) (getD (ins (rankIn key h) x (held area a)) slots x)) p)
       ≡ planned (pouredOn m a x) p
   wrote-on m a x (Stop why) e l = refl
-  wrote-on m a x (Go g i last read) e l =
+  wrote-on m a x (Go g i last read up) e l =
       let k : last - g - m ≡ suc (last - g - suc m) = omega (arith, l .0, l .2) in
       rw k
 
   module _ (a n m : ℕ) (x : Record) (ps : List (Option (List Record))) (e : f + m ≡ a)
-      (on : (y : Record) → carry slots h (suc a) (suc n) (suc m) y ps ≡ planned (pouredOn (suc m) (suc a) y) (reached slots f at (suc a) (suc n) ps)) where
+      (on : (y : Record) → carry slots h (suc a) (suc n) (suc m) y ps ≡ planned (pouredOn (suc m) (suc a) y) (reached slots told f at (suc a) (suc n) ps)) where
     good-page : (p : List Record) → p ≡ held area a → (u : Bool) → ltb (length p) slots ≡ u
         → cond u (went ((a, ins (rankIn key h) x p) ∷ []) (suc n) m)
         (andPage a (take slots (ins (rankIn key h) x p)) (carry slots h (suc a) (suc n) (suc m) (getD (ins (rankIn key h) x p) slots x) ps))
-        ≡ planned (pouredOn m a x) (cond u (Go f at a (suc n)) (reached slots f at (suc a) (suc n) ps))
+        ≡ planned (pouredOn m a x) (cond u (Go f at a (suc n) (told a)) (reached slots told f at (suc a) (suc n) ps))
     good-page p q true t =
         let k : a - f ≡ m = omega arith in
         let z : m - m ≡ 0 = omega arith in
@@ -95,34 +95,34 @@ module _ (h : ℕ → ℕ) (area : List ℕ) (f at : ℕ) where
         let w : take slots (ins (rankIn key h) x p) ≡ ins (rankIn key h) x p = take-all slots (ins (rankIn key h) x p) l in
         rw (k, z, ← q, w)
     good-page p q false t =
-        rw (q, on (getD (ins (rankIn key h) x (held area a)) slots x)) (wrote-on m a x (reached slots f at (suc a) (suc n) ps) e (reached-from f at slots (suc a) (suc n) ps))
+        rw (q, on (getD (ins (rankIn key h) x (held area a)) slots x)) (wrote-on m a x (reached slots told f at (suc a) (suc n) ps) e (reached-from f at told slots (suc a) (suc n) ps))
 
-    any-page : (o : Option (List Record)) → readPage inUse h a (partAt area a) ≡ o → carry slots h a n m x (o ∷ ps) ≡ planned (pouredOn m a x) (reached slots f at a n (o ∷ ps))
+    any-page : (o : Option (List Record)) → readPage inUse h a (partAt area a) ≡ o → carry slots h a n m x (o ∷ ps) ≡ planned (pouredOn m a x) (reached slots told f at a n (o ∷ ps))
     any-page none r = refl
     any-page (some p) r = good-page p (read-good inUse h a (partAt area a) p r .records) (ltb (length p) slots) refl
 
   -- what is carried from page a on is what the plan pours
   carried : (c a n m : ℕ) (x : Record) → f + m ≡ a
-      → carry slots h a n m x (pagesFrom inUse h area c a) ≡ planned (pouredOn m a x) (reached slots f at a n (pagesFrom inUse h area c a))
+      → carry slots h a n m x (pagesFrom inUse h area c a) ≡ planned (pouredOn m a x) (reached slots told f at a n (pagesFrom inUse h area c a))
   carried zero a n m x e = refl
   carried (suc c) a n m x e =
       any-page a n m x (pagesFrom inUse h area c (suc a)) e (λ y. carried c (suc a) (suc n) (suc m) y (omega arith)) (readPage inUse h a (partAt area a)) refl
 
-  from-first : (x : Record) (p : Plan) → LastFrom f at f p → planned (pouredOn 0 f x) p ≡ planned (λ n a i. poured h area (suc n) a x) p
+  from-first : (x : Record) (p : Plan) → LastFrom f at told f p → planned (pouredOn 0 f x) p ≡ planned (λ n a i. poured h area (suc n) a x) p
   from-first x (Stop why) l = refl
-  from-first x (Go g i last read) l = rw (sub-zero, l .0)
+  from-first x (Go g i last read up) l = rw (sub-zero, l .0)
 
   -- from a good page on, a put is its plan
   pub put-planned : (cap n : ℕ) (x : Record) (p : List Record) → f < cap → 1 ≤ n → readPage inUse h f (partAt area f) ≡ some p
-      → planned (λ k b i. poured h area (suc k) b x) (cond (ltb (length p) slots) (Go f at f n) (reached slots f at (suc f) n (pagesFrom inUse h area (cap - suc f) (suc f))))
+      → planned (λ k b i. poured h area (suc k) b x) (cond (ltb (length p) slots) (Go f at f n (told f)) (reached slots told f at (suc f) n (pagesFrom inUse h area (cap - suc f) (suc f))))
       ≡ carry slots h f (n - 1) 0 x (pagesFrom inUse h area (cap - f) f)
   put-planned cap n x p l k r =
       let e : cap - f ≡ suc (cap - suc f) = omega arith in
       let q : suc (n - 1) ≡ n = omega arith in
       let ps : List (Option (List Record)) = pagesFrom inUse h area (cap - suc f) (suc f) in
-      let plan : Plan = cond (ltb (length p) slots) (Go f at f n) (reached slots f at (suc f) n ps) in
-      let first : reached slots f at f (n - 1) (pagesFrom inUse h area (cap - f) f) ≡ plan = rw (e, r, q) in
-      let from : LastFrom f at f plan = rw first at (reached-from f at slots f (n - 1) (pagesFrom inUse h area (cap - f) f)) in
+      let plan : Plan = cond (ltb (length p) slots) (Go f at f n (told f)) (reached slots told f at (suc f) n ps) in
+      let first : reached slots told f at f (n - 1) (pagesFrom inUse h area (cap - f) f) ≡ plan = rw (e, r, q) in
+      let from : LastFrom f at told f plan = rw first at (reached-from f at told slots f (n - 1) (pagesFrom inUse h area (cap - f) f)) in
       sym (carried (cap - f) f (n - 1) 0 x (omega arith) ∙ rw first (from-first x plan from))
 
 module _ (h : ℕ → ℕ) (area : List ℕ) (x : Record) where
@@ -151,13 +151,13 @@ module _ (h : ℕ → ℕ) (area : List ℕ) (x : Record) where
       put-at = walk-known h area k cap (Ends a i c n) is e
 
       put-ends : a < cap → 1 ≤ n
-          → planned (λ n a i. poured h area (suc n) a x) (cond (ltb c slots) (Go a i a n) (reachLeft h area cap a i (suc a) n)) ≡ putWalk inUse h area cap x
+          → planned (λ n a i. poured h area (suc n) a x) (cond (ltb c slots) (Go a i a n (rising h area a a)) (reachLeft h area cap a i (suc a) n)) ≡ putWalk inUse h area cap x
       put-ends l s =
           let w : c ≡ length (held area a) = put-at .0 .count in
-          rw w (put-planned h area a i cap n x (held area a) l s (put-at .0 .read)) ∙ put-met (Ends a i c n) e
+          rw w (put-planned h area a i (rising h area a) cap n x (held area a) l s (put-at .0 .read)) ∙ put-met (Ends a i c n) e
 
       -- with room the ending page is the last
-      pub put-here : a < cap → 1 ≤ n → c < slots → planned (λ n a i. poured h area (suc n) a x) (Go a i a n) ≡ putWalk inUse h area cap x
+      pub put-here : a < cap → 1 ≤ n → c < slots → planned (λ n a i. poured h area (suc n) a x) (Go a i a n true) ≡ putWalk inUse h area cap x
       put-here l s t = rw (lt-ltb c slots t) at (put-ends l s)
 
       -- else one after it
@@ -165,13 +165,13 @@ module _ (h : ℕ → ℕ) (area : List ℕ) (x : Record) where
           → planned (λ n a i. poured h area (suc n) a x) p ≡ putWalk inUse h area cap x
       put-on l s t p q = rw q (rw (le-ltb c slots t) at (put-ends l s))
 
-      placed : (b : ℕ) (p : Plan) → LastFrom a i b p → placedIn h area k p
-      placed b (Go f at last read) l = l .1 ∙ put-at .1 ∙ rw (l .0)
+      placed : (b : ℕ) (p : Plan) → LastFrom a i (rising h area a) b p → placedIn h area k p
+      placed b (Go f at last read up) l = l .1 ∙ put-at .1 ∙ rw (l .0)
       placed b (Stop why) l = tt
 
       -- with the key's place on the first page of the plan
       pub put-placed : (p : Plan) → p ≡ reachLeft h area cap a i (suc a) n → placedIn h area k p
-      put-placed p q = rw q (placed (suc a) (reachLeft h area cap a i (suc a) n) (reached-from a i slots (suc a) n (pagesFrom inUse h area (cap - suc a) (suc a))))
+      put-placed p q = rw q (placed (suc a) (reachLeft h area cap a i (suc a) n) (reached-from a i (rising h area a) slots (suc a) n (pagesFrom inUse h area (cap - suc a) (suc a))))
 
       -- whose bytes are well formed
       pub put-formed : wellFormed inUse a (partAt area a) ≡ true
@@ -181,5 +181,10 @@ module _ (h : ℕ → ℕ) (area : List ℕ) (x : Record) where
       pub put-reached : (p : Plan) → p ≡ reachLeft h area cap a i (suc a) n → formedIn area p
       put-reached p q =
           rw q
-          (plan-formed area a i (suc a) (reachLeft h area cap a i (suc a) n) (reached-from a i slots (suc a) n (pagesFrom inUse h area (cap - suc a) (suc a)))
-          put-formed (reached-formed area h a i (cap - suc a) (suc a) n))
+          (plan-formed area a i (rising h area a) (suc a) (reachLeft h area cap a i (suc a) n) (reached-from a i (rising h area a) slots (suc a) n (pagesFrom inUse h area (cap - suc a) (suc a)))
+          put-formed (reached-formed area h (rising h area a) a i (cap - suc a) (suc a) n))
+
+      -- and what it tells of their seams
+      pub put-rises : (p : Plan) → p ≡ reachLeft h area cap a i (suc a) n → risesIn h area p
+      put-rises p q =
+          rw q (plan-rises area h a i (suc a) (reachLeft h area cap a i (suc a) n) (reached-from a i (rising h area a) slots (suc a) n (pagesFrom inUse h area (cap - suc a) (suc a))))

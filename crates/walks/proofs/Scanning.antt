@@ -96,7 +96,7 @@ module _ {h : ℕ → ℕ} {rs : List Record} {j : Judged} {k home i : ℕ} {t :
   counts : j .count ≡ length rs
   counts = judged-count h j rs (w .rows .is)
 
-  pub slot-upto : i ≤ j .count
+  slot-upto : i ≤ j .count
   slot-upto = omega (arith, counts, w .left .upto)
 
   -- a record in the slot is told by its rank

@@ -6,19 +6,19 @@ use borrow.Author.Needs.{needs}
 use Rattle.layouts.specs.Layout.{inUse}
 use Rattle.homes.specs.Homes.{homeIn}
 use Rattle.state.proofs.Ranges.{ranged, in-shape}
-use Rattle.changes.proofs.Settling.{shape-fits, home-shaped, put-stops, put-full, put-goes, writes-low, place-known, pages-formed, more-low}
+use Rattle.changes.proofs.Settling.{shape-fits, home-shaped, put-stops, put-full, put-goes, writes-low, place-known, pages-formed, seams-told, more-low}
 use Rattle.changes.proofs.put_open.Statement.{statement}
 use Rattle.changes.proofs.put_open.Tie as tie
 
 -- where the plan writes
 low : (c : tie.After-plan2)
     → (c .plan2 .given .0 .0 ≤ c .plan2 .given .0 .1 .1 .0) × (c .plan2 .given .0 .1 .1 .0 < 4096)
-    × (256 * (c .plan2 .given .0 .1 .1 .0 + 1) ≤ length (now (c .before .before .before .before .before .before .before .args .area)))
+    × (256 * (c .plan2 .given .0 .1 .1 .0 + 1) ≤ length (now (c .before .before .before .before .before .before .before .args .area))) × (c .plan2 .given .0 .1 .0 < 12)
 low c =
     let g = c .plan2 .given in
     let o = c .before .before in
     let b = o .before .before .before .before .before in
-    writes-low (b .args .state) (b .pre .0) _ (g .0 .0) (g .0 .1 .0) (g .0 .1 .1 .0) (g .0 .1 .1 .1 .0) (g .1) _ (b .pre .1) (o .plan-put .ensures .1 .0)
+    writes-low (b .args .state) (b .pre .0) _ (g .0 .0) (g .0 .1 .0) (g .0 .1 .1 .0) (g .0 .1 .1 .1 .0) (g .0 .1 .1 .1 .1 .0) (g .1) _ (b .pre .1) (o .plan-put .ensures .1 .0)
 
 -- the plan that was gone by
 abbrev gone : tie.After-one-more → tie.After-plan2
@@ -48,7 +48,7 @@ returns c =
     let h = o .before .before .before in
     let a = h .before .before .args in
     put-full (a .state) _ (h .shape .ensures .0) (now (a .area)) (a .new) _ (o .plan-put .ensures .0) (g .0 .0) (g .0 .1 .0) (g .0 .1 .1 .0)
-    (g .0 .1 .1 .1 .0) (g .1) (c .if1 .taken)
+    (g .0 .1 .1 .1 .0) (g .0 .1 .1 .1 .1 .0) (g .1) (c .if1 .taken)
 
 pour-requires : tie.Need-pour-requires
 pour-requires c κs =
@@ -58,11 +58,13 @@ pour-requires c κs =
     let h = o .before .before .before in
     let b = h .before .before in
     let w = low k in (
-      (w .0, w .1, w .2, h .shape .ensures .1),
+      (w .0, w .1, w .2, h .shape .ensures .1, w .3),
       (
-        place-known (b .args .state) (b .pre .0) _ (g .0 .0) (g .0 .1 .0) (g .0 .1 .1 .0) (g .0 .1 .1 .1 .0) (g .1)
+        place-known (b .args .state) (b .pre .0) _ (g .0 .0) (g .0 .1 .0) (g .0 .1 .1 .0) (g .0 .1 .1 .1 .0) (g .0 .1 .1 .1 .1 .0) (g .1)
             (homeIn (h .shape .result)) (now (b .args .area)) (b .args .new) (o .plan-put .ensures .1 .1),
-        pages-formed (b .args .state) (b .pre .0) _ (g .0 .0) (g .0 .1 .0) (g .0 .1 .1 .0) (g .0 .1 .1 .1 .0) (g .1) (now (b .args .area)) (o .plan-put .ensures .1 .2),
+        pages-formed (b .args .state) (b .pre .0) _ (g .0 .0) (g .0 .1 .0) (g .0 .1 .1 .0) (g .0 .1 .1 .1 .0) (g .0 .1 .1 .1 .1 .0) (g .1) (now (b .args .area)) (o .plan-put .ensures .1 .2),
+        seams-told (b .args .state) (b .pre .0) _ (g .0 .0) (g .0 .1 .0) (g .0 .1 .1 .0) (g .0 .1 .1 .1 .0) (g .0 .1 .1 .1 .1 .0) (g .1)
+            (homeIn (h .shape .result)) (now (b .args .area)) (o .plan-put .ensures .1 .3),
       ),
     )
 
@@ -93,7 +95,7 @@ returns-3 d =
     let h = o .before .before .before in
     let a = h .before .before .args in
     rw (d .wrote .ensures) (put-goes (a .state) _ (h .shape .ensures .0) (now (a .area)) (a .new) _ (o .plan-put .ensures .0) (g .0 .0) (g .0 .1 .0) (g .0 .1 .1 .0)
-    (g .0 .1 .1 .1 .0) (g .1) (l .if1 .left) _ (p .pour .ensures) _ (c .one-more .ensures))
+    (g .0 .1 .1 .1 .0) (g .0 .1 .1 .1 .1 .0) (g .1) (l .if1 .left) _ (p .pour .ensures) _ (c .one-more .ensures))
 
 pub put-open-spec : {M : Type 1} → statement M
 put-open-spec =

@@ -4,20 +4,21 @@ use lib.ListN.{length}
 use denote.Ref.{now}
 use borrow.Author.Needs.{needs}
 use Rattle.layouts.specs.Layout.{inUse}
+use Rattle.homes.specs.Homes.{homeIn}
 use Rattle.state.proofs.Ranges.{ranged, in-shape}
-use Rattle.changes.proofs.Settling.{shape-fits, remove-stops, remove-none, remove-goes, writes-low, pages-formed}
+use Rattle.changes.proofs.Settling.{shape-fits, remove-stops, remove-none, remove-goes, writes-low, pages-formed, seams-told}
 use Rattle.changes.proofs.remove_open.Statement.{statement}
 use Rattle.changes.proofs.remove_open.Tie as tie
 
 -- where the plan writes
 low : (c : tie.After-plan2)
     → (c .plan2 .given .0 .0 ≤ c .plan2 .given .0 .1 .1 .0) × (c .plan2 .given .0 .1 .1 .0 < 4096)
-    × (256 * (c .plan2 .given .0 .1 .1 .0 + 1) ≤ length (now (c .before .before .before .before .before .before .before .args .area)))
+    × (256 * (c .plan2 .given .0 .1 .1 .0 + 1) ≤ length (now (c .before .before .before .before .before .before .before .args .area))) × (c .plan2 .given .0 .1 .0 < 12)
 low c =
     let g = c .plan2 .given in
     let o = c .before .before in
     let b = o .before .before .before .before .before in
-    writes-low (b .args .state) (b .pre .0) _ (g .0 .0) (g .0 .1 .0) (g .0 .1 .1 .0) (g .0 .1 .1 .1 .0) (g .1) _ (b .pre .1) (o .plan-remove .ensures .1 .0)
+    writes-low (b .args .state) (b .pre .0) _ (g .0 .0) (g .0 .1 .0) (g .0 .1 .1 .0) (g .0 .1 .1 .1 .0) (g .0 .1 .1 .1 .1 .0) (g .1) _ (b .pre .1) (o .plan-remove .ensures .1 .0)
 
 -- the plan that was gone by
 abbrev gone : tie.After-one-less → tie.After-plan2
@@ -40,7 +41,7 @@ returns c =
     let h = o .before .before .before in
     let a = h .before .before .args in
     remove-none (a .state) _ (h .shape .ensures .0) (now (a .area)) (a .key) _ (o .plan-remove .ensures .0) (g .0 .0) (g .0 .1 .0) (g .0 .1 .1 .0)
-    (g .0 .1 .1 .1 .0) (g .1) (c .if1 .taken)
+    (g .0 .1 .1 .1 .0) (g .0 .1 .1 .1 .1 .0) (g .1) (c .if1 .taken)
 
 draw-back-requires : tie.Need-draw-back-requires
 draw-back-requires c κs =
@@ -50,8 +51,9 @@ draw-back-requires c κs =
     let h = o .before .before .before in
     let b = h .before .before in
     let w = low k in
-    let formed = pages-formed (b .args .state) (b .pre .0) _ (g .0 .0) (g .0 .1 .0) (g .0 .1 .1 .0) (g .0 .1 .1 .1 .0) (g .1) (now (b .args .area)) (o .plan-remove .ensures .1 .1) in
-    (w .0, w .1, w .2, h .shape .ensures .1, formed)
+    let formed = pages-formed (b .args .state) (b .pre .0) _ (g .0 .0) (g .0 .1 .0) (g .0 .1 .1 .0) (g .0 .1 .1 .1 .0) (g .0 .1 .1 .1 .1 .0) (g .1) (now (b .args .area)) (o .plan-remove .ensures .1 .1) in
+    let told = seams-told (b .args .state) (b .pre .0) _ (g .0 .0) (g .0 .1 .0) (g .0 .1 .1 .0) (g .0 .1 .1 .1 .0) (g .0 .1 .1 .1 .1 .0) (g .1) (homeIn (h .shape .result)) (now (b .args .area)) (o .plan-remove .ensures .1 .2) in
+    ((w .0, w .1, w .2, h .shape .ensures .1, w .3), (formed, told))
 
 wrote-requires : tie.Need-wrote-requires
 wrote-requires c κs = let w = low (gone c) in (w .0, w .1)
@@ -74,7 +76,7 @@ returns-3 d =
     let h = o .before .before .before in
     let a = h .before .before .args in
     rw (d .wrote .ensures) (remove-goes (a .state) _ (h .shape .ensures .0) (now (a .area)) (a .key) _ (o .plan-remove .ensures .0) (g .0 .0) (g .0 .1 .0) (g .0 .1 .1 .0)
-    (g .0 .1 .1 .1 .0) (g .1) (l .if1 .left) _ (p .draw-back .ensures) _ (c .one-less .ensures))
+    (g .0 .1 .1 .1 .0) (g .0 .1 .1 .1 .1 .0) (g .1) (l .if1 .left) _ (p .draw-back .ensures) _ (c .one-less .ensures))
 
 pub remove-open-spec : {M : Type 1} → statement M
 remove-open-spec =

@@ -54,7 +54,7 @@ returns c =
     let e = u .before .before .before .before in
     let s = e .before .before .before .before .before in
     let w = e .before .before .before .width .ensures in
-    closed-twice (s .args .layout) (now (s .args .part)) (s .args .at) (s .pre .0) (s .pre .1) _ _
+    closed-twice (s .args .layout) (now (s .args .part)) (s .args .at) (s .pre .0) (s .pre .1) _ _ _
     (rw (behind (e .before .before), w) at (e .shift-down .ensures)) (rw w at (u .put .ensures))
 
 pub close-slot-spec : {M : Type 1} → statement M

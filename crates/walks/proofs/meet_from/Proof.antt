@@ -12,16 +12,16 @@ use Rattle.homes.specs.Homes.{homeIn}
 use Rattle.pages.specs.Page.{value}
 use Rattle.walks.specs.Walks.{walk}
 use Rattle.walks.specs.steps.Plans.{slots, held}
-use Rattle.walks.proofs.Scanning.{ToScan, Rows, Tested, left-all, slot-upto, slot-after, slot-used, slot-hit, slot-on}
-use Rattle.walks.proofs.Meeting.{home-fits, Seen, page-few, page-rows, walkLeft, walk-starts, walk-past, walk-sick, walk-found, walk-ends, walk-on}
+use Rattle.walks.proofs.Scanning.{ToScan, Rows, Tested, left-all, slot-after, slot-used, slot-hit, slot-on}
+use Rattle.walks.proofs.Meeting.{home-fits, Seen, page-few, page-last, page-rows, walkLeft, walk-starts, walk-past, walk-sick, walk-found, walk-ends, walk-on, walk-told}
 use Rattle.walks.proofs.meet_from.Statement.{statement}
 use Rattle.walks.proofs.meet_from.Tie as tie
 
 abbrev Inv-loop : tie.InvT-loop
-Inv-loop area cap shape home key a read count keys homes slot₀ slot = ToScan (homeIn shape) key (held area a) slot
+Inv-loop area cap shape home key a read count keys homes last slot₀ slot = ToScan (homeIn shape) key (held area a) slot
 
 abbrev μ-loop : tie.MeasureT-loop
-μ-loop area cap shape home key a read count keys homes slot₀ slot = slots - slot
+μ-loop area cap shape home key a read count keys homes last slot₀ slot = slots - slot
 
 abbrev Inv-pages : tie.InvT-pages
 Inv-pages area cap shape home key a₀ read₀ a read =
@@ -88,8 +88,9 @@ pages-again c =
 returns : tie.Need-returns Inv-loop μ-loop Inv-pages μ-pages
 returns c =
     let s = c .before .before .before in (
-      walk-past (homeIn (s .args .shape)) (now (s .args .area)) (s .args .cap) (s .args .key) (c .before .pages .a) (c .before .pages .read) (c .if1 .taken)
-          ∙ c .before .pages .inv .2,
+      walk-told (homeIn (s .args .shape)) (now (s .args .area)) _ _ 0
+          (walk-past (homeIn (s .args .shape)) (now (s .args .area)) (s .args .cap) (s .args .key) (c .before .pages .a) (c .before .pages .read) (c .if1 .taken)
+          ∙ c .before .pages .inv .2) refl,
       omega arith,
     )
 
@@ -98,7 +99,7 @@ returns-2 c =
     let j = c .before .before in
     let w = j .before .before in
     let s = w .before .before in
-    (walk-sick (seen j) (s .args .key) (w .pages .read) (not-true _ (c .if2 .taken)) ∙ w .pages .inv .2, (omega arith, omega arith))
+    (walk-told (homeIn (s .args .shape)) (now (s .args .area)) _ _ 0 (walk-sick (seen j) (s .args .key) (w .pages .read) (not-true _ (c .if2 .taken)) ∙ w .pages .inv .2) refl, (omega arith, omega arith))
 
 returns-3 : tie.Need-returns-3 Inv-loop μ-loop Inv-pages μ-pages
 returns-3 c =
@@ -108,9 +109,10 @@ returns-3 c =
     let w = j .before .before in
     let s = w .before .before in
     let t = tested b in (
-      walk-ends (seen j) (s .args .key) (w .pages .read) (good d) (rows d) (t .small) (t .left) (slot-after t (c .if3 .taken)) (b .before .loop-test .taken)
-          ∙ w .pages .inv .2,
-      (j .before .if1 .left, slot-upto t, page-few (seen j) (good d), omega arith, omega arith),
+      walk-told (homeIn (s .args .shape)) (now (s .args .area)) _ _ _
+          (walk-ends (seen j) (s .args .key) (w .pages .read) (good d) (rows d) (t .small) (t .left) (slot-after t (c .if3 .taken)) (b .before .loop-test .taken)
+          ∙ w .pages .inv .2) (page-last (seen j) (good d)),
+      (j .before .if1 .left, b .before .loop-test .taken, page-few (seen j) (good d), omega arith, omega arith),
     )
 
 returns-4 : tie.Need-returns-4 Inv-loop μ-loop Inv-pages μ-pages
@@ -122,7 +124,9 @@ returns-4 c =
     let s = w .before .before in
     let t = tested b in
     let used = c .before .before .if3 .left in (
-      walk-found (seen j) (s .args .key) (w .pages .read) (good d) _ _ (slot-hit t used (c .before .if4 .taken) _ (ap value (c .record-at .ensures))) ∙ w .pages .inv .2,
+      walk-told (homeIn (s .args .shape)) (now (s .args .area)) _ _ _
+          (walk-found (seen j) (s .args .key) (w .pages .read) (good d) _ _ (slot-hit t used (c .before .if4 .taken) _ (ap value (c .record-at .ensures))) ∙ w .pages .inv .2)
+          (page-last (seen j) (good d)),
       (j .before .if1 .left, slot-used t used, page-few (seen j) (good d), omega arith),
     )
 
@@ -136,6 +140,9 @@ meet-from-spec =
     μ-pages
     pages-holds
     (λ c κs. search needs)
+    (λ c. search needs)
+    (λ c. search needs)
+    (λ c. search needs)
     (λ c. search needs)
     loop-holds
     (λ c. search needs)

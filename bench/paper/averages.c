@@ -5,7 +5,7 @@
 
 // The sizes looked at are evenly spaced over the full expansion. Each loading takes its own, between those of the
 // others, so that all together are the more.
-static int size_at(struct effort effort, int loading, int point) {
+int size_at(struct effort effort, int loading, int point) {
     int all = effort.loadings * effort.points;
     int place = point * effort.loadings + loading;
     return FIRST + FIRST * (2 * place + 1) / (2 * all);
@@ -46,7 +46,7 @@ static struct cost counted_loading(struct kind kind, struct effort effort, int l
     return over(sum, effort.points);
 }
 
-static struct figure figure(double sum, double squares, int count) {
+struct figure figure(double sum, double squares, int count) {
     double mean = sum / count;
     double variance = (squares / count - mean * mean) / (count - 1);
     return (struct figure){mean, variance > 0 ? __builtin_sqrt(variance) : 0};
@@ -63,7 +63,7 @@ static struct cost squared(struct cost a) {
 
 static struct averages product_measured(struct kind kind, struct effort effort) {
     struct cost sum = {0, 0, 0}, squares = {0, 0, 0};
-    bool named = same_kind(kind, (struct kind){2, 5, 8});
+    bool named = same_kind(kind, (struct kind){2, 5, 80});
     for (int loading = 0; loading < effort.loadings; loading++) {
         bool grown = effort.grown == GROWN_ALL || (effort.grown == GROWN_ONE && named && loading == 0);
         struct cost cost = product_loading(kind, effort, loading, grown);

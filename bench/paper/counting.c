@@ -53,7 +53,7 @@ static int counted_search(const int counts[COUNTED], int slots, int home) {
 // The costs in Larson's placement; an unsuccessful search is by his rule.
 struct cost counted_at(struct kind kind, uint64_t loading, int pages, int slots) {
     static int counts[COUNTED];
-    int records = kind.tenths * slots * pages / 10 + 1;
+    int records = kind.hundredths * slots * pages / 100 + 1;
     const struct reefcushion_slip state = state_of(kind, pages);
     count_homes(counts, &state, loading, records);
     double hit = 1 + (double)spread(counts, slots) / records;

@@ -4,20 +4,13 @@
 #include "../common/grouped.h"
 #include "paper.h"
 
-// Every record is sought once, so the figures for successful searches are exact.
 static void print_row(struct file *file) {
-    const uint32_t records = file->slip.records;
-    const struct cost cost = searched(file);
-    long read = 0;
-    int most = 0;
-    for (uint32_t place = 0; place < records; place++) {
-        int pages = search_held(file, place);
-        read += pages;
-        most = pages > most ? pages : most;
-    }
+    struct reads held = {0, 0, 0}, absent = {0, 0, 0}, by_his_rule = {0, 0, 0};
+    search_all_held(file, &held);
+    search_absent(file, &absent, &by_his_rule);
     printf("| %s | %d | %s | %.3f | %d | %.3f | %.3f | %u |\n", grouped(file->slip.pages),
-           file->slip.edition_less_1 + 1, grouped(records), (double)read / records, most, cost.miss, cost.his,
-           longest_full_run(file->area, file->slip.cap));
+           file->slip.edition_less_1 + 1, grouped(file->slip.records), mean_read(held), held.most, mean_read(absent),
+           mean_read(by_his_rule), longest_full_run(file->area, file->slip.cap));
 }
 
 void print_editions(void) {

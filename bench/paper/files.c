@@ -38,9 +38,9 @@ static void grow_page(struct file *file) {
 // The product tells when the load passes 0.8. For other loads the harness goes by the same rule in whole numbers.
 static bool over_load(const struct file *file) {
     const struct reefcushion_slip *slip = &file->slip;
-    if (file->kind.tenths == 8)
+    if (file->kind.hundredths == 80)
         return reefcushion_due(slip, sizeof *slip) == 1;
-    return 10 * slip->records > (uint32_t)(file->kind.tenths * SLOTS * slip->pages);
+    return 100 * slip->records > (uint32_t)(file->kind.hundredths * SLOTS * slip->pages);
 }
 
 // Puts the loading's next keys until a growth is due. A record's value is its place in the loading.
@@ -83,7 +83,7 @@ void lay_file(struct file *file, struct kind kind, uint64_t loading, int pages) 
 
 // The same with keys that run upward, from sixteen pages on and with all pages lent that there can be.
 void lay_upward(struct file *file, uint16_t edition, int pages) {
-    format_as(file, (struct kind){2, 5, 8}, 8, MOST_PAGES, edition);
+    format_as(file, (struct kind){2, 5, 80}, 8, MOST_PAGES, edition);
     file->loading = UPWARD;
     while (file->slip.pages < pages)
         grow_page(file);

@@ -30,7 +30,7 @@ static void print_successful(const struct row rows[ROWS]) {
     puts("|--:|--:|--:|--:|--:|--:|");
     for (int i = 0; i < ROWS; i++) {
         const struct row *r = &rows[i];
-        printf("| %d | 0.%d | %.2f | %.3f ± %.3f | %.2f | %.2f |\n", r->kind.n0, r->kind.tenths, r->his[0]->hit,
+        printf("| %d | %g | %.2f | %.3f ± %.3f | %.2f | %.2f |\n", r->kind.n0, load_of(r->kind), r->his[0]->hit,
                r->ours.hit.mean, r->ours.hit.error, r->his[1]->hit, r->his[2]->hit);
     }
 }
@@ -41,7 +41,7 @@ static void print_unsuccessful(const struct row rows[ROWS]) {
     puts("|--:|--:|--:|--:|--:|--:|--:|");
     for (int i = 0; i < ROWS; i++) {
         const struct row *r = &rows[i];
-        printf("| %d | 0.%d | %.2f | %.3f ± %.3f | %.2f | %.2f | %.3f ± %.3f |\n", r->kind.n0, r->kind.tenths,
+        printf("| %d | %g | %.2f | %.3f ± %.3f | %.2f | %.2f | %.3f ± %.3f |\n", r->kind.n0, load_of(r->kind),
                r->his[0]->miss, r->ours.his.mean, r->ours.his.error, r->his[1]->miss, r->his[2]->miss,
                r->ours.miss.mean, r->ours.miss.error);
     }
@@ -111,7 +111,7 @@ static void print_counted(const struct row rows[ROWS], bool successful) {
     puts("|--:|--:|--:|--:|--:|--:|--:|--:|");
     for (int i = 0; i < ROWS; i++) {
         const struct row *r = &rows[i];
-        printf("| %d | 0.%d |", r->kind.n0, r->kind.tenths);
+        printf("| %d | %g |", r->kind.n0, load_of(r->kind));
         for (int j = 0; j < 3; j++) {
             struct figure f = successful ? r->counted[j].hit : r->counted[j].miss;
             printf(" %.3f ± %.3f | %.2f |", f.mean, f.error, successful ? r->his[j]->hit : r->his[j]->miss);
@@ -144,7 +144,7 @@ static void print_counted_in_words(const struct row rows[ROWS]) {
 void print_loads(struct effort effort) {
     static struct row rows[ROWS];
     for (int i = 0; i < ROWS; i++)
-        measure(&rows[i], (struct kind){2 + i / 3, 5, 7 + i % 3}, effort);
+        measure(&rows[i], (struct kind){2 + i / 3, 5, 70 + 10 * (i % 3)}, effort);
     print_successful(rows);
     print_successful_in_words(rows);
     print_unsuccessful(rows);

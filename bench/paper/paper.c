@@ -23,7 +23,7 @@ static void print_head(struct effort effort) {
            "to 2,000), each at the moment when the next growth is due. Growing whenever it is due would take a check "
            "of the whole file each time. So an empty file is grown to each size, puts fill it until the next growth is "
            "due, and check has to accept it: as there is one image only, which is proved, these are the bytes that "
-           "growing as he did gives. The end of this part says for which files that was done and compared.\n\n",
+           "growing as he did gives. Which files were grown as well, and compared, is said below the tables.\n\n",
            grouped(FIRST), grouped(2 * FIRST));
     printf("Each figure is the mean of %d loadings, each looked at in %d sizes, %d sizes in all, evenly spaced; at "
            "each size there are %s searches for held records and %s for keys never put. After ± stands the standard "
@@ -40,7 +40,7 @@ static void print_grown(struct effort effort) {
         printf("%s page by page from %d pages on as well, whenever that was due: at each size looked at, the bytes "
                "were the same.\n",
                effort.grown == GROWN_ALL
-                   ? "Each of our files with random keys in the tables was grown"
+                   ? "Each of our files with random keys in the tables above was grown"
                    : "Of our files, those of the first loading at n0 2, s 5, load 0.8, and no others, were grown",
                START);
 }
@@ -57,13 +57,13 @@ static void print_plot(const char *name, struct effort effort) {
 }
 
 static void print_in_short(struct effort effort) {
-    const struct kind kind = {2, 5, 8};
+    const struct kind kind = {2, 5, 80};
     struct averages ours = product_averages(kind, effort);
     const struct larson *ten = larson(2, kind, 10), *twenty = larson(2, kind, 20);
-    printf("\nIn short: at load 0.%d (n0 %d, s %d) a successful search reads %.2f pages of %d records on average, "
+    printf("\nIn short: at load %g (n0 %d, s %d) a successful search reads %.2f pages of %d records on average, "
            "where Larson has %.2f for pages of 10 and %.2f for pages of 20; an unsuccessful one reads %.2f, where he "
            "has %.2f and %.2f, since records stand in order here.\n",
-           kind.tenths, kind.n0, kind.sweeps, ours.hit.mean, SLOTS, ten->hit, twenty->hit, ours.miss.mean, ten->miss,
+           load_of(kind), kind.n0, kind.sweeps, ours.hit.mean, SLOTS, ten->hit, twenty->hit, ours.miss.mean, ten->miss,
            twenty->miss);
 }
 
@@ -108,5 +108,7 @@ int main(int words, char **word) {
     print_editions();
     print_grown(effort);
     print_in_short(effort);
+    print_separators(effort);
+    print_control(effort);
     return 0;
 }

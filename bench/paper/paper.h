@@ -19,10 +19,14 @@ enum {
     MOST_SWEEPS = 8,
 };
 
-// One cell of a table: pages a group, sweeps, and the load in tenths.
+// One cell of a table: pages a group, sweeps, and the load in hundredths.
 struct kind {
-    int n0, sweeps, tenths;
+    int n0, sweeps, hundredths;
 };
+
+static inline double load_of(struct kind kind) {
+    return kind.hundredths / 100.0;
+}
 
 // How much is run. Of the grown files, those made through `grow` page by page, there are none, those of one loading, or
 // all.
@@ -80,7 +84,15 @@ void must_be_same(const struct file *left, const struct file *right);
 int records_on(const struct file *file, int page);
 
 // searches.c
-int search_held(struct file *file, uint32_t place);
+struct reads {
+    long searches, pages;
+    int most;
+};
+void add_read(struct reads *reads, int pages);
+double mean_read(struct reads reads);
+uint64_t absent_key(const struct file *file, uint64_t i);
+void search_all_held(struct file *file, struct reads *reads);
+void search_absent(struct file *file, struct reads *reads, struct reads *by_his_rule);
 struct cost searched(struct file *file);
 
 // counting.c
@@ -89,6 +101,8 @@ void must_be_counted(const struct file *file);
 struct cost counted_at(struct kind kind, uint64_t loading, int pages, int slots);
 
 // averages.c
+int size_at(struct effort effort, int loading, int point);
+struct figure figure(double sum, double squares, int count);
 struct averages product_averages(struct kind kind, struct effort effort);
 struct averages counted_averages(struct kind kind, struct effort effort, int slots);
 void product_curve(struct kind kind, struct effort effort, struct cost curve[CURVE + 1]);
@@ -103,10 +117,14 @@ struct larson {
 bool same_kind(struct kind a, struct kind b);
 const struct larson *larson(int table, struct kind kind, int slots);
 
-// sweeps.c, loads.c, editions.c: tables in Markdown, and what they come to in words
+// sweeps.c, loads.c, editions.c, separators.c: tables in Markdown, and what they come to in words
 void print_sweeps(struct effort effort);
 void print_loads(struct effort effort);
 void print_editions(void);
+void print_separators(struct effort effort);
+
+// control.c: words only
+void print_control(struct effort effort);
 
 // plot.c
 void plot(const char *name, struct effort effort);

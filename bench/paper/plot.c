@@ -172,8 +172,8 @@ void plot(const char *name, struct effort effort) {
     FILE *out = fopen(name, "w");
     if (!out)
         stop("the plot's file can't be written", 0);
-    product_curve((struct kind){2, 2, 8}, effort, two);
-    product_curve((struct kind){2, 4, 8}, effort, four);
+    product_curve((struct kind){2, 2, 80}, effort, two);
+    product_curve((struct kind){2, 4, 80}, effort, four);
     draw(out, two, four, effort.loadings);
     if (fclose(out) != 0)
         stop("the plot isn't written whole", 0);

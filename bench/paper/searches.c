@@ -2,6 +2,16 @@
 // same file.
 #include "paper.h"
 
+void add_read(struct reads *reads, int pages) {
+    reads->searches++;
+    reads->pages += pages;
+    reads->most = pages > reads->most ? pages : reads->most;
+}
+
+double mean_read(struct reads reads) {
+    return (double)reads.pages / (double)reads.searches;
+}
+
 static bool stands_on(const struct file *file, int page, uint64_t key) {
     for (int slot = 0; slot < records_on(file, page); slot++) {
         const uint8_t *at = file->area + page_start((uint32_t)page) + HEAD_BYTES + SLOT_BYTES * slot;
@@ -13,7 +23,7 @@ static bool stands_on(const struct file *file, int page, uint64_t key) {
 
 // Searches for a record held. It has to be found with its value, on the page that the pages read lead to from the
 // harness's own home.
-int search_held(struct file *file, uint32_t place) {
+static int search_held(struct file *file, uint32_t place) {
     struct reefcushion_slip *slip = &file->slip;
     uint64_t key = key_at(file->loading, place);
     if (reefcushion_find(slip, sizeof *slip, file->area, lent_bytes(file), key) != 0 || slip->value != place)
@@ -33,25 +43,30 @@ static int to_a_page_not_full(const struct file *file, int home) {
     return page - home + 1;
 }
 
+// Every record is sought once, so what comes of it is exact.
+void search_all_held(struct file *file, struct reads *reads) {
+    for (uint32_t place = 0; place < file->slip.records; place++)
+        add_read(reads, search_held(file, place));
+}
+
 static double hits(struct file *file) {
-    long read = 0;
+    struct reads reads = {0, 0, 0};
     for (uint64_t i = 0; i < SEARCHES; i++) {
         uint64_t choice = number_at(file->loading, HIT_CHOICES, SEARCHES * (uint64_t)file->slip.pages + i);
-        read += search_held(file, (uint32_t)(choice % file->slip.records));
+        add_read(&reads, search_held(file, (uint32_t)(choice % file->slip.records)));
     }
-    return (double)read / SEARCHES;
+    return mean_read(reads);
 }
 
 // A key never put: any, or where keys run upward one of those that come next.
-static uint64_t absent_key(const struct file *file, uint64_t i) {
+uint64_t absent_key(const struct file *file, uint64_t i) {
     if (file->loading == UPWARD)
         return key_at(UPWARD, file->slip.records + i);
     return number_at(file->loading, MISS_KEYS, SEARCHES * (uint64_t)file->slip.pages + i);
 }
 
-struct cost searched(struct file *file) {
+void search_absent(struct file *file, struct reads *reads, struct reads *by_his_rule) {
     struct reefcushion_slip *slip = &file->slip;
-    long read = 0, his = 0;
     for (uint64_t i = 0; i < SEARCHES; i++) {
         uint64_t key = absent_key(file, i);
         if (reefcushion_find(slip, sizeof *slip, file->area, lent_bytes(file), key) != REEFCUSHION_ABSENT)
@@ -59,8 +74,13 @@ struct cost searched(struct file *file) {
         int further = to_a_page_not_full(file, (int)home_of(slip, key));
         if ((int)slip->read > further)
             stop("a search went beyond a page that isn't full", slip->read);
-        read += slip->read;
-        his += further;
+        add_read(reads, (int)slip->read);
+        add_read(by_his_rule, further);
     }
-    return (struct cost){hits(file), (double)read / SEARCHES, (double)his / SEARCHES};
+}
+
+struct cost searched(struct file *file) {
+    struct reads absent = {0, 0, 0}, by_his_rule = {0, 0, 0};
+    search_absent(file, &absent, &by_his_rule);
+    return (struct cost){hits(file), mean_read(absent), mean_read(by_his_rule)};
 }

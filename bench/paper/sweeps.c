@@ -121,7 +121,7 @@ static void print_in_words(const struct row rows[MOST_SWEEPS + 1]) {
     printf("\nCounted at 20, his successful searches come out at most %.1f %% off his figures, and the unsuccessful "
            "ones at most %.1f %% off for two sweeps and more; for one sweep %.1f %%.\n",
            t.hit_apart, t.miss_apart, t.one_apart);
-    const struct larson *there = larson(2, (struct kind){2, 5, 8}, 20);
+    const struct larson *there = larson(2, (struct kind){2, 5, 80}, 20);
     if (there && rows[5].his)
         printf("His Tables I and II meet in one cell, at five sweeps: they say %.2f and %.2f for a successful search, "
                "%.2f and %.2f for an unsuccessful one.\n",
@@ -135,7 +135,7 @@ static void print_two(struct effort effort) {
          "| his, 20 |");
     puts("|--:|--:|--:|--:|--:|--:|--:|--:|");
     for (int s = 1; s <= MOST_SWEEPS; s++) {
-        struct kind kind = {2, s, 8};
+        struct kind kind = {2, s, 80};
         rows[s] = (struct row){product_averages(kind, effort), counted_averages(kind, effort, 20), larson(1, kind, 20)};
         print_row(s, &rows[s]);
     }
@@ -149,7 +149,7 @@ static void print_three(struct effort effort) {
     puts("| s | successful: ours, 12 | unsuccessful: ours, 12 | by his rule, 12 |");
     puts("|--:|--:|--:|--:|");
     for (int s = 1; s <= MOST_SWEEPS; s++) {
-        struct averages o = product_averages((struct kind){3, s, 8}, effort);
+        struct averages o = product_averages((struct kind){3, s, 80}, effort);
         rows[s] = (struct row){o, o, NULL};
         printf("| %d | %.3f ± %.3f | %.3f ± %.3f | %.3f ± %.3f |\n", s, o.hit.mean, o.hit.error, o.miss.mean,
                o.miss.error, o.his.mean, o.his.error);

@@ -29,11 +29,11 @@ module _ (takes : ℕ → Bool) (area : List ℕ) (to a : ℕ) where
     left : top - j ≡ suc (top - (j + 1))
     left = omega arith
 
-    pub goes : takes (key (seat area to a j .held)) ≡ true → going takes area to a (top - j) j ≡ (seat area to a j ∷ []) ++ going takes area to a (top - (j + 1)) (j + 1)
+    goes : takes (key (seat area to a j .held)) ≡ true → going takes area to a (top - j) j ≡ (seat area to a j ∷ []) ++ going takes area to a (top - (j + 1)) (j + 1)
     unfolding going
     goes e = rw (left, e, add-one)
 
-    pub stays : takes (key (seat area to a j .held)) ≡ false → going takes area to a (top - j) j ≡ going takes area to a (top - (j + 1)) (j + 1)
+    stays : takes (key (seat area to a j .held)) ≡ false → going takes area to a (top - j) j ≡ going takes area to a (top - (j + 1)) (j + 1)
     unfolding going
     stays e = rw (left, e, add-one)
 

@@ -42,6 +42,7 @@ module _ {was h : ℕ → ℕ} {gives takes : ℕ → Bool} {P : ℕ} (g : Grows
     stays-here : (k : ℕ) → was k ≡ a → h k ≡ was k
     stays-here k e = g .given k ∙ rw (e, off)
 
+  -- from one that gives, those go that are taken
   module _ (a : ℕ) (on : gives a ≡ true) where
     goes-here : (k : ℕ) → was k ≡ a → h k ≡ cond (takes k) P a
     goes-here k e = g .given k ∙ rw (e, on)

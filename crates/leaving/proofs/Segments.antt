@@ -14,6 +14,7 @@ use Rattle.placing.specs.Lay.{one, upTo, Sorted}
 use Rattle.placing.specs.Rows.{atHome}
 use Rattle.placing.specs.steps.Packed.{Packed}
 use Rattle.placing.proofs.Lists.{all-map, all-append, all-right, count-le, upTo-append, upTo-all, upTo-none}
+use Rattle.placing.proofs.Keeping.{count-none}
 use Rattle.placing.proofs.Order.{sorted-drop}
 use Rattle.placing.proofs.Packed.{takes}
 use Rattle.rebuild.specs.steps.Rebuild.{slots}
@@ -21,9 +22,8 @@ use Rattle.rebuild.proofs.Packing.{partsFrom}
 
 module _ {R : Type 0} (home : R → ℕ) where
   -- none is at home at a page below all homes
-  pub none-here : (a : ℕ) (s : List R) → All (λ x. a < home x) s → atHome home a s ≡ 0
-  none-here a [] h = refl
-  none-here a (x ∷ s) h = rw (ne-eqb (home x) a (λ e. omega (arith, h .0))) (omega (arith, none-here a s (h .1)))
+  none-here : (a : ℕ) (s : List R) → All (λ x. a < home x) s → atHome home a s ≡ 0
+  none-here a s h = count-none (λ x. eqb (home x) a) s (all-map (λ x. a < home x) (λ x. eqb (home x) a ≡ false) (λ x k. ne-eqb (home x) a (λ e. omega arith)) s h)
 
   -- where no home is below a, those up to a are those at a
   up-here : (a : ℕ) (s : List R) → All (λ x. a ≤ home x) s → upTo home a s ≡ atHome home a s
@@ -42,7 +42,7 @@ onward part n a = cat (partsFrom part n a) []
 
 module _ {R : Type 0} (home : R → ℕ) (part : ℕ → List R) where
   -- of those with a home up to a₀, place j is a slot of the page that j counts to, since the pages before it are full
-  pub place : (a₀ n a j : ℕ) (d : R) → a₀ ≤ a → Packed home slots a (partsFrom part n a) [] → j < upTo home a₀ (onward part n a)
+  place : (a₀ n a j : ℕ) (d : R) → a₀ ≤ a → Packed home slots a (partsFrom part n a) [] → j < upTo home a₀ (onward part n a)
       → getD (onward part n a) j d ≡ getD (part (a + j / slots)) (j % slots) d
   place a₀ zero a j d l i h = absurd (omega arith)
   place a₀ (suc n) a j d l i h = go (decLt j slots) (decLt j (length (part a))) (decLt (length (part a)) slots) (place a₀ n (suc a) (j - slots) d (omega arith) (i .3))
@@ -76,7 +76,7 @@ module _ {R : Type 0} (home : R → ℕ) (part : ℕ → List R) where
 
 module _ {R : Type 0} (rank home : R → ℕ) (mono : (x y : R) → rank x ≤ rank y → home x ≤ home y) where
   -- in order, those at the lowest home come first
-  pub first-here : (a : ℕ) (s : List R) → Sorted rank s → All (λ x. a ≤ home x) s
+  first-here : (a : ℕ) (s : List R) → Sorted rank s → All (λ x. a ≤ home x) s
       → All (λ x. home x ≡ a) (take (atHome home a s) s) × All (λ x. a < home x) (drop (atHome home a s) s)
   first-here a [] o h = (tt, tt)
   first-here a (x ∷ s) o h = go (eqb (home x) a) refl (first-here a s (o .1) (h .1))
@@ -119,7 +119,7 @@ module _ {R : Type 0} (rank home : R → ℕ) (mono : (x y : R) → rank x ≤ r
   abbrev rest′ : List R
   rest′ = onward part (cap - suc a) (suc a)
 
-  -- how many are at home here, and how many more of a lower home lie from the next page on
+  -- how many are at home here
   abbrev here : ℕ
   here = atHome home a (drop over rest)
 
@@ -138,7 +138,7 @@ module _ {R : Type 0} (rank home : R → ℕ) (mono : (x y : R) → rank x ≤ r
       let first : upTo home a (take over rest) ≡ length (take over rest) = upTo-all home a (take over rest) (all-map (λ x. home x < a) (λ x. home x ≤ a) (λ x k. omega arith) (take over rest) (s .low)) in
       omega (arith, rw (take-append-drop over rest) at both, first, length-take-le over rest (s .many), up-here home a (drop over rest) (s .high))
 
-  -- those at home here
+  -- all of them lie from the page on, at their places
   pub few : over + here ≤ length rest
   few = omega (arith, count-le (λ x. eqb (home x) a) (drop over rest), length-drop over rest, s .many)
 

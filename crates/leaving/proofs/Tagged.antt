@@ -36,7 +36,7 @@ module _ (h : ℕ → ℕ) (area : List ℕ) where
   tagged-onward zero a = refl
   tagged-onward (suc n) a = ap (λ (es : List Entry). taggedOn h area a ++ es) (tagged-onward n (suc a))
 
-  pub onward-records : (n a : ℕ) → map recordIn (onward (taggedOn h area) n a) ≡ cat (heldFrom inUse area n a) []
+  onward-records : (n a : ℕ) → map recordIn (onward (taggedOn h area) n a) ≡ cat (heldFrom inUse area n a) []
   onward-records n a = ap (map recordIn) (tagged-onward n a) ∙ pages-records h a (heldFrom inUse area n a)
 
   pub onward-right : (n a : ℕ) → All (Right h) (onward (taggedOn h area) n a)

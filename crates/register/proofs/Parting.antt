@@ -1,6 +1,6 @@
 -- A growth past its gate: those that go to the new page are found in an image by the counts of homes.
-use mathlib.Core.Path.{_≡_, refl, sym, ap, _∙_}
-use mathlib.Core.Bool.{Bool, true}
+use mathlib.Core.Path.{_≡_, sym, ap, _∙_}
+use mathlib.Core.Bool.{true}
 use mathlib.Core.List.{List, []}
 use Prim.Native.Nat.{ℕ, _+_, _-_, _*_, _/_, _≤_, _<_}
 use native.Mathlib.Omega.{arith}
@@ -12,9 +12,7 @@ use Rattle.layouts.specs.Layout.{inUse}
 use Rattle.homes.specs.declared.Shape.{Shape}
 use Rattle.homes.specs.Homes.{Ready, firstPages, shapeOf, homeIn}
 use Rattle.placing.specs.Image.{cat}
-use Rattle.placing.specs.Lay.{rankIn, Sorted}
 use Rattle.placing.specs.Rows.{counts, strayed}
-use Rattle.placing.specs.steps.Packed.{Packed}
 use Rattle.placing.proofs.Tidy.{Tidy, image-tidy}
 use Rattle.pages.specs.Page.{key, homeFor}
 use Rattle.pages.specs.Area.{heldFrom, areaFrom}

@@ -118,6 +118,6 @@ pub(crate) fn grow_entered(state: State, area: &mut [u8], row: &mut [u32]) -> Do
 {
     let cap = state.cap as usize;
     let mut counts = [0; 4096];
-    let mut room = [0; 4080];
+    let mut room = [0; 2040];
     grow_counting(state, area, row, &mut counts[..cap], &mut room[..])
 }

@@ -2,7 +2,7 @@
 -- what then stands on the pages from that home on.
 use mathlib.Core.Path.{_≡_, refl, sym, ap, _∙_}
 use mathlib.Core.Bool.{not}
-use mathlib.Core.List.{List, [], _∷_, _++_, map, map-append, append-nil}
+use mathlib.Core.List.{List, _∷_, _++_, map, map-append, append-nil}
 use Prim.Native.Nat.{ℕ, zero, suc, _+_, _-_, _≤_, _<_, min}
 use native.Mathlib.Omega.{arith}
 use native.Mathlib.Decide.{decLe}
@@ -12,7 +12,6 @@ use lib.Seq.{take-all, take-length, drop-length, take-append-le, drop-append-le,
 use Rattle.placing.specs.Image.{All}
 use Rattle.placing.specs.Lay.{upTo, lay}
 use Rattle.placing.proofs.Lists.{all-map, count-le, count-append, upTo-append, upTo-all, upTo-none}
-use Rattle.pages.specs.Page.{Record}
 use Rattle.entries.specs.declared.Entry.{Entry}
 use Rattle.entries.specs.steps.Entries.{home}
 use Rattle.rebuild.specs.steps.Rebuild.{slots, recordIn, hops, hopsFrom}

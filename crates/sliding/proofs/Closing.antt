@@ -1,49 +1,36 @@
 -- The turns of sinking the records that stay: a page that neither loses nor gets one stays as it is,
 -- and any other is filled from where reading stands.
-use mathlib.Core.Path.{_≡_, refl, sym, ap, _∙_}
-use mathlib.Core.Bool.{Bool, true, false, cond, not, _&&_, _||_, false≢true}
-use mathlib.Core.Logic.{_⊎_, inl, inr, ⊎-elim}
-use mathlib.Core.List.{List, [], _∷_, _++_, map, append-assoc, append-nil}
-use Prim.Native.Nat.{ℕ, zero, suc, _+_, _-_, _*_, _^_, _≤_, _<_, min}
-use native.Mathlib.Nat.{zero-add}
+use mathlib.Core.Path.{_≡_, refl, sym, _∙_}
+use mathlib.Core.Bool.{Bool, true, false, cond}
+use mathlib.Core.List.{List, _++_, map, append-nil}
+use Prim.Native.Nat.{ℕ, zero, suc, _+_, _-_, _*_, _≤_, _<_, min}
 use native.Mathlib.Numerals.{add-one}
 use native.Mathlib.Omega.{arith}
 use native.Mathlib.Decide.{decLt}
-use lib.Dec.{leb, ltb, eqb}
-use lib.ListN.{length, take, drop, getD, length-map, length-take, length-drop}
-use lib.Seq.{take-all, take-add, drop-drop, take-append-seam, drop-append-seam}
-use borrow.Author.Tests.{lt-ltb, le-ltb, ltb-true, eq-eqb, eqb-true, eqb-false}
-use Rattle.numbers.proofs.Records.{and-left, and-right}
+use lib.Dec.{leb, ltb}
+use lib.ListN.{length, take, drop, getD, length-drop}
+use lib.Seq.{take-all, drop-drop}
+use borrow.Author.Tests.{lt-ltb, le-ltb, ltb-true}
 use Rattle.layouts.specs.Layout.{inUse}
 use Rattle.placing.specs.Image.{All}
-use Rattle.placing.specs.Lay.{upTo, lay, Sorted}
+use Rattle.placing.specs.Lay.{lay, Sorted}
 use Rattle.placing.specs.Rows.{atHome}
 use Rattle.placing.specs.steps.Keep.{keep}
-use Rattle.placing.proofs.Lists.{all-map, none-of-length, count-le}
-use Rattle.placing.proofs.Order.{sorted-drop}
+use Rattle.placing.proofs.Lists.{all-map, count-le}
 use Rattle.placing.proofs.Keeping.{kept, keep-length}
 use Rattle.placing.proofs.Rows.{below}
-use Rattle.pages.specs.declared.Page.{Page}
-use Rattle.pages.specs.Page.{Record, vacant, pageBytes, inMemory}
-use Rattle.pages.specs.steps.Slots.{recordsOf}
-use Rattle.pages.specs.Area.{partAt, heldFrom, areaFrom, withPage}
-use Rattle.pages.proofs.Areas.{held-length, part-area, with-length}
-use Rattle.pages.proofs.Memory.{page-records}
-use Rattle.pages.proofs.Read.{ready, held-twelve}
+use Rattle.pages.specs.Area.{areaFrom}
 use Rattle.entries.specs.declared.Entry.{Entry}
 use Rattle.entries.specs.steps.Entries.{rank, home}
-use Rattle.rebuild.specs.steps.Rebuild.{slots, tagged, packed, recordIn, hops, hopsFrom}
-use Rattle.rebuild.proofs.Tags.{tagged-length, entries-few}
-use Rattle.rebuild.proofs.Laying.{home-first, with-front, with-beyond}
-use Rattle.rebuild.proofs.Commuting.{tagged-records}
+use Rattle.rebuild.specs.steps.Rebuild.{slots, recordIn, hopsFrom}
+use Rattle.rebuild.proofs.Tags.{entries-few}
+use Rattle.rebuild.proofs.Laying.{home-first}
 use Rattle.sliding.specs.declared.Place.{Place}
-use Rattle.sliding.specs.declared.Pulled.{Pulled}
-use Rattle.sliding.specs.steps.Reading.{held, onward, rest, left, isNext, stayed, unread, unmet, Stands, Stays, Pulls}
-use Rattle.sliding.specs.steps.Closing.{isFrom, calmAt, past, ownAt, stays, staying, leaving, closed, bytesOf, Leaving}
-use Rattle.sliding.proofs.Places.{entryOn, onward-page, rest-first, rest-page, rest-end}
-use Rattle.sliding.proofs.Coherent.{keyIn, gone, reads, next-stays}
-use Rattle.sliding.proofs.Counted.{many, many-waiting, waits-on, later-homes, full-first, home-none}
-use Rattle.sliding.proofs.Onward.{rest-all, rest-holds, rest-distinct, held-same, rest-same}
+use Rattle.sliding.specs.steps.Reading.{onward, rest, left, Stands}
+use Rattle.sliding.specs.steps.Closing.{ownAt, stays, staying, leaving, closed, bytesOf, Leaving}
+use Rattle.sliding.proofs.Coherent.{gone}
+use Rattle.sliding.proofs.Counted.{many, many-waiting, waits-on, later-homes, home-none}
+use Rattle.sliding.proofs.Onward.{rest-all}
 
 -- those that stay from a place on
 abbrev pub stillAt : (ℕ → ℕ) → (P cap : ℕ) → List ℕ → Place → List Entry

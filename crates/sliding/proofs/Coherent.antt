@@ -3,14 +3,13 @@ use mathlib.Core.Path.{_≡_, refl, sym, ap, _∙_}
 use mathlib.Core.Bool.{Bool, true, false, not, false≢true}
 use mathlib.Core.List.{List, [], _∷_}
 use Prim.Native.Nat.{ℕ, zero, suc}
-use native.Mathlib.Omega.{arith}
 use lib.ListN.{take, drop}
 use borrow.Author.Tests.{eq-eqb, ne-eqb}
 use Rattle.placing.specs.Image.{All, Distinct}
 use Rattle.placing.specs.steps.Keep.{keep}
 use Rattle.placing.proofs.Keeping.{all-keep}
 use Rattle.entries.specs.declared.Entry.{Entry}
-use Rattle.sliding.specs.steps.Reading.{isNext, behind, stayed, unread, unmet}
+use Rattle.sliding.specs.steps.Reading.{isNext, stayed, unread, unmet}
 
 -- the key of an entry
 abbrev pub keyIn : Entry → ℕ

@@ -3,7 +3,7 @@ use mathlib.Core.Path.{_≡_, refl, sym, ap, _∙_}
 use mathlib.Core.Bool.{true, not}
 use mathlib.Core.Logic.{_⊎_}
 use mathlib.Core.List.{List, [], _∷_, _++_, map}
-use Prim.Native.Nat.{ℕ, zero, suc, _+_, _-_, _*_, _/_, _^_, _≤_, _<_, min}
+use Prim.Native.Nat.{ℕ, zero, suc, _+_, _-_, _*_, _^_, _≤_, _<_, min}
 use native.Mathlib.Omega.{arith}
 use native.Mathlib.Decide.{decLt}
 use lib.Dec.{eqb}
@@ -12,15 +12,13 @@ use lib.Seq.{drop-cons, drop-length}
 use borrow.Author.Tests.{ltb-true, eqb-true}
 use Rattle.numbers.specs.Little.{Bytes}
 use Rattle.layouts.specs.Layout.{inUse}
-use Rattle.placing.specs.Image.{All, cat, Distinct, RecordSet}
-use Rattle.placing.specs.Lay.{rankIn, sort, upTo, lay, Sorted}
-use Rattle.placing.specs.Rows.{atHome, counts, strayed}
+use Rattle.placing.specs.Image.{All, cat, Distinct}
+use Rattle.placing.specs.Lay.{sort, upTo, lay}
+use Rattle.placing.specs.Rows.{counts, strayed}
 use Rattle.placing.specs.steps.Keep.{keep}
-use Rattle.placing.specs.steps.Packed.{Packed}
 use Rattle.placing.proofs.Lists.{all-map, all-take, all-getD, count-le}
 use Rattle.placing.proofs.Keeping.{all-keep, keep-distinct, kept}
-use Rattle.placing.proofs.Splitting.{movers, split-sort}
-use Rattle.placing.proofs.Perms.{sort-sorted}
+use Rattle.placing.proofs.Splitting.{split-sort}
 use Rattle.placing.proofs.Rows.{counts-at, counts-length}
 use Rattle.pages.specs.Page.{Record, key, homeFor, recordsIn}
 use Rattle.pages.specs.Small.{Small}
@@ -28,11 +26,11 @@ use Rattle.pages.specs.Area.{partAt, heldFrom, areaFrom}
 use Rattle.pages.proofs.Areas.{held-length, area-length, part-area}
 use Rattle.pages.proofs.RoundTrip.{records-bytes}
 use Rattle.entries.specs.declared.Entry.{Entry}
-use Rattle.entries.specs.steps.Entries.{size, entriesIn, rowBytes, rank, home}
+use Rattle.entries.specs.steps.Entries.{entriesIn, rowBytes, rank, home}
 use Rattle.entries.proofs.Entries.{SizedEntry}
 use Rattle.entries.proofs.Rows.{row-length, entries-row}
 use Rattle.rebuild.specs.Relaid.{relaid}
-use Rattle.rebuild.specs.steps.Rebuild.{slots, taggedFrom, packed, recordIn, hopsFrom}
+use Rattle.rebuild.specs.steps.Rebuild.{slots, packed, recordIn, hopsFrom}
 use Rattle.rebuild.proofs.Tags.{entries-few}
 use Rattle.rebuild.proofs.Fitting.{held-fit}
 use Rattle.rebuild.proofs.Laying.{home-first}

@@ -1,8 +1,8 @@
 -- The records from a place on: the next one, the end of a page, and the end of the area.
-use mathlib.Core.Path.{_≡_, refl, sym, ap, _∙_}
-use mathlib.Core.Bool.{Bool, true, false, false≢true}
+use mathlib.Core.Path.{_≡_, refl, ap}
+use mathlib.Core.Bool.{true, false, false≢true}
 use mathlib.Core.List.{List, [], _∷_, _++_}
-use Prim.Native.Nat.{ℕ, zero, suc, _+_, _-_, _*_, _≤_, _<_}
+use Prim.Native.Nat.{ℕ, zero, suc, _+_, _-_, _≤_, _<_}
 use native.Mathlib.Numerals.{add-one}
 use native.Mathlib.Omega.{arith}
 use native.Mathlib.Decide.{decLe}
@@ -10,9 +10,7 @@ use lib.ListN.{length, drop, getD}
 use lib.Dec.{eqb}
 use lib.Seq.{drop-append-seam}
 use Rattle.numbers.specs.Little.{numberAt}
-use Rattle.layouts.specs.Layout.{inUse}
 use Rattle.pages.specs.Page.{Record, vacant}
-use Rattle.pages.specs.Area.{heldFrom}
 use Rattle.entries.specs.declared.Entry.{Entry}
 use Rattle.entries.specs.steps.Entries.{size, entryAt}
 use Rattle.entries.proofs.Reading.{left-first, left-none}

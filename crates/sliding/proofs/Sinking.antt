@@ -1,5 +1,5 @@
 -- A page that is filled from where reading stands.
-use mathlib.Core.Path.{_≡_, refl, sym, ap, _∙_}
+use mathlib.Core.Path.{_≡_, sym, ap, _∙_}
 use mathlib.Core.Bool.{true, not}
 use mathlib.Core.List.{List, _∷_, _++_, map, append-assoc}
 use Prim.Native.Nat.{ℕ, suc, _+_, _-_, _*_, _^_, _≤_, _<_}
@@ -10,7 +10,6 @@ use lib.Dec.{eqb}
 use lib.ListN.{length, take, drop, getD, length-map}
 use borrow.Author.Tests.{ltb-true}
 use Rattle.layouts.specs.Layout.{inUse}
-use Rattle.placing.specs.Lay.{lay}
 use Rattle.placing.specs.steps.Keep.{keep}
 use Rattle.placing.proofs.Lists.{count-le}
 use Rattle.placing.proofs.Order.{sorted-drop}
@@ -27,7 +26,7 @@ use Rattle.rebuild.specs.steps.Rebuild.{slots, recordIn, hops}
 use Rattle.rebuild.proofs.Laying.{home-first, with-front, with-beyond}
 use Rattle.sliding.specs.declared.Place.{Place}
 use Rattle.sliding.specs.declared.Pulled.{Pulled}
-use Rattle.sliding.specs.steps.Reading.{held, rest, left, isNext, stayed, unread, Stands, Stays, Pulls}
+use Rattle.sliding.specs.steps.Reading.{held, rest, left, stayed, unread, Stands, Stays, Pulls}
 use Rattle.sliding.specs.steps.Closing.{stays, Leaving}
 use Rattle.sliding.proofs.Places.{entryOn, rest-first}
 use Rattle.sliding.proofs.Coherent.{keyIn, gone, Reads, reads, next-stays}

@@ -1,7 +1,7 @@
 -- The turns of putting records behind what stands on the pages: one more on a page, or the next page.
 use mathlib.Core.Path.{_≡_, refl, sym, ap, _∙_}
 use mathlib.Core.Bool.{Bool, true, false, not, _&&_}
-use mathlib.Core.List.{List, [], _∷_, _++_, map, append-assoc, append-nil}
+use mathlib.Core.List.{List, [], _∷_, _++_, append-assoc, append-nil}
 use Prim.Native.Nat.{ℕ, zero, suc, _+_, _-_, _*_, _^_, _≤_, _<_}
 use native.Mathlib.Numerals.{add-one}
 use native.Mathlib.Nat.{zero-add}
@@ -29,7 +29,7 @@ use Rattle.entries.specs.declared.Entry.{Entry}
 use Rattle.entries.specs.steps.Entries.{size, entryAt, entriesIn}
 use Rattle.entries.proofs.Entries.{entry-fits}
 use Rattle.entries.proofs.Reading.{left-first, left-none}
-use Rattle.rebuild.specs.steps.Rebuild.{slots, recordIn, hops}
+use Rattle.rebuild.specs.steps.Rebuild.{slots, recordIn}
 use Rattle.sliding.specs.steps.Reading.{left, Whole}
 use Rattle.sliding.specs.steps.Topping.{topped, toppedHops}
 use Rattle.sliding.proofs.Pulling.{one-few}

@@ -1,8 +1,7 @@
 -- A page that stays as it is: reading stands at its start and none of it leaves, or it has no record.
 use mathlib.Core.Path.{_≡_, refl, sym, ap, _∙_}
 use mathlib.Core.Bool.{Bool, true, false, cond, not, _&&_, _||_, false≢true}
-use mathlib.Core.Logic.{_⊎_, inl, inr}
-use mathlib.Core.List.{List, [], _∷_, _++_, map, append-assoc}
+use mathlib.Core.List.{List, [], _∷_, _++_, append-assoc}
 use Prim.Native.Nat.{ℕ, zero, suc, _+_, _-_, _*_, _≤_, _<_}
 use native.Mathlib.Nat.{add-zero, zero-add}
 use native.Mathlib.Numerals.{add-one}
@@ -17,7 +16,6 @@ use Rattle.placing.specs.steps.Keep.{keep}
 use Rattle.placing.proofs.Lists.{none-of-length}
 use Rattle.placing.proofs.Order.{sorted-drop}
 use Rattle.placing.proofs.Rows.{below}
-use Rattle.placing.proofs.Keeping.{keep-append}
 use Rattle.pages.specs.Page.{Record, pageBytes}
 use Rattle.pages.specs.Area.{partAt, heldFrom}
 use Rattle.pages.proofs.Areas.{held-length, part-area}
@@ -32,7 +30,7 @@ use Rattle.sliding.specs.steps.Closing.{isFrom, calmAt, past, stays, Lea
 use Rattle.sliding.proofs.Places.{onward-page, rest-page}
 use Rattle.sliding.proofs.Coherent.{gone}
 use Rattle.sliding.proofs.Onward.{held-same}
-use Rattle.sliding.proofs.Closing.{Closing, stillAt, L, xs, k, homes-next, onto, next-ahead}
+use Rattle.sliding.proofs.Closing.{Closing, stillAt, L, k, homes-next, onto, next-ahead}
 
 -- a page's own records have not moved
 hops-own : (h : ℕ → ℕ) (a : ℕ) (p : List Record) → hops a (tagged h a p) ≡ 0

@@ -1,6 +1,6 @@
 -- `register::growth::grow_parted` meets its contract: those that leave are told apart, and the counts
 -- without them fill the row.
-use mathlib.Core.Path.{_≡_, sym, _∙_}
+use mathlib.Core.Path.{sym, _∙_}
 use native.Mathlib.Omega.{arith}
 use denote.Ref.{now}
 use borrow.Author.Needs.{needs}

@@ -114,11 +114,13 @@ static void print_reasons(void) {
     puts("\nWhere ours is the slower, and why. To work homes out together pays the more the more steps a home takes: "
          "at P 64 there are four, and what a page costs beside them shows: the seeds and first pages of twelve keys, "
          "which go through memory, the inverse that remainders are found by, which C works out once a call, and the "
-         "page itself, which is read into memory as one value. Put and remove judge first and write then, and read "
-         "again what they write. C moves only the records that a growth or a shrink displaces; ours lays all of them "
-         "anew, and works out again the homes of those that lie off their page. C in step draws from step to step, "
-         "which takes shorter products than a table, and holds a page in place, in loops made for the processor's "
-         "registers. A run of ours works out the homes of twelve puts together and for the rest does for each what a "
+         "page itself, which is read into memory as one value. Put and remove judge first and write then, but where "
+         "each page's last record stands before the next page's first they work no home out again. A growth moves the "
+         "records that it has to move, as C does; beside its check it counts homes, looks through those of the pages "
+         "that give to the new one, and at 64 pages clears eighteen kilobytes of counts and room as for 4,096. A shrink "
+         "of ours lays all records anew, and works out again the homes of those that lie off their page. C in step "
+         "draws from step to step, which takes shorter products than a table, and holds a page in place, in loops made "
+         "for the processor's registers. A run of ours works out the homes of twelve puts together and for the rest does for each what a "
          "call does; C works each home out by itself, and looks at the state once a run.");
 }
 
@@ -155,7 +157,8 @@ static void print_in_short(void) {
     const struct cost *find = &at->cost[FIND_HELD], *put = &at->cost[PUT];
     const double *grow = at->grow_to_check.of, *shrink = at->shrink_to_check.of;
     struct verdict to_c = verdict_on(&calls_to_c), in_step = verdict_on(&calls_to_c_in_step),
-                   resize = verdict_on(&resize_to_check);
+                   change = verdict_on(&changes_to_c_in_step), random = verdict_on(&random_growths),
+                   consecutive = verdict_on(&consecutive_growths), shrink_most = verdict_on(&shrinks);
     printf("\nIn short: in a file of %s pages with %s random keys, a find of a held key takes %s ns: %.2f times what "
            "the same walk in C takes, and %.2f times what C in step takes, an expert's C for vectors. A put takes %s "
            "ns, %.2f and %.2f times what they take.\n",
@@ -165,9 +168,13 @@ static void print_in_short(void) {
            "shrinking it by a page as long as %.2f (%.2f, %.2f).\n",
            grow[OURS], grow[C], grow[IN_STEP], shrink[OURS], shrink[C], shrink[IN_STEP]);
     printf("\nIn short: the target of at most %.1f times C is met by %d of %d figures, that of at most %.1f times C in "
-           "step by %d of %d, and that of a growth or a shrink of at most %.1f times check by %d of %d.\n",
-           calls_to_c.most, to_c.met, to_c.all, calls_to_c_in_step.most, in_step.met, in_step.all, resize_to_check.most,
-           resize.met, resize.all);
+           "step by %d of %d, and for puts and removes from 512 pages on that of %.1f times C in step by %d of %d.\n",
+           calls_to_c.most, to_c.met, to_c.all, calls_to_c_in_step.most, in_step.met, in_step.all,
+           changes_to_c_in_step.most, change.met, change.all);
+    printf("\nIn short: a growth should take at most %.1f checks with random keys, which %d of %d figures do, and at most "
+           "%.1f with consecutive ones, which %d of %d do. Of shrinks %d of %d take at most %.1f.\n",
+           random_growths.most, random.met, random.all, consecutive_growths.most, consecutive.met, consecutive.all,
+           shrink_most.met, shrink_most.all, shrinks.most);
 }
 
 int main(int words, char **word) {
@@ -185,8 +192,11 @@ int main(int words, char **word) {
     print_calls();
     print_verdict(&calls_to_c);
     print_verdict(&calls_to_c_in_step);
+    print_verdict(&changes_to_c_in_step);
     print_resize();
-    print_verdict(&resize_to_check);
+    print_verdict(&random_growths);
+    print_verdict(&consecutive_growths);
+    print_verdict(&shrinks);
     print_runs();
     print_verdict(&runs_to_single_calls);
     print_reasons();

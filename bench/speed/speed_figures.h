@@ -27,15 +27,18 @@ extern struct figures figures[FILES];
 typedef double figure(const struct figures *at, int i);
 figure run_to_single_calls, run_to_run;
 
-// What ours should come to at most: figures of each compared file, by name.
+// What ours should come to at most: figures of each file that it is asked of, by name.
 struct target {
+    const char *what;
     double most;
     const char *beside;
     figure *of;
+    bool (*asked)(const struct figures *at);
     const char *const *names;
     int count, places; // how many figures a file has, and decimals a figure
 };
-extern const struct target calls_to_c, calls_to_c_in_step, resize_to_check, runs_to_single_calls;
+extern const struct target calls_to_c, calls_to_c_in_step, changes_to_c_in_step, runs_to_single_calls;
+extern const struct target random_growths, consecutive_growths, shrinks;
 
 // How many of a target's figures meet it, and how many there are.
 struct verdict {

@@ -12,8 +12,34 @@ static double to_c_in_step(const struct figures *at, int call) {
     return at->cost[call].ratio[IN_STEP];
 }
 
-static double to_check(const struct figures *at, int i) {
-    return (i ? at->shrink_to_check : at->grow_to_check).of[OURS];
+static double change_in_step(const struct figures *at, int i) {
+    return to_c_in_step(at, PUT + i); // put, and remove behind it
+}
+
+static double grow_to_check(const struct figures *at, int i) {
+    (void)i;
+    return at->grow_to_check.of[OURS];
+}
+
+static double shrink_to_check(const struct figures *at, int i) {
+    (void)i;
+    return at->shrink_to_check.of[OURS];
+}
+
+static bool any(const struct figures *at) {
+    return at->size.compared;
+}
+
+static bool large(const struct figures *at) {
+    return any(at) && at->size.pages >= 512;
+}
+
+static bool random_keys(const struct figures *at) {
+    return any(at) && at->style == RANDOM;
+}
+
+static bool consecutive_keys(const struct figures *at) {
+    return any(at) && at->style != RANDOM;
 }
 
 double run_to_single_calls(const struct figures *at, int side) {
@@ -25,10 +51,17 @@ double run_to_run(const struct figures *at, int side) {
 }
 
 static const char *const run_name = "pay run";
-const struct target calls_to_c = {1.1, "C", to_c, call_names, CALLS, 2};
-const struct target calls_to_c_in_step = {1.1, "C in step", to_c_in_step, call_names, CALLS, 2};
-const struct target resize_to_check = {1.5, "check", to_check, &call_names[GROW], 2, 2}; // grow, and shrink behind it
-const struct target runs_to_single_calls = {1.0, "single calls", run_to_single_calls, &run_name, 1, 3};
+const struct target calls_to_c = {"each call", 1.1, "C", to_c, any, call_names, CALLS, 2};
+const struct target calls_to_c_in_step = {"each call", 1.1, "C in step", to_c_in_step, any, call_names, CALLS, 2};
+const struct target changes_to_c_in_step = {
+    "put and remove from 512 pages on", 1.4, "C in step", change_in_step, large, &call_names[PUT], 2, 2};
+const struct target random_growths = {
+    "a growth with random keys", 1.2, "check", grow_to_check, random_keys, &call_names[GROW], 1, 2};
+const struct target consecutive_growths = {
+    "a growth with consecutive keys", 1.5, "check", grow_to_check, consecutive_keys, &call_names[GROW], 1, 2};
+const struct target shrinks = {"a shrink", 1.5, "check", shrink_to_check, any, &call_names[SHRINK], 1, 2};
+const struct target runs_to_single_calls = {
+    "a pay run in one call", 1.0, "single calls", run_to_single_calls, any, &run_name, 1, 3};
 
 static int met_by(const struct target *target, const struct figures *at) {
     int met = 0;
@@ -52,7 +85,7 @@ static void print_missed(const struct target *target, const struct figures *at) 
 struct verdict verdict_on(const struct target *target) {
     struct verdict verdict = {0, 0};
     for (const struct figures *at = figures; at < figures + FILES; at++)
-        if (at->size.compared) {
+        if (target->asked(at)) {
             verdict.met += met_by(target, at);
             verdict.all += target->count;
         }
@@ -61,10 +94,11 @@ struct verdict verdict_on(const struct target *target) {
 
 void print_verdict(const struct target *target) {
     struct verdict verdict = verdict_on(target);
-    printf("\nTarget: at most %.1f times %s. Met by %d of %d.", target->most, target->beside, verdict.met, verdict.all);
+    printf("\nTarget for %s: at most %.1f times %s. Met by %d of %d.", target->what, target->most, target->beside,
+           verdict.met, verdict.all);
     puts(verdict.met < verdict.all ? " Not met:\n" : "");
     for (const struct figures *at = figures; at < figures + FILES; at++)
-        if (at->size.compared && met_by(target, at) < target->count)
+        if (target->asked(at) && met_by(target, at) < target->count)
             print_missed(target, at);
 }
 

@@ -1,13 +1,12 @@
 -- Those of a list that pass a test.
 use mathlib.Core.Path.{_≡_, refl, sym, ap, _∙_}
 use mathlib.Core.Bool.{Bool, true, false, cond, not}
-use mathlib.Core.List.{List, [], _∷_, _++_, List·Permᴰ, List·Permᴰ·nil, List·Permᴰ·cons, List·Permᴰ·swap, List·Permᴰ·trans, Permᴰ·refl, Permᴰ·symm, Permᴰ·middle}
-use Prim.Native.Nat.{ℕ, suc, _+_, _≤_, _<_}
+use mathlib.Core.List.{List, [], _∷_, _++_, List·Permᴰ, List·Permᴰ·nil, List·Permᴰ·cons, List·Permᴰ·trans, Permᴰ·symm, Permᴰ·middle}
+use Prim.Native.Nat.{ℕ, suc, _+_, _≤_}
 use native.Mathlib.Omega.{arith}
 use lib.ListN.{length}
 use Rattle.placing.specs.Image.{All, Distinct}
-use Rattle.placing.specs.Lay.{one, count, sort, Sorted}
-use Rattle.placing.proofs.Perms.{sorted-unique, sort-perm, sort-sorted}
+use Rattle.placing.specs.Lay.{one, count}
 use Rattle.placing.specs.steps.Keep.{keep}
 
 module _ {R : Type 0} (on : R → Bool) where
@@ -18,10 +17,6 @@ module _ {R : Type 0} (on : R → Bool) where
       go : (u : Bool) → keep on (s ++ t) ≡ keep on s ++ keep on t → cond u (x ∷ keep on (s ++ t)) (keep on (s ++ t)) ≡ cond u (x ∷ keep on s) (keep on s) ++ keep on t
       go true e = ap (λ (l : List R). x ∷ l) e
       go false e = e
-
-  pub keep-all : (s : List R) → All (λ x. on x ≡ true) s → keep on s ≡ s
-  keep-all [] h = refl
-  keep-all (x ∷ s) h = rw (h .0, keep-all s (h .1))
 
   pub keep-none : (s : List R) → All (λ x. on x ≡ false) s → keep on s ≡ []
   keep-none [] h = refl
@@ -64,14 +59,6 @@ module _ {R : Type 0} (on : R → Bool) where
   pub count-none : (s : List R) → All (λ x. on x ≡ false) s → count on s ≡ 0
   count-none s h = sym (keep-count s) ∙ ap length (keep-none s h)
 
-  pub keep-sorted : (rank : R → ℕ) (s : List R) → Sorted rank s → Sorted rank (keep on s)
-  keep-sorted rank [] h = tt
-  keep-sorted rank (x ∷ s) h = go (on x) (keep-sorted rank s (h .1))
-    where
-      go : (u : Bool) → Sorted rank (keep on s) → Sorted rank (cond u (x ∷ keep on s) (keep on s))
-      go true k = (all-keep (λ y. rank x < rank y) s (h .0), k)
-      go false k = k
-
   pub keep-distinct : (rank : R → ℕ) (s : List R) → Distinct rank s → Distinct rank (keep on s)
   keep-distinct rank [] h = tt
   keep-distinct rank (x ∷ s) h = go (on x) (keep-distinct rank s (h .1))
@@ -79,33 +66,6 @@ module _ {R : Type 0} (on : R → Bool) where
       go : (u : Bool) → Distinct rank (keep on s) → Distinct rank (cond u (x ∷ keep on s) (keep on s))
       go true k = (all-keep (λ y. rank y ≡ rank x → ⊥) s (h .0), k)
       go false k = k
-
-  pub keep-perm : {s t : List R} → List·Permᴰ s t → List·Permᴰ (keep on s) (keep on t)
-  keep-perm List·Permᴰ·nil = List·Permᴰ·nil
-  keep-perm (List·Permᴰ·cons {a = x} {l₁ = s} {l₂ = t} e p) = rw (← e) (go (on x) (keep-perm p))
-    where
-      go : (u : Bool) → List·Permᴰ (keep on s) (keep on t) → List·Permᴰ (cond u (x ∷ keep on s) (keep on s)) (cond u (x ∷ keep on t) (keep on t))
-      go true k = List·Permᴰ·cons refl k
-      go false k = k
-  keep-perm (List·Permᴰ·swap {a = x} {b = y} {l = l} e f) = rw (← e, ← f) (go (on x) (on y))
-    where
-      k : List R
-      k = keep on l
-
-      go : (u v : Bool) → List·Permᴰ (cond u (x ∷ cond v (y ∷ k) k) (cond v (y ∷ k) k)) (cond v (y ∷ cond u (x ∷ k) k) (cond u (x ∷ k) k))
-      go true true = List·Permᴰ·swap refl refl
-      go true false = Permᴰ·refl (x ∷ k)
-      go false true = Permᴰ·refl (y ∷ k)
-      go false false = Permᴰ·refl k
-  keep-perm (List·Permᴰ·trans p q) = List·Permᴰ·trans (keep-perm p) (keep-perm q)
-
-  -- kept and then sorted is sorted and then kept
-  pub sort-keep : (rank : R → ℕ) (s : List R) → Distinct rank s → sort rank (keep on s) ≡ keep on (sort rank s)
-  sort-keep rank s d =
-      sorted-unique rank (sort rank (keep on s)) (keep on (sort rank s))
-      (List·Permᴰ·trans (sort-perm rank (keep on s)) (keep-perm (Permᴰ·symm (sort-perm rank s))))
-      (sort-sorted rank (keep on s) (keep-distinct rank s d))
-      (keep-sorted rank (sort rank s) (sort-sorted rank s d))
 
   -- those that pass, and then the others, are all
   pub keep-both : (s : List R) → List·Permᴰ s (keep on s ++ keep (λ x. not (on x)) s)

@@ -12,11 +12,11 @@ use Rattle.placing.proofs.Lists.{all-map, all-append}
 use Rattle.placing.proofs.Order.{higher}
 use Rattle.placing.proofs.Perms.{perm-all, sorted-unique, sort-perm, sort-sorted}
 use Rattle.placing.specs.steps.Keep.{keep}
-use Rattle.placing.proofs.Keeping.{all-keep, keep-distinct, keep-both, kept}
+use Rattle.placing.proofs.Keeping.{keep-distinct, keep-both, kept}
 
 module _ {R : Type 0} (rank : R → ℕ) where
   -- two sorted lists, one before the other, are one
-  pub sorted-both : (s t : List R) → Sorted rank s → Sorted rank t → All (λ x. All (λ y. rank x < rank y) t) s → Sorted rank (s ++ t)
+  sorted-both : (s t : List R) → Sorted rank s → Sorted rank t → All (λ x. All (λ y. rank x < rank y) t) s → Sorted rank (s ++ t)
   sorted-both [] t h k l = k
   sorted-both (x ∷ s) t h k l = (all-append (λ y. rank x < rank y) s t (h .0) (l .0), sorted-both s t (h .1) k (l .1))
 
@@ -44,10 +44,7 @@ module _ {R : Type 0} (rank home : R → ℕ) (mono : (x y : R) → rank x ≤ r
   abbrev pub movers : List R → List R
   movers s = sort rank (keep move s)
 
-  pub movers-all : (Q : R → Type 0) (s : List R) → All Q s → All Q (movers s)
-  movers-all Q s h = perm-all Q (Permᴰ·symm (sort-perm rank (keep move s))) (all-keep move Q s h)
-
-  pub movers-high : (s : List R) → All (λ x. P ≤ home x) (movers s)
+  movers-high : (s : List R) → All (λ x. P ≤ home x) (movers s)
   movers-high s =
       perm-all (λ x. P ≤ home x) (Permᴰ·symm (sort-perm rank (keep move s)))
       (all-map (λ x. move x ≡ true) (λ x. P ≤ home x) moves-high (keep move s) (kept move s))

@@ -7,7 +7,7 @@ ghost use mathlib.Core.Path.{_≡_};
 ghost use Prim.Native.Nat.{_*_, _<_};
 ghost use Rattle.homes.specs.Homes.{Ready};
 ghost use Rattle.homes.specs.steps.Last.{lastOf, Lasts};
-ghost use Rattle.homes.specs.steps.Giving.{Gives, givingOf, givesAt, takesKey, firstGiver};
+ghost use Rattle.homes.specs.steps.Giving.{Gives, givingOf, takesKey, firstGiver};
 
 // A step, and which it is.
 pub struct Numbered {
@@ -16,8 +16,8 @@ pub struct Numbered {
 }
 
 // The page added last: the sweeps, the size and the groups of the step that added it, and the power
-// and the limit by which that step draws. A page or a key is asked with nothing else known of the
-// file.
+// and the limit by which that step draws. The pages that give are found, and a key is asked, with
+// nothing else known of the file.
 pub struct Giving {
     pub s: u16,
     pub f: u64,
@@ -69,16 +69,6 @@ impl Shape {
 }
 
 impl Giving {
-    // Whether keys of a page may go to the added one: those of a page that the step itself added
-    // don't, though its group may be the one that grows there.
-    pub fn gives(self, page: u64) -> bool
-        requires { ⌜ Gives self ⌝ }
-        ensures { λ r. ⌜ r ≡ givesAt self page ⌝ }
-    {
-        let new = crate::new_page(self.s, self.f, self.g, page);
-        (page < self.f) & (new == self.added)
-    }
-
     // Whether a key of a page that gives goes.
     pub fn takes(self, key: u64) -> bool
         requires { ⌜ Gives self ⌝ }
@@ -87,8 +77,9 @@ impl Giving {
         draws::draw(draws::twice_seed(key), self.power) <= self.limit
     }
 
-    // The lowest page that gives; the others come each g pages after the one before. It is one of
-    // the first g, and is found with nothing divided.
+    // The lowest page that gives; the others come each g pages after the one before, below f: keys of
+    // a page that the step itself added don't go, though its group may be the one that grows there.
+    // It is one of the first g, and is found with nothing divided.
     pub fn first(self) -> u64
         requires { ⌜ Gives self ⌝ }
         ensures { λ r. ⌜ r ≡ firstGiver self ⌝ }

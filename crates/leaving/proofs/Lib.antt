@@ -6,3 +6,4 @@ pub mod Growing
 pub mod Leaving
 pub mod Left
 pub mod Grown
+pub mod Stride

@@ -70,7 +70,9 @@ fn spilled(waiting: usize) -> usize
 
 // The records that a growth takes to its new page, in the order in which they stand, as entries in a
 // room; the answer is how many bytes they are, which may be more than it has. The counts of homes,
-// before the growth, become those after it. `over` records of lower homes lie from page a on.
+// before the growth, become those after it. `over` records of lower homes lie from page a on. The
+// next page that gives is known ahead, so that no page's group is worked out; it gives only if the
+// step found it there.
 pub fn leave(area: &[u8], cap: usize, shape: Shape, row: &mut [u32], room: &mut [u8]) -> usize
     requires { ⌜ (cap ≤ 4096) × (length (now area) ≡ 256 * cap) × Ready shape × (firstPages (shape .params) < shape .p) × (shape .p ≤ cap) ⌝ }
     requires { let was = homeIn (shapeOf (shape .params) (shape .p - 1)) in let ps = heldFrom inUse (now area) cap 0 in ⌜ Packed (homeFor was) slots 0 ps [] × Sorted (rankIn key was) (cat ps []) × (now row ≡ counts (homeFor was) (cat ps []) cap 0) ⌝ }
@@ -80,15 +82,19 @@ pub fn leave(area: &[u8], cap: usize, shape: Shape, row: &mut [u32], room: &mut 
 {
     let giving = shape.giving();
     let added = (shape.p - 1) as usize;
+    let old = giving.f as usize;
+    let groups = giving.g as usize;
+    let mut next = giving.first() as usize;
     let mut over = 0;
     let mut at = 0;
     let mut a = 0;
     while a < added {
         let held = row[a] as usize;
-        if giving.gives(a as u64) {
+        if (a == next) & (next < old) {
             let end = leave_home(area, giving, a, over, held, room, at);
             row[a] -= ((end - at) / WIDTH) as u32;
             at = end;
+            next += groups;
         }
         over = spilled(over + held);
         a += 1;

@@ -61,7 +61,7 @@ closing-start h P cap first counts row g l =
       within = omega arith;
       long = l;
       ahead = refl;
-      stands = record { within = omega arith; slot = λ _. omega arith; inside = omega arith; whole = g .whole };
+      stands = record { within = omega arith; slot = λ _. omega arith; end = λ _. refl; inside = omega arith; whole = g .whole };
       low = omega arith;
       met = g .leave ∙ rw e;
       pages = rw (z, e);

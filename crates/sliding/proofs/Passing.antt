@@ -15,6 +15,7 @@ use Rattle.sliding.proofs.Places.{rest-first, rest-page, rest-end, next
 pub record Passing (area : List ℕ) (cap : ℕ) (row : List ℕ) (r₀ i₀ n₀ r i n : ℕ) : Type 0 where
   pub within : r ≤ cap
   pub slot : r < cap → i ≤ length (held area r)
+  pub end : r ≡ cap → i ≡ 0
   pub inside : n ≤ length row
   pub whole : Whole n row
   pub onward : r₀ ≤ r
@@ -26,6 +27,7 @@ pub passing-start : (area : List ℕ) (cap : ℕ) (row : List ℕ) (p : Place) �
 passing-start area cap row p s = record {
   within = s .within;
   slot = s .slot;
+  end = s .end;
   inside = s .inside;
   whole = s .whole;
   onward = omega arith;
@@ -44,6 +46,7 @@ module _ {area : List ℕ} {cap : ℕ} {row : List ℕ} {r₀ i₀ n₀ r i n : 
       record {
         within = p .within;
         slot = λ _. omega arith;
+        end = λ q. absurd (omega arith);
         inside = t .0;
         whole = omega (arith, p .whole, t .0);
         onward = p .onward;
@@ -59,6 +62,7 @@ module _ {area : List ℕ} {cap : ℕ} {row : List ℕ} {r₀ i₀ n₀ r i n : 
       record {
         within = omega arith;
         slot = λ _. omega arith;
+        end = λ _. refl;
         inside = p .inside;
         whole = p .whole;
         onward = omega (arith, p .onward);
@@ -68,7 +72,7 @@ module _ {area : List ℕ} {cap : ℕ} {row : List ℕ} {r₀ i₀ n₀ r i n : 
       }
 
   there : Stands area cap row (record { page = r; slot = i; next = n })
-  there = record { within = p .within; slot = p .slot; inside = p .inside; whole = p .whole }
+  there = record { within = p .within; slot = p .slot; end = p .end; inside = p .inside; whole = p .whole }
 
   -- nothing is left
   pub passed-all : (from : Place) → r₀ ≡ from .page → i₀ ≡ from .slot → n₀ ≡ from .next → cap ≤ r

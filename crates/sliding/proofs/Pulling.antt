@@ -125,6 +125,7 @@ module _ {area : List ℕ} {cap : ℕ} {row : List ℕ} {want a : ℕ} {p₀ : P
     after-stands = record {
       within = g .stays .stands .within;
       slot = λ l. omega (arith, g .stays .here page-left);
+      end = λ q. absurd (omega (arith, page-left));
       inside = g .stays .stands .inside;
       whole = g .stays .stands .whole;
     }

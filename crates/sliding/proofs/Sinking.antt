@@ -41,6 +41,7 @@ module _ {h : ℕ → ℕ} {P cap : ℕ} {first counts row area : List ℕ} {pla
   stands-here = record {
     within = c .stands .within;
     slot = λ l. rw (held-same area first a (c .ahead) (place .page) (c .low)) (c .stands .slot l);
+    end = c .stands .end;
     inside = c .stands .inside;
     whole = c .stands .whole;
   }
@@ -119,6 +120,7 @@ module _ {h : ℕ → ℕ} {P cap : ℕ} {first counts row area : List ℕ} {pla
       stands = record {
         within = s .stands .within;
         slot = λ l. rw (← held-same area first a (c .ahead) (t .place .page) far) (s .stands .slot l);
+        end = s .stands .end;
         inside = s .stands .inside;
         whole = s .stands .whole;
       };

@@ -77,7 +77,7 @@ module _ {h : ℕ → ℕ} {P cap : ℕ} {first counts row area : List ℕ} {pla
 
   stands-behind : Stands first cap row behind
   unfolding behind
-  stands-behind = record { within = omega arith; slot = λ _. omega arith; inside = c .stands .inside; whole = c .stands .whole }
+  stands-behind = record { within = omega arith; slot = λ _. omega arith; end = λ _. refl; inside = c .stands .inside; whole = c .stands .whole }
 
   -- reading stands at its start
   own-keeps : place .page ≡ a → place .slot ≡ 0 → isFrom (left row (place .next)) a ≡ false → k g c ≡ length p → Keeps behind

@@ -60,10 +60,11 @@ unmet (suc k) es (x ∷ xs) = cond (isNext es (x .held .key)) (unmet (suc k) (be
 abbrev pub Whole : ℕ → List ℕ → Type 0
 Whole at row = length row ≡ at + size * ((length row - at) / size)
 
--- a place among the records of an area, and among those of a row
+-- a place among the records of an area, and among those of a row; behind the last page it is one place
 pub record Stands (area : List ℕ) (cap : ℕ) (row : List ℕ) (p : Place) : Type 0 where
   pub within : p .page ≤ cap
   pub slot : p .page < cap → p .slot ≤ length (held area (p .page))
+  pub end : p .page ≡ cap → p .slot ≡ 0
   pub inside : p .next ≤ length row
   pub whole : Whole (p .next) row
 

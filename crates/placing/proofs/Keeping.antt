@@ -1,4 +1,4 @@
--- Those of a list that pass a test.
+-- What a test leaves of a list: how many, in what order, and that nothing is lost with the rest.
 use mathlib.Core.Path.{_≡_, refl, sym, ap, _∙_}
 use mathlib.Core.Bool.{Bool, true, false, cond, not}
 use mathlib.Core.List.{List, [], _∷_, _++_, List·Permᴰ, List·Permᴰ·nil, List·Permᴰ·cons, List·Permᴰ·trans, Permᴰ·symm, Permᴰ·middle}
@@ -30,7 +30,7 @@ module _ {R : Type 0} (on : R → Bool) where
       go true k = (h .0, k)
       go false k = k
 
-  -- all that are kept pass
+  -- whatever is left has passed
   pub kept : (s : List R) → All (λ x. on x ≡ true) (keep on s)
   kept [] = tt
   kept (x ∷ s) = go (on x) refl (kept s)
@@ -67,7 +67,7 @@ module _ {R : Type 0} (on : R → Bool) where
       go true k = (all-keep (λ y. rank y ≡ rank x → ⊥) s (h .0), k)
       go false k = k
 
-  -- those that pass, and then the others, are all
+  -- with those that fail behind them they are the list again, in another order
   pub keep-both : (s : List R) → List·Permᴰ s (keep on s ++ keep (λ x. not (on x)) s)
   keep-both [] = List·Permᴰ·nil
   keep-both (x ∷ s) = go (on x) (keep-both s)

@@ -1,4 +1,5 @@
--- A page more: in the new order those that stay come first, in their old order, and those that move to the new page come last.
+-- The order after a growth: first the records whose homes are below the new page, as they stood, and
+-- behind them the movers.
 use mathlib.Core.Path.{_≡_, refl}
 use mathlib.Core.Bool.{Bool, true, false, not}
 use mathlib.Core.List.{List, [], _∷_, _++_, List·Permᴰ, List·Permᴰ·trans, Permᴰ·symm, Permᴰ·append-left}
@@ -15,13 +16,13 @@ use Rattle.placing.specs.steps.Keep.{keep}
 use Rattle.placing.proofs.Keeping.{keep-distinct, keep-both, kept}
 
 module _ {R : Type 0} (rank : R → ℕ) where
-  -- two sorted lists, one before the other, are one
+  -- a sorted list with another behind it that stands after it
   sorted-both : (s t : List R) → Sorted rank s → Sorted rank t → All (λ x. All (λ y. rank x < rank y) t) s → Sorted rank (s ++ t)
   sorted-both [] t h k l = k
   sorted-both (x ∷ s) t h k l = (all-append (λ y. rank x < rank y) s t (h .0) (l .0), sorted-both s t (h .1) k (l .1))
 
 module _ {R : Type 0} (rank home : R → ℕ) (mono : (x y : R) → rank x ≤ rank y → home x ≤ home y) (P : ℕ) where
-  -- whether a record's home is below the new page
+  -- a record stays where its home is below P
   abbrev pub stay : R → Bool
   stay x = ltb (home x) P
 
@@ -40,7 +41,7 @@ module _ {R : Type 0} (rank home : R → ℕ) (mono : (x y : R) → rank x ≤ r
       all-map (λ x. stay x ≡ true) (λ x. All (λ y. rank x < rank y) t)
       (λ x e. all-map (λ y. P ≤ home y) (λ y. rank x < rank y) (λ y l. higher rank home mono x y (omega (arith, ltb-true (home x) P e))) t k) s h
 
-  -- the movers, in order
+  -- those that don't, sorted
   abbrev pub movers : List R → List R
   movers s = sort rank (keep move s)
 
@@ -49,7 +50,7 @@ module _ {R : Type 0} (rank home : R → ℕ) (mono : (x y : R) → rank x ≤ r
       perm-all (λ x. P ≤ home x) (Permᴰ·symm (sort-perm rank (keep move s)))
       (all-map (λ x. move x ≡ true) (λ x. P ≤ home x) moves-high (keep move s) (kept move s))
 
-  -- where those that stay are in order as they stand
+  -- if those that stay are sorted as they are
   pub split-sort : (s : List R) → Distinct rank s → Sorted rank (keep stay s) → sort rank s ≡ keep stay s ++ movers s
   split-sort s d h =
       sorted-unique rank (sort rank s) (keep stay s ++ movers s)

@@ -6,7 +6,7 @@
 #include "../common/page.h"
 #include "../common/run.h"
 
-enum { MOST = 512, MOST_ITEMS = 400 }; // pages of the largest file here, puts of the longest run
+enum { MOST = AGREE_PAGES, MOST_ITEMS = 400 }; // pages of the largest file here, puts of the longest run
 enum call { FORMAT, FORMAT_EDITION, FIND, PUT, REMOVE, GROW, SHRINK, CHECK, DUE, PUT_RUN, CALLS };
 
 // The rows of the table: the calls; the puts that stand in runs; comparisons and merges, and their answers about the

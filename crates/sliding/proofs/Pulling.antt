@@ -22,7 +22,7 @@ use Rattle.rebuild.specs.steps.Rebuild.{recordIn, hops}
 use Rattle.rebuild.proofs.Take.{filled, inHand, filled-cons, filled-none, filled-start}
 use Rattle.sliding.specs.declared.Place.{Place}
 use Rattle.sliding.specs.declared.Pulled.{Pulled}
-use Rattle.sliding.specs.steps.Reading.{held, rest, left, isNext, behind, stayed, unread, unmet, Stands, Stays, Passes, Pulls}
+use Rattle.sliding.specs.steps.Reading.{held, rest, left, isNext, behind, stayed, after, unread, unmet, Stands, Stays, Passes, Pulls}
 use Rattle.sliding.proofs.Places.{entryOn, rest-first, rest-end}
 
 -- nothing changes by passing over those that leave first
@@ -36,33 +36,18 @@ stayed-passes (suc k) es (x ∷ xs) = go (isNext es (x .held .key)) refl (stayed
     go true e ih = ih
     go false e ih = rw e
 
-unread-passes : (k : ℕ) (es xs : List Entry) → unread k (unmet 0 es xs) (unread 0 es xs) ≡ unread k es xs
-unread-passes k es [] = refl
-unread-passes zero es (x ∷ xs) = go (isNext es (x .held .key)) refl (unread-passes zero (behind es) xs)
+after-passes : (f : List Entry → List Entry → List Entry) (k : ℕ) (es xs : List Entry) → after f k (unmet 0 es xs) (unread 0 es xs) ≡ after f k es xs
+after-passes f k es [] = refl
+after-passes f zero es (x ∷ xs) = go (isNext es (x .held .key)) refl (after-passes f zero (behind es) xs)
   where
-    go : (u : Bool) → isNext es (x .held .key) ≡ u → unread 0 (unmet 0 (behind es) xs) (unread 0 (behind es) xs) ≡ unread 0 (behind es) xs
-        → unread 0 (cond u (unmet 0 (behind es) xs) es) (cond u (unread 0 (behind es) xs) (x ∷ xs)) ≡ cond u (unread 0 (behind es) xs) (x ∷ xs)
+    go : (u : Bool) → isNext es (x .held .key) ≡ u → after f 0 (unmet 0 (behind es) xs) (unread 0 (behind es) xs) ≡ after f 0 (behind es) xs
+        → after f 0 (cond u (unmet 0 (behind es) xs) es) (cond u (unread 0 (behind es) xs) (x ∷ xs)) ≡ cond u (after f 0 (behind es) xs) (f es (x ∷ xs))
     go true e ih = ih
     go false e ih = rw e
-unread-passes (suc k) es (x ∷ xs) = go (isNext es (x .held .key)) refl (unread-passes (suc k) (behind es) xs)
+after-passes f (suc k) es (x ∷ xs) = go (isNext es (x .held .key)) refl (after-passes f (suc k) (behind es) xs)
   where
-    go : (u : Bool) → isNext es (x .held .key) ≡ u → unread (suc k) (unmet 0 (behind es) xs) (unread 0 (behind es) xs) ≡ unread (suc k) (behind es) xs
-        → unread (suc k) (cond u (unmet 0 (behind es) xs) es) (cond u (unread 0 (behind es) xs) (x ∷ xs)) ≡ cond u (unread (suc k) (behind es) xs) (unread k es xs)
-    go true e ih = ih
-    go false e ih = rw e
-
-unmet-passes : (k : ℕ) (es xs : List Entry) → unmet k (unmet 0 es xs) (unread 0 es xs) ≡ unmet k es xs
-unmet-passes k es [] = refl
-unmet-passes zero es (x ∷ xs) = go (isNext es (x .held .key)) refl (unmet-passes zero (behind es) xs)
-  where
-    go : (u : Bool) → isNext es (x .held .key) ≡ u → unmet 0 (unmet 0 (behind es) xs) (unread 0 (behind es) xs) ≡ unmet 0 (behind es) xs
-        → unmet 0 (cond u (unmet 0 (behind es) xs) es) (cond u (unread 0 (behind es) xs) (x ∷ xs)) ≡ cond u (unmet 0 (behind es) xs) es
-    go true e ih = ih
-    go false e ih = rw e
-unmet-passes (suc k) es (x ∷ xs) = go (isNext es (x .held .key)) refl (unmet-passes (suc k) (behind es) xs)
-  where
-    go : (u : Bool) → isNext es (x .held .key) ≡ u → unmet (suc k) (unmet 0 (behind es) xs) (unread 0 (behind es) xs) ≡ unmet (suc k) (behind es) xs
-        → unmet (suc k) (cond u (unmet 0 (behind es) xs) es) (cond u (unread 0 (behind es) xs) (x ∷ xs)) ≡ cond u (unmet (suc k) (behind es) xs) (unmet k es xs)
+    go : (u : Bool) → isNext es (x .held .key) ≡ u → after f (suc k) (unmet 0 (behind es) xs) (unread 0 (behind es) xs) ≡ after f (suc k) (behind es) xs
+        → after f (suc k) (cond u (unmet 0 (behind es) xs) es) (cond u (unread 0 (behind es) xs) (x ∷ xs)) ≡ cond u (after f (suc k) (behind es) xs) (after f k es xs)
     go true e ih = ih
     go false e ih = rw e
 
@@ -153,8 +138,8 @@ module _ {area : List ℕ} {cap : ℕ} {row : List ℕ} {want a : ℕ} {p₀ : P
         moves = omega (arith, g .moves, c, one-few (not (eqb (p .page) a)));
         near = λ e. omega (arith, g .near (omega (arith, g .stays .onward, s .onward)), w (λ k. 0) .near (omega (arith, g .stays .onward, s .onward)));
         full = λ h. taken h ∙ g .full h;
-        read = λ h. rw (w h .met, w h .read, unread-passes (want - (n + 1)) (left row (p .next)) (rest h area cap (p .page) (p .slot + 1))) (rw (first h, step, goes) at (g .read h));
-        met = λ h. rw (w h .met, w h .read, unmet-passes (want - (n + 1)) (left row (p .next)) (rest h area cap (p .page) (p .slot + 1))) (rw (first h, step, goes) at (g .met h));
+        read = λ h. rw (w h .met, w h .read, after-passes (λ e x. x) (want - (n + 1)) (left row (p .next)) (rest h area cap (p .page) (p .slot + 1))) (rw (first h, step, goes) at (g .read h));
+        met = λ h. rw (w h .met, w h .read, after-passes (λ e x. e) (want - (n + 1)) (left row (p .next)) (rest h area cap (p .page) (p .slot + 1))) (rw (first h, step, goes) at (g .met h));
       }
         where
           at : size * (n + 1) ≡ size * n + size
@@ -182,21 +167,12 @@ module _ {area : List ℕ} {cap : ℕ} {row : List ℕ} {want a : ℕ} {p₀ : P
       nothing zero = refl
       nothing (suc k) = refl
 
-  end-unread : (h : ℕ → ℕ) → (want - n ≡ 0) ⊎ (rest h area cap (p .page) (p .slot) ≡ [])
-      → rest h area cap (p .page) (p .slot) ≡ unread (want - n) (left row (p .next)) (rest h area cap (p .page) (p .slot))
-  end-unread h (inr z) = rw z
-  end-unread h (inl z) = rw z (go (decLe cap (p .page)))
+  end-after : (f : List Entry → List Entry → List Entry) (h : ℕ → ℕ) → (want - n ≡ 0) ⊎ (rest h area cap (p .page) (p .slot) ≡ [])
+      → f (left row (p .next)) (rest h area cap (p .page) (p .slot)) ≡ after f (want - n) (left row (p .next)) (rest h area cap (p .page) (p .slot))
+  end-after f h (inr z) = rw z
+  end-after f h (inl z) = rw z (go (decLe cap (p .page)))
     where
-      go : Dec (cap ≤ p .page) → rest h area cap (p .page) (p .slot) ≡ unread 0 (left row (p .next)) (rest h area cap (p .page) (p .slot))
-      go (yes l) = rw (rest-end h area cap (p .page) (p .slot) l)
-      go (no l) = let k : p .page < cap = omega arith in rw (rest-first h area cap (p .page) (p .slot) k (g .stays .here k), g .stays .next k)
-
-  end-unmet : (h : ℕ → ℕ) → (want - n ≡ 0) ⊎ (rest h area cap (p .page) (p .slot) ≡ [])
-      → left row (p .next) ≡ unmet (want - n) (left row (p .next)) (rest h area cap (p .page) (p .slot))
-  end-unmet h (inr z) = rw z
-  end-unmet h (inl z) = rw z (go (decLe cap (p .page)))
-    where
-      go : Dec (cap ≤ p .page) → left row (p .next) ≡ unmet 0 (left row (p .next)) (rest h area cap (p .page) (p .slot))
+      go : Dec (cap ≤ p .page) → f (left row (p .next)) (rest h area cap (p .page) (p .slot)) ≡ after f 0 (left row (p .next)) (rest h area cap (p .page) (p .slot))
       go (yes l) = rw (rest-end h area cap (p .page) (p .slot) l)
       go (no l) = let k : p .page < cap = omega arith in rw (rest-first h area cap (p .page) (p .slot) k (g .stays .here k), g .stays .next k)
 
@@ -221,8 +197,8 @@ module _ {area : List ℕ} {cap : ℕ} {row : List ℕ} {want a : ℕ} {p₀ : P
     pulled-all h = record {
       page = rw (← taken-all h) (ap (λ (u : Took). u .page) (in-page h));
       moved = rw (← taken-all h) (ap (λ (u : Took). u .moved) (in-page h));
-      read = end-unread h (none-more t h) ∙ g .read h ∙ rw (w h .met, w h .read) (unread-passes want (left row (from .next)) (rest h area cap (from .page) (from .slot)));
-      met = end-unmet h (none-more t h) ∙ g .met h ∙ rw (w h .met, w h .read) (unmet-passes want (left row (from .next)) (rest h area cap (from .page) (from .slot)));
+      read = end-after (λ e x. x) h (none-more t h) ∙ g .read h ∙ rw (w h .met, w h .read) (after-passes (λ e x. x) want (left row (from .next)) (rest h area cap (from .page) (from .slot)));
+      met = end-after (λ e x. e) h (none-more t h) ∙ g .met h ∙ rw (w h .met, w h .read) (after-passes (λ e x. e) want (left row (from .next)) (rest h area cap (from .page) (from .slot)));
       near = λ e. omega (arith, ap length (taken-all h), long h, w h .near (omega (arith, g .stays .onward, s .onward)), g .near (omega (arith, g .stays .onward, s .onward)));
     }
 

@@ -40,21 +40,23 @@ behind [] = []
 behind (e ∷ es) = es
 
 -- Entries are read, of which es leave, until k that stay are taken and the next one stays: those that
--- are taken, those that aren't read, and those that leave of them.
+-- are taken
 abbrev pub stayed : (k : ℕ) → (es xs : List Entry) → List Entry
 stayed zero es xs = []
 stayed (suc k) es [] = []
 stayed (suc k) es (x ∷ xs) = cond (isNext es (x .held .key)) (stayed (suc k) (behind es) xs) (x ∷ stayed k es xs)
 
-abbrev pub unread : (k : ℕ) → (es xs : List Entry) → List Entry
-unread k es [] = []
-unread zero es (x ∷ xs) = cond (isNext es (x .held .key)) (unread zero (behind es) xs) (x ∷ xs)
-unread (suc k) es (x ∷ xs) = cond (isNext es (x .held .key)) (unread (suc k) (behind es) xs) (unread k es xs)
+-- what is made of those that leave and weren't met then, and of those that weren't read
+abbrev pub after : (List Entry → List Entry → List Entry) → (k : ℕ) → (es xs : List Entry) → List Entry
+after f k es [] = f es []
+after f zero es (x ∷ xs) = cond (isNext es (x .held .key)) (after f zero (behind es) xs) (f es (x ∷ xs))
+after f (suc k) es (x ∷ xs) = cond (isNext es (x .held .key)) (after f (suc k) (behind es) xs) (after f k es xs)
 
 abbrev pub unmet : (k : ℕ) → (es xs : List Entry) → List Entry
-unmet k es [] = es
-unmet zero es (x ∷ xs) = cond (isNext es (x .held .key)) (unmet zero (behind es) xs) es
-unmet (suc k) es (x ∷ xs) = cond (isNext es (x .held .key)) (unmet (suc k) (behind es) xs) (unmet k es xs)
+unmet k es xs = after (λ e x. e) k es xs
+
+abbrev pub unread : (k : ℕ) → (es xs : List Entry) → List Entry
+unread k es xs = after (λ e x. x) k es xs
 
 -- whole entries stand in a row from an offset on
 abbrev pub Whole : ℕ → List ℕ → Type 0

@@ -1,5 +1,5 @@
 -- The laws of lists of fields, for any widths.
-use mathlib.Core.Path.{◌≡◌, refl, sym, ◌∙◌}
+use mathlib.Core.Path.{◌≡◌, refl, sym, ap, ◌∙◌}
 use mathlib.Core.Bool.{Bool, true, false, ◌&&◌, and_assoc}
 use mathlib.Core.List.{List, [], ◌∷◌, ◌++◌, append_assoc}
 use Prim.Native.Nat.{ℕ, ◌+◌, ◌^◌, ◌≤◌, ◌<◌}
@@ -99,7 +99,8 @@ matches_complete (f ∷ fs) p q at n h =
     let first : number_at f.0 (p ++ (v ++ (encode fs ++ q))) at ≡ f.1 = number_between f.0 f.1 p (encode fs ++ q) at n h.0 in
     let k : length (p ++ v) ≡ at + f.0 = rw (length-append, n, length_bytes) in
     let rest : matches ((p ++ v) ++ (encode fs ++ q)) (at + f.0) fs ≡ true = matches_complete fs (p ++ v) q (at + f.0) k h.1 in
-    rw (append_assoc v (encode fs) q, first, eq-eqb f.1 f.1 refl) (rw append_assoc at rest)
+    let whole : matches (p ++ (v ++ (encode fs ++ q))) at (f ∷ fs) ≡ true = rw (first, eq-eqb f.1 f.1 refl) (rw append_assoc at rest) in
+    ap (λ (z : List ℕ). matches (p ++ z) at (f ∷ fs)) (append_assoc v (encode fs) q) ∙ whole
 
 -- two lists of fields match where the first matches, and the second behind it
 pub matches-append : (fs gs : List Field) (l : List ℕ) (at : ℕ)

@@ -1,6 +1,6 @@
 -- What is written is read back, and the bytes of a good page are those that its records are written
 -- as.
-use mathlib.Core.Path.{◌≡◌, refl, sym, ◌∙◌}
+use mathlib.Core.Path.{◌≡◌, refl, sym, ap, ◌∙◌}
 use mathlib.Core.Bool.{Bool, true, false, cond, ◌&&◌}
 use mathlib.Core.Option.{none, some}
 use mathlib.Core.List.{List, [], ◌∷◌, ◌++◌, append-nil}
@@ -79,8 +79,11 @@ module _ (f : Layout) where
     unfolding page_bytes
     counted_match =
         let before : List Field = (2, 256) ∷ (2, kind_of f) ∷ (4, a) ∷ [] in
-        rw (encode-append before (counted rs))
-        (rw append-nil at (matches_complete (counted rs) (encode before) [] 8 (length-encode before) (fit_counted rs few small)))
+        let whole : matches (encode before ++ (encode (counted rs) ++ [])) 8 (counted rs) ≡ true =
+        matches_complete (counted rs) (encode before) [] 8 (length-encode before) (fit_counted rs few small) in
+        let joined : encode (before ++ counted rs) ≡ encode before ++ (encode (counted rs) ++ []) =
+        encode-append before (counted rs) ∙ ap (λ (z : List ℕ). encode before ++ z) (sym (append-nil (encode (counted rs)))) in
+        ap (λ (z : List ℕ). matches z 8 (counted rs)) joined ∙ whole
 
     -- bytes that are written hold the records
     pub records_bytes : records_in f (page_bytes f a rs) ≡ rs
@@ -99,7 +102,9 @@ module _ (f : Layout) where
     page_formed fits =
         let fit : Fit (fields f a rs) = (omega arith, (omega (arith, kind_small f), (fits, fit_counted rs few small))) in
         let e : records_in f (encode (fields f a rs)) ≡ rs = records_bytes in
-        rw e (rw append-nil at (matches_complete (fields f a rs) [] [] 0 refl fit))
+        let closed : matches (encode (fields f a rs)) 0 (fields f a rs) ≡ true =
+        ap (λ (z : List ℕ). matches z 0 (fields f a rs)) (sym (append-nil (encode (fields f a rs)))) ∙ matches_complete (fields f a rs) [] [] 0 refl fit in
+        rw e closed
 
     -- records that keep the rules are read back as they were written
     pub bytes_read : (h : ℕ → ℕ) → a < 2 ^ 32 → homes_to h a rs ≡ true → rises h rs ≡ true → read_page f h a (page_bytes f a rs) ≡ some rs

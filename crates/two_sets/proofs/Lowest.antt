@@ -1,5 +1,5 @@
 -- One pass over a set finds the lowest clash with another, and the records that it lacks.
-use mathlib.Core.Path.{◌≡◌, refl, sym, ap, ◌∙◌}
+use mathlib.Core.Path.{◌≡◌, refl, sym, ap, ◌∙◌, subst}
 use mathlib.Core.Bool.{Bool, true, false, cond}
 use mathlib.Core.Logic.{◌⊎◌, inl, inr}
 use mathlib.Core.Option.{Option, none, some}
@@ -114,7 +114,7 @@ module _ {R : Type 0} (key : R → ℕ) where
         where
           here : (low ≡ some k) ⊎ Own x (look (key x)) k → (low ≡ some k) ⊎ ClashAt key same (x ∷ rs) ys k
           here (inl f) = inl f
-          here (inr (q, y, f, n)) = inr (record { first = x; second = y; in_first = rw (← q) (seek_here key x rs); in_second = rw (← q) f; unlike = n })
+          here (inr (q, y, f, n)) = inr (record { first = x; second = y; in_first = subst (λ (j : ℕ). seek key j (x ∷ rs) ≡ some x) q (seek_here key x rs); in_second = rw (← q) f; unlike = n })
 
           past : (c : ClashAt key same rs ys k) (u : Bool) → eqb (key x) k ≡ u → cond u (some x) (seek key k rs) ≡ some c.first
           past c true f =

@@ -1,0 +1,25 @@
+use mathlib.Core.Path.{◌≡◌, refl}
+use borrow.Author.Rules.{rules}
+use borrow.Author.Tests.{lt-ltb, le-ltb}
+use lib.ListN.{get_or}
+use Rattle.homes.specs.Steps.Lanes.{picked}
+use Rattle.homes.proofs.Rowed.{none, one, over}
+use Rattle.homes.proofs.lanes.pick.Goals as goal
+use Rattle.homes.proofs.lanes.pick.Goals.{else-after-i, then-after-i}
+
+pub loop-i-init : goal.loop-i-init
+loop-i-init c = (none _ _ refl, search rules)
+
+pub loop-i-preserved : goal.loop-i-preserved
+loop-i-preserved c =
+    let turn = c.before in
+    let at = turn.args in
+    let a = get_or at.after turn.loop-i.i 0 in
+    let b = get_or at.before turn.loop-i.i 0 in
+    let is : c.if-after-i.pages ≡ picked at.p a b = elim c.if-after-i.branch [ then-after-i w ↦ rw (lt-ltb a at.p w.if-after-i.true) w.pages-is | else-after-i w ↦ rw (le-ltb a at.p w.if-after-i.false) w.pages-is ] in
+    (one _ _ _ _ turn.loop-i.invariant.0 turn.loop-i-test.true is, search rules)
+
+pub returns : goal.returns
+returns c =
+    let row = c.loop-i.invariant.0 in
+    record { by_index = over row c.loop-i-test.false; long = row.long }

@@ -1,0 +1,23 @@
+-- `pages::slot::put` meets its contract: its fields, stored one after the other, are one write of
+-- the slot.
+use mathlib.Core.Path.{◌∙◌}
+use mathlib.Core.List.{List, [], ◌∷◌}
+use native.Mathlib.Nat.{add_assoc}
+use native.Mathlib.Omega.{arith}
+use Prim.Native.Nat.{◌+◌}
+use Rattle.numbers.specs.Fields.{Field}
+use Rattle.numbers.proofs.Records.{puts-written}
+use Rattle.layouts.specs.Layout.{width_of}
+use Rattle.pages.specs.Page.{key, value, run, run_field}
+use Rattle.pages.proofs.Write.{fields_on}
+use Rattle.pages.proofs.slot.put.Goals as goal
+
+pub returns : goal.returns
+returns c =
+    let e = c.before.before.before.before.before.before.before.before.before.before.before.before in
+    let s = e.before.before.before.before.before.before.before.before.before.before.before in
+    let a = s.args in
+    let four : List Field = (2, width_of a.layout) ∷ (2, a.kind) ∷ (8, key a.x) ∷ (8, value a.x) ∷ [] in
+    let w = c.put_run.ensures in
+    let m = simp add_assoc at (puts-written four a.part.now a.at s.requires.0) in
+    w ∙ cc (m, fields_on four (run_field a.layout (run a.x)) a.part.now a.at (a.at + 20) (omega arith) s.requires.0)

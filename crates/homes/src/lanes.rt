@@ -158,7 +158,8 @@ fn pick(before: [u16; 16], after: [u16; 16], p: u16) -> [u64; 12]
     let mut pages = [0; 12];
     let mut i = 0;
     while i < 12 {
-        pages[i] = if after[i] < p {
+        let is_there = after[i] < p;
+        pages[i] = if is_there {
             after[i] as u64
         } else {
             before[i] as u64

@@ -5,7 +5,7 @@ use lib.ListN.{get_or}
 use Rattle.homes.specs.Steps.Lanes.{picked}
 use Rattle.homes.proofs.Rowed.{none, one, over}
 use Rattle.homes.proofs.lanes.pick.Goals as goal
-use Rattle.homes.proofs.lanes.pick.Goals.{else-after-i, then-after-i}
+use Rattle.homes.proofs.lanes.pick.Goals.{else-is_there, then-is_there}
 
 pub loop-i-init : goal.loop-i-init
 loop-i-init c = (none _ _ refl, search rules)
@@ -16,7 +16,7 @@ loop-i-preserved c =
     let at = turn.args in
     let a = get_or at.after turn.loop-i.i 0 in
     let b = get_or at.before turn.loop-i.i 0 in
-    let is : c.if-after-i.pages ≡ picked at.p a b = elim c.if-after-i.branch [ then-after-i w ↦ rw (lt-ltb a at.p w.if-after-i.true) w.pages-is | else-after-i w ↦ rw (le-ltb a at.p w.if-after-i.false) w.pages-is ] in
+    let is : c.if-is_there.pages ≡ picked at.p a b = elim c.if-is_there.branch [ then-is_there w ↦ rw (lt-ltb a at.p w.if-is_there.true) w.pages-is | else-is_there w ↦ rw (le-ltb a at.p w.if-is_there.false) w.pages-is ] in
     (one _ _ _ _ turn.loop-i.invariant.0 turn.loop-i-test.true is, search rules)
 
 pub returns : goal.returns

@@ -1,0 +1,12 @@
+-- `slots::take_out_at` meets its contract: the page that `take_out` leaves in the lent part stands in the
+-- area.
+use Rattle.pages.proofs.Write.{part_written}
+use Rattle.pages.proofs.Areas.{lent_part}
+use Rattle.slots.proofs.take_out_at.Goals as goal
+
+pub returns : goal.returns
+returns c =
+    let s = c.before.before.before.before.before.before in
+    let a = s.args in
+    let lent = lent_part a.area.now a.a in
+    part_written a.layout a.area.now a.a _ _ (rw lent at c.take_out.ensures a.a s.requires.2)

@@ -196,7 +196,7 @@ none_next f due = still (left f due)
 pub history : (o : Option Kept) (f : File) (cs : List Call) → Known o f → All (Fits f.layout) cs → Known (kept o f cs) (after f cs)
 unfolding kept after
 history o f [] k w = k
-history o f (c ∷ cs) k w = history _ _ cs (next o k) (rw (same_layout f c) w.1)
+history o f (c ∷ cs) k w = history (cond (eqb (refusal f c) 0) (makes f.layout o c) o) _ cs (next o k) (rw (same_layout f c) w.1)
   where
     next : (o : Option Kept) → Known o f → Next f.layout o c (left f c)
     next none k = none_next f c

@@ -70,7 +70,9 @@ fn join(state: State, area: &mut [u8], second: State, other: &[u8], row: &[u32])
     ensures { let o = joined in_use state area.old (union key (held_in in_use state area.old) (held_in in_use second other.now)) (state.cap + second.cap) in (result ≡ o.merge) × (area.new ≡ o.area) }
 {
     let read = state.cap as u32 + second.cap as u32;
-    if !survey::has_room(row, IN_USE) {
+    let fits = survey::has_room(row, IN_USE);
+    let is_full = !fits;
+    if is_full {
         let answer = Merged::NoRoom { read };
         return MergeDone { state, answer };
     }

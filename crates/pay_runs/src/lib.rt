@@ -117,7 +117,8 @@ fn put_each(state: State, area: &mut [u8], input: &[u8], room: &mut [u8]) -> Sta
     let mut i = 0;
     while i < count {
         let lane = i % LANES;
-        if lane == 0 {
+        let is_first = lane == 0;
+        if is_first {
             ahead = look_ahead(after, &input[RECORD * i..]);
         }
         let at = REPLY * i;

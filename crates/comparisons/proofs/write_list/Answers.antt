@@ -22,7 +22,7 @@ use Rattle.comparisons.proofs.write_list.Reads as reads
 use Rattle.comparisons.proofs.write_list.Tie as tie
 
 pub returns-then-row-eq0 : goal.returns-then-row-eq0
-returns-then-row-eq0 c = none_written _ _ _ _ c.requires.sortable c.if-row-eq0.true
+returns-then-row-eq0 c = none_written (look c.args.there c.args.other.now) c.args.row.now _ _ c.requires.sortable c.if-row-eq0.true
 
 -- the entries of the two passes
 abbrev firsts : (c : lts.Start tie.the-claims reads.Pre reads.Post tie.handed_clauses) → List Entry

@@ -1,7 +1,6 @@
 -- `merges::join` meets its contract: the row decides, and with room both are laid anew.
 use mathlib.Core.Path.{ap}
 use native.Mathlib.Omega.{arith}
-use borrow.Author.Tests.{not-true, not-false}
 use lib.ListN.{length}
 use Rattle.layouts.specs.Layout.{in_use}
 use Rattle.placing.proofs.Rows.{counts-length}
@@ -26,18 +25,18 @@ mine g = let s = start g in known s.args.state s.args.area.now (λ i l. omega (a
 theirs : (g : lts.After-shared_slice_known tie.the-claims reads.Pre reads.Post tie.handed_clauses) → Known (start g).args.second (start g).args.other.now
 theirs g = let s = start g in known s.args.second s.args.other.now (λ i l. omega (arith, g.shared_slice_known-1.given i)) s.requires.open_image.1
 
-pub has_room-requires : goal.has_room-requires
-has_room-requires c =
+pub has_room-fits-requires : goal.has_room-fits-requires
+has_room-fits-requires c =
     let g = c.before.before.before.before in
     let s = start g in
     omega (arith, (mine g).range.cap_high, ap length s.requires.row_value, counts-length (home_for (homes s.args.state)) (union key (held_in in_use s.args.state s.args.area.now) (held_in in_use s.args.second s.args.other.now)) s.args.state.cap 0)
 
-pub returns-then-not-has_room : goal.returns-then-not-has_room
-returns-then-not-has_room c =
+pub returns-then-is_full : goal.returns-then-is_full
+returns-then-is_full c =
     let r = c.before.before in
     let g = r.before.before.before.before in
     let s = start g in
-    join_full s.args.state s.args.area.now s.args.second s.args.other.now (mine g) (theirs g) s.requires.open_image.2 _ s.requires.row_value _ r.has_room.ensures _ (not-true r.has_room.result c.if-not-has_room.true-raw)
+    join_full s.args.state s.args.area.now s.args.second s.args.other.now (mine g) (theirs g) s.requires.open_image.2 _ s.requires.row_value _ r.has_room-fits.ensures _ c.if-is_full.true
 
 pub site_of-here-requires : goal.site_of-here-requires
 site_of-here-requires c = c.requires.open_image.0.0
@@ -51,7 +50,7 @@ lay_both-r-requires c = let all = let there = c.before.before in
     let r = here.before.before in
     let g = r.before.before.before.before in
     let s = start g in
-    join_fits s.args.state s.args.area.now s.args.second s.args.other.now (mine g) (theirs g) s.requires.open_image.2 _ s.requires.row_value _ r.has_room.ensures 0 (not-false r.has_room.result here.if-not-has_room.false-raw) _ _ here.site_of-here.ensures there.site_of-there.ensures in record { walkable = all.0; fact = all.1 }
+    join_fits s.args.state s.args.area.now s.args.second s.args.other.now (mine g) (theirs g) s.requires.open_image.2 _ s.requires.row_value _ r.has_room-fits.ensures 0 here.if-is_full.false _ _ here.site_of-here.ensures there.site_of-there.ensures in record { walkable = all.0; fact = all.1 }
 
 pub returns : goal.returns
 returns c =
@@ -61,5 +60,5 @@ returns c =
     let r = here.before.before in
     let g = r.before.before.before.before in
     let s = start g in
-    join_laid s.args.state s.args.area.now s.args.second s.args.other.now (mine g) (theirs g) s.requires.open_image.2 _ s.requires.row_value _ r.has_room.ensures _ (not-false r.has_room.result here.if-not-has_room.false-raw)
+    join_laid s.args.state s.args.area.now s.args.second s.args.other.now (mine g) (theirs g) s.requires.open_image.2 _ s.requires.row_value _ r.has_room-fits.ensures _ here.if-is_full.false
     _ _ here.site_of-here.ensures there.site_of-there.ensures _ _ l.lay_both-r.ensures _ c.holding-joined.ensures

@@ -1,0 +1,25 @@
+-- `reefcushion::reefcushion_find` meets its contract: `register::find` on the state that the slip
+-- brings, told in the slip.
+use mathlib.Core.Path.{refl}
+use mathlib.Core.List.{[]}
+use Rattle.layouts.specs.Layout.{in_use}
+use Rattle.register.specs.Files.{find, leaves, left}
+use Rattle.reefcushion.proofs.Calling.{not_served, is_served}
+use Rattle.reefcushion.proofs.reefcushion_find.Goals as goal
+
+pub returns-then-slip-ne-SLIP : goal.returns-then-slip-ne-SLIP
+returns-then-slip-ne-SLIP c =
+    let a = c.args in
+    rw (not_served a.slip.now c.if-slip-ne-SLIP.true a.area.now (find a.key)) (refl, (refl, refl))
+
+pub returns : goal.returns
+unfolding left
+returns c =
+    let t = c.before.before in
+    let g = t.before.before in
+    let i = g.before in
+    let e = i.before in
+    let a = e.args in
+    let came = g.find-done.ensures in
+    let told = t.tell.ensures in
+    rw (is_served a.slip.now e.if-slip-ne-SLIP.false _ i.state_in-state.ensures a.area.now _ _ [] (find a.key) (λ j. leaves in_use (came j) a.area.now [])) (told.value, (told.slip_after, told.again))

@@ -8,11 +8,12 @@ use native.Mathlib.Omega.{arith}
 use lib.Dec.{eqb}
 use lib.ListN.{length, drop}
 use borrow.Author.Tests.{eqb-true}
+use Rattle.layouts.specs.Layout.{in_use}
 use Rattle.placing.specs.Image.{All}
 use Rattle.state.specs.State.{all, in_range}
 use Rattle.gates.specs.Gates.{gate_of, check_gate, grow_gate, shrink_gate}
 use Rattle.register.specs.Files.{left}
-use Rattle.demands.specs.Histories.{Kept}
+use Rattle.demands.specs.Histories.{Kept, makes}
 use Rattle.demands.specs.Demands.{Fresh}
 use Rattle.demands.proofs.Demands.{demands}
 use Rattle.records.specs.declared.Command.{Command}
@@ -20,7 +21,7 @@ use Rattle.records.specs.declared.Command.TheVariants.{Format, Put, Find, Remove
 use Rattle.records.specs.declared.Item.{Item}
 use Rattle.records.specs.declared.Item.TheVariants.{Asks, Unknown, Cut}
 use Rattle.records.specs.Records.{first_of}
-use Rattle.commands.specs.Execute.{Site, executed}
+use Rattle.commands.specs.Execute.{Site, call_of, executed}
 use Rattle.commands.specs.Log.{waits, stops, on_item, turn, on_turn, log}
 use Rattle.records.proofs.Reading.{head_cut}
 use Rattle.log_demands.specs.LogDemands.{on_first, asked, kept_by, file_at, AsCalled, AnswersOne, After, LogDemands}
@@ -37,7 +38,8 @@ commands_keep : (o : Option Kept) (d : Site) (cs : List Command) → All Fit cs 
     → Holds (kept_by o d cs) (after_all d cs).state (after_all d cs).space
 unfolding kept_by after_all
 commands_keep o d [] w h = h
-commands_keep o d (c ∷ cs) w h = commands_keep _ (executed d c).site cs w.1 (command_keeps o d c w.0 h)
+commands_keep o d (c ∷ cs) w h =
+    commands_keep (cond (eqb (executed d c).numbers.refusal 0) (makes in_use o (call_of c [])) o) (executed d c).site cs w.1 (command_keeps o d c w.0 h)
 
 -- a log leaves the site that the commands of its input leave
 log-site : (last : Bool) (room : ℕ) (d : Site) (l : List ℕ) → (log last room d l).site ≡ after_all d (asked room l)

@@ -29,7 +29,7 @@ kept_more : (o : Option Kept) (f : File) (cs : List Call) (c : Call)
     → kept o f (cs ++ (c ∷ [])) ≡ cond (eqb (refusal (after f cs) c) 0) (makes (after f cs).layout (kept o f cs) c) (kept o f cs)
 unfolding after kept
 kept_more o f [] c = refl
-kept_more o f (x ∷ cs) c = kept_more _ (left f x).file cs c
+kept_more o f (x ∷ cs) c = kept_more (cond (eqb (refusal f x) 0) (makes f.layout o x) o) (left f x).file cs c
 
 -- after a fresh history an accepted call makes one
 pub fresh_more : {m new : Kept} {f : File} (c : Call) → Fits f.layout c → refusal f c ≡ 0 → makes f.layout (some m) c ≡ some new → Fresh m f → Fresh new (left f c).file

@@ -1,6 +1,6 @@
 -- The demands, proved: of any file after a fresh history (`Fresh`).
 use mathlib.Core.Path.{◌≡◌, refl, sym, ap, ◌∙◌}
-use mathlib.Core.Logic.{◌↔◌, ◌⊎◌, inl, inr, ⊎_elim}
+use mathlib.Core.Logic.{◌↔◌, inl, inr, ⊎_elim}
 use mathlib.Core.Option.{Option, none, some}
 use mathlib.Core.List.{List, [], ◌∷◌}
 use Prim.Native.Nat.{ℕ, ◌<◌}
@@ -14,9 +14,9 @@ use Rattle.placing.specs.Rows.{counts}
 use Rattle.placing.proofs.Images.{one_image}
 use Rattle.placing.proofs.Perms.{perm-length}
 use Rattle.placing.proofs.Seek.{clash}
-use Rattle.pages.specs.Page.{Record, key, value, home_for}
+use Rattle.pages.specs.Page.{Record, key, home_for}
 use Rattle.state.specs.State.{homes, grown}
-use Rattle.register.specs.Files.{Call, find, put, remove, grow, shrink, due, File, Left, left, numbers_of}
+use Rattle.register.specs.Files.{Call, find, put, remove, grow, shrink, File, Left, left, numbers_of}
 use Rattle.demands.specs.Histories.{refusal, Kept, state_of, commit_of}
 use Rattle.demands.specs.Demands.{Fresh, Tells, Row, Found, PutTold, Retried, Removed, Sound, TheImage, RoomPut, RoomGrow, Shrinks, TakenBack, Counted, Agree, AfterFresh, Demands}
 use Rattle.demands.specs.Refusals.{OneOf}

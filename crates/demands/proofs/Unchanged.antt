@@ -18,7 +18,6 @@ use Rattle.gates.specs.Gates.{on_gate, gate_of, check_gate, grow_gate, shrink_ga
 use Rattle.changes.specs.Changes.{done, Outcome, refused, settled, put_open, remove_open}
 use Rattle.register.specs.Calls.{has_room, remade, grow_open, with_row, grown_counts}
 use Rattle.register.specs.Files.{format, find, put, remove, grow, shrink, check, due, File, Left, of_outcome, of_growth, leaves, left, numbers_of}
-use Rattle.demands.specs.Histories.{refusal}
 use Rattle.demands.specs.Demands.{Total}
 
 -- the number of what was left

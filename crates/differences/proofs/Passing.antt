@@ -3,7 +3,7 @@ use mathlib.Core.Path.{◌≡◌, refl, sym, ap, subst, ◌∙◌}
 use mathlib.Core.Bool.{Bool, true, false, cond, ◌||◌}
 use mathlib.Core.Option.{Option, none, some}
 use mathlib.Core.List.{List, [], ◌∷◌, ◌++◌, map, map-append, append_assoc, append-nil}
-use Prim.Native.Nat.{ℕ, zero, suc, ◌+◌, ◌-◌, ◌*◌, ◌≤◌}
+use Prim.Native.Nat.{ℕ, zero, suc, ◌+◌, ◌*◌, ◌≤◌}
 use native.Mathlib.Nat.{add-zero, zero-add}
 use native.Mathlib.Numerals.{add-one}
 use native.Mathlib.Omega.{arith}
@@ -21,7 +21,6 @@ use Rattle.pages.proofs.Memory.{page_records, page_count}
 use Rattle.pages.proofs.Seeking.{paired-length, paired_turn}
 use Rattle.pages.proofs.Read.{held_twelve}
 use Rattle.entries.specs.Steps.Entries.{size}
-use Rattle.sites.specs.Held.{same}
 use Rattle.two_sets.specs.Differences.{only_first, only_second, unlike, is_unlike}
 use Rattle.differences.specs.declared.Tally.{Tally}
 use Rattle.differences.specs.Steps.Passes.{D, of_one, of_all, kind_in, entry_of, entries_of, fitted, is_only, Passes}

@@ -1,6 +1,6 @@
 -- The page that a group grows into lies among the pages of that step: from F on, and below F + G.
 --
-use mathlib.Core.Logic.{◌⊎◌, ⊎_elim}
+use mathlib.Core.Logic.{⊎_elim}
 use mathlib.Core.Path.{◌≡◌}
 use Prim.Native.Nat.{ℕ, suc, ◌+◌, ◌-◌, ◌*◌, ◌/◌, ◌%◌, ◌≤◌, ◌<◌, min}
 use native.Mathlib.Nat.{mod-lt, div-add-mod', mul-le-mul_right, lt_of_mul-lt-mul_right}

@@ -14,7 +14,6 @@ use Rattle.placing.proofs.Perms.{perm-length, perm-up_to}
 use Rattle.placing.proofs.Taken.{taken_cong}
 use Rattle.placing.proofs.Images.{room_taken}
 use Rattle.pages.specs.Page.{Record, key}
-use Rattle.sites.specs.Held.{same}
 use Rattle.two_sets.specs.Union.{union}
 use Rattle.two_sets.proofs.Differences.{seek_is}
 use Rattle.two_sets.proofs.Union.{union_set, union_at, same_records}

@@ -16,7 +16,6 @@ use Rattle.placing.specs.Lay.{taken}
 use Rattle.placing.specs.Rows.{counts, left_over}
 use Rattle.placing.specs.Walks.{seek}
 use Rattle.placing.proofs.Lists.{all_map}
-use Rattle.placing.proofs.Seek.{clash}
 use Rattle.placing.proofs.Perms.{perm-length, perm-up_to}
 use Rattle.placing.proofs.Taken.{taken_cong}
 use Rattle.placing.proofs.Rows.{counts-perm, row_room}

@@ -1,6 +1,6 @@
 -- What is promised of a run's bytes: `RunPromises`, at the end (02, request 2). What is quoted is
 -- 02's.
-use Rattle.std.specs.Prelude.{ℕ, ◌+◌, ◌*◌, ◌≡◌, ◌↔◌, List, [], ◌∷◌, ◌++◌, length, take, drop}
+use Rattle.std.specs.Prelude.{ℕ, ◌*◌, ◌≡◌, ◌↔◌, List, [], ◌∷◌, ◌++◌, length, take, drop}
 use Rattle.numbers.specs.Little.{Bytes}
 use Rattle.numbers.specs.Fields.{encode}
 use Rattle.placing.specs.Image.{All}

@@ -8,7 +8,7 @@ use native.Mathlib.Omega.{arith}
 use lib.Dec.{ltb}
 use borrow.Author.Tests.{ltb-true, lt-ltb}
 use Rattle.numbers.proofs.Records.{and_left, and_right}
-use Rattle.layouts.specs.Layout.{Layout, slots_on, twelve, ten}
+use Rattle.layouts.specs.Layout.{Layout, slots_on}
 use Rattle.state.specs.declared.State.{State}
 use Rattle.state.specs.State.{in_range, is_due}
 use Rattle.state.specs.Promises.{Ranged, StatePromises}

@@ -5,11 +5,11 @@ use mathlib.Core.Logic.{◌↔◌}
 use mathlib.Core.Option.{Option, none, some}
 use mathlib.Core.List.Permᴰ
 use mathlib.Core.List.{List, [], ◌∷◌, ◌++◌, Permᴰ}
-use Prim.Native.Nat.{ℕ, ◌+◌}
+use Prim.Native.Nat.{ℕ}
 use lib.Dec.{eqb}
 use borrow.Author.Tests.{eqb-true, eqb-false, eq-eqb}
 use Rattle.placing.specs.Image.{All, Distinct}
-use Rattle.placing.specs.Lay.{one, Sorted}
+use Rattle.placing.specs.Lay.{Sorted}
 use Rattle.placing.specs.Walks.{or_else, seek}
 use Rattle.placing.proofs.Lists.{all_append}
 use Rattle.placing.proofs.Seek.{clash, seek-append, seek_ne, ne_seek}

@@ -8,7 +8,6 @@ use native.Mathlib.Omega.{arith}
 use lib.ListN.{length, drop, length-append, drop_of_length-le}
 use lib.Seq.{drop-cons, drop_at, get_or_at}
 use Rattle.layouts.specs.Layout.{Layout, slots_of}
-use Rattle.walks.specs.Steps.Plans.{slots}
 use Rattle.placing.specs.Image.{All, cat, page, Distinct, RecordSet, Image}
 use Rattle.placing.specs.Lay.{rank_in, Sorted}
 use Rattle.placing.proofs.Lists.{all_right, all_page}

@@ -1,5 +1,5 @@
 use mathlib.Core.Path.{refl}
-use Prim.Native.Nat.{◌+◌, ◌-◌, ◌≤◌}
+use Prim.Native.Nat.{◌+◌, ◌≤◌}
 use native.Mathlib.Omega.{arith}
 use Rattle.sites.specs.Steps.Sites.{look}
 use Rattle.differences.proofs.Passing.{passes_none, passes_few, passes_length, file_few, file_turn, file_end, page_most}

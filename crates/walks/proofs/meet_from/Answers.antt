@@ -1,11 +1,10 @@
 use mathlib.Core.Path.{◌≡◌, refl, ap, ◌∙◌}
 use mathlib.Core.Bool.{true}
-use Prim.Native.Nat.{◌-◌, ◌<◌}
+use Prim.Native.Nat.{◌<◌}
 use native.Mathlib.Omega.{arith}
 use borrow.Author.Tests.{not-true, not-false}
 use Rattle.homes.specs.Homes.{home_in}
 use Rattle.pages.specs.Page.{value}
-use Rattle.walks.specs.Walks.{walk}
 use Rattle.walks.specs.Steps.Plans.{held}
 use Rattle.walks.proofs.Scanning.{Rows, Tested, left_all, slot_after, slot_used, slot_hit, slot_on}
 use Rattle.walks.proofs.Meeting.{home_fits, Seen, page_few, page_last, page_rows, walk_starts, walk_past, walk_sick, walk_found, walk_ends, walk_on, walk_told}

@@ -1,5 +1,5 @@
 use mathlib.Core.Path.{◌≡◌, refl, ap}
-use Prim.Native.Nat.{ℕ, ◌-◌, ◌*◌, ◌≤◌, ◌<◌}
+use Prim.Native.Nat.{ℕ, ◌*◌, ◌≤◌, ◌<◌}
 use borrow.Author.Rules.{rules}
 use Rattle.homes.specs.declared.lane.Lane.{Lane}
 use Rattle.homes.specs.Steps.Lanes.{lane_at, address_of, InGroup}

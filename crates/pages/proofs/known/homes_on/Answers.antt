@@ -1,6 +1,5 @@
 use mathlib.Core.Path.{◌≡◌, ◌∙◌}
 use lib.ListN.{get_or}
-use Prim.Native.Nat.{◌-◌}
 use Rattle.homes.specs.Homes.{home_in}
 use Rattle.pages.specs.Steps.Slots.{records_of}
 use Rattle.pages.proofs.Homing.{homing_starts, home_here, homing_goes_on, homing_ends}

@@ -6,8 +6,12 @@
 ghost use Rattle.std.specs.Prelude.{◌≡◌, ◌≤◌, length};
 ghost use Rattle.compare_files.specs.Within.{Within};
 
-use libc::STDOUT_FILENO;
 use reefcushion::reefcushion_compare;
+use std::env::FillError;
+use std::fs::File;
+use std::io::{Read, Write};
+use std::rt::{Env, Files};
+use std::{io, str};
 
 // The most bytes of a register file, and one more, so that a longer file is known as one.
 const MOST: usize = 1048593;
@@ -22,24 +26,55 @@ enum Loaded {
     Failed,
 }
 
+// Reads until the buffer is full, the input ends or a read fails: how many bytes stand at its front.
+fn read_full<R: Read>(from: &mut R, buffer: &mut [u8]) -> usize
+    ensures { result ≤ length buffer.old }
+{
+    let mut done = 0;
+    while done < buffer.len() {
+        let came = from.read(&mut buffer[done..]).unwrap_or(0);
+        if came == 0 {
+            break;
+        }
+        done += came;
+    }
+    done
+}
+
+// The words for an argument that is no file's name are those of the system's own errors.
+fn no_name(rt: &impl Eprint, error: FillError) {
+    let words = match error {
+        FillError::NotPresent => "Invalid argument",
+        FillError::TooLong => "File name too long",
+    };
+    let _ = eprintln!(rt; "compare_files FIRST SECOND: {words}");
+}
+
 // The file that an argument names, to the front of a buffer. What can't be read is told on standard error.
-fn load(argument: usize, buffer: &mut [u8]) -> Loaded
+fn load<R: Files + Env + Eprint>(rt: &R, argument: usize, buffer: &mut [u8]) -> Loaded
     ensures { Within (length buffer.old) result }
 {
-    let mut path = io::buffer();
-    let n = os::arg(argument, &mut path);
-    if os::errno() != 0 {
-        os::fail(b"compare_files FIRST SECOND");
+    let mut path = [0u8; 4096];
+    let n = match rt.arg(argument, &mut path[..]) {
+        Ok(n) => n,
+        Err(error) => {
+            no_name(rt, error);
+            return Loaded::Failed;
+        }
+    };
+    let Ok(name) = str::from_utf8(&path[..n]) else {
+        let _ = eprintln!(rt; "compare_files FIRST SECOND: a name is not UTF-8");
         return Loaded::Failed;
+    };
+    match File::open(rt, name) {
+        Ok(mut file) => Loaded::Bytes {
+            count: read_full(&mut file, buffer),
+        },
+        Err(error) => {
+            let _ = eprintln!(rt; "{name}: {error}");
+            Loaded::Failed
+        }
     }
-    let fd = os::open_read(&path[..n]);
-    if fd < 0 {
-        os::fail(&path[..n]);
-        return Loaded::Failed;
-    }
-    let count = io::read_full(fd, buffer);
-    libc::close(fd);
-    Loaded::Bytes { count }
 }
 
 // Where the pages of a file begin. A file that is shorter than a state has none, and is refused.
@@ -54,7 +89,8 @@ fn slip_of(file: &[u8]) -> [u8; 40]
     ensures { 40 ≡ length result }
 {
     let mut slip = [0u8; 40];
-    bytes::copy(&file[..pages_at(file.len())], &mut slip[..]);
+    let state = pages_at(file.len());
+    slip[..state].copy_from_slice(&file[..state]);
     slip
 }
 
@@ -74,14 +110,14 @@ fn refused(told: &[u8]) -> [u8; 16]
     record
 }
 
-fn write(output: &[u8]) {
-    if !io::write_all(STDOUT_FILENO, output) {
-        os::fail(b"standard output");
+fn write(rt: &(impl Print + Eprint), output: &[u8]) {
+    if let Err(error) = io::writer(rt).write_all(output) {
+        let _ = eprintln!(rt; "standard output: {error}");
     }
 }
 
 // The list of two files, or the refusal. No list is longer than the room that it was written to.
-fn tell(first: &[u8], second: &[u8], room: &mut [u8]) {
+fn tell(rt: &(impl Print + Eprint), first: &[u8], second: &[u8], room: &mut [u8]) {
     let here = slip_of(first);
     let there = slip_of(second);
     let mut told = [0u8; 20];
@@ -95,12 +131,12 @@ fn tell(first: &[u8], second: &[u8], room: &mut [u8]) {
     );
     if refusal != 0 {
         let record = refused(&told[..]);
-        write(&record[..]);
+        write(rt, &record[..]);
         return;
     }
     let length = numbers::get_u32(&told[..], 12) as usize;
     if length <= room.len() {
-        write(&room[..length]);
+        write(rt, &room[..length]);
     }
 }
 
@@ -118,19 +154,24 @@ fn list_space() -> [u8; ROOM]
 }
 
 // Both files, and what differs.
-fn run(first: &mut [u8], second: &mut [u8], room: &mut [u8]) {
-    let Loaded::Bytes { count: here } = load(1, first) else {
+fn run<R: Files + Env + Print + Eprint>(
+    rt: &R,
+    first: &mut [u8],
+    second: &mut [u8],
+    room: &mut [u8],
+) {
+    let Loaded::Bytes { count: here } = load(rt, 1, first) else {
         return;
     };
-    let Loaded::Bytes { count: there } = load(2, second) else {
+    let Loaded::Bytes { count: there } = load(rt, 2, second) else {
         return;
     };
-    tell(&first[..here], &second[..there], room);
+    tell(rt, &first[..here], &second[..there], room);
 }
 
-fn main() {
+fn main(rt: HostRuntime) {
     let mut first = file_space();
     let mut second = file_space();
     let mut room = list_space();
-    run(&mut first[..], &mut second[..], &mut room[..]);
+    run(&rt, &mut first[..], &mut second[..], &mut room[..]);
 }

@@ -9,6 +9,8 @@ ghost use Rattle.std.specs.Prelude.{◌≤◌, ◌<◌};
 use homes::{Params, Shape};
 use layouts::IN_USE;
 use state::State;
+use std::io;
+use std::io::Write;
 use text::{print_item, say, say_number};
 
 // Draw x of seed 1.
@@ -22,18 +24,18 @@ fn draw_of(x: u64) -> u64 {
     draw as u64
 }
 
-fn print_draw(x: u64) {
-    say_number(b"seed 1, draw ", x);
-    say_number(b": ", draw_of(x));
-    say(b"\n");
+fn print_draw<W: Write>(out: &mut W, x: u64) -> io::Result<()> {
+    say_number(out, b"seed 1, draw ", x)?;
+    say_number(out, b": ", draw_of(x))?;
+    say(out, b"\n")
 }
 
-fn print_draws() {
-    print_draw(1);
-    print_draw(2);
-    print_draw(3);
-    print_draw(4);
-    print_draw(10000);
+fn print_draws<W: Write>(out: &mut W) -> io::Result<()> {
+    print_draw(out, 1)?;
+    print_draw(out, 2)?;
+    print_draw(out, 3)?;
+    print_draw(out, 4)?;
+    print_draw(out, 10000)
 }
 
 // The lowest key that lives on a page when it is the last one grown, n0 2, N 8, s 3; 1,000 where
@@ -63,17 +65,17 @@ fn group_into(page: u64) -> u64
     if key < 1000 { key % 8 } else { 8 }
 }
 
-fn print_order() {
-    say(b"n0 2, N 8, s 3, pages 16 to 23 come from groups: ");
+fn print_order<W: Write>(out: &mut W) -> io::Result<()> {
+    say(out, b"n0 2, N 8, s 3, pages 16 to 23 come from groups: ")?;
     let mut page = 16;
     while page < 24 {
-        print_item(page == 16, group_into(page));
+        print_item(out, page == 16, group_into(page))?;
         page += 1;
     }
-    say(b"\n");
+    say(out, b"\n")
 }
 
-fn print_home(key: u64, p: u64)
+fn print_home<W: Write>(out: &mut W, key: u64, p: u64) -> io::Result<()>
     requires { (4 ≤ p) × (p ≤ 8) }
 {
     let params = Params {
@@ -83,18 +85,18 @@ fn print_home(key: u64, p: u64)
         edition: 1,
     };
     let shape = Shape::new(params, p);
-    say_number(b"n0 2, N 2, s 1, key ", key);
-    say_number(b", P ", p);
-    say_number(b": home ", shape.home(key));
-    say(b"\n");
+    say_number(out, b"n0 2, N 2, s 1, key ", key)?;
+    say_number(out, b", P ", p)?;
+    say_number(out, b": home ", shape.home(key))?;
+    say(out, b"\n")
 }
 
-fn print_homes(key: u64) {
-    print_home(key, 4);
-    print_home(key, 5);
-    print_home(key, 6);
-    print_home(key, 7);
-    print_home(key, 8);
+fn print_homes<W: Write>(out: &mut W, key: u64) -> io::Result<()> {
+    print_home(out, key, 4)?;
+    print_home(out, key, 5)?;
+    print_home(out, key, 6)?;
+    print_home(out, key, 7)?;
+    print_home(out, key, 8)
 }
 
 // Whether a key is a mover at x 1. At P 6 the first step alone has been taken, for both groups: a
@@ -110,12 +112,12 @@ fn is_mover(edition: u16, key: u64) -> bool {
     shape.home(key) != key % 4
 }
 
-fn print_mover(key: u64) {
-    say_number(b"n0 2, N 2, s 1, key ", key);
+fn print_mover<W: Write>(out: &mut W, key: u64) -> io::Result<()> {
+    say_number(out, b"n0 2, N 2, s 1, key ", key)?;
     if is_mover(1, key) {
-        say(b", x 1: mover\n");
+        say(out, b", x 1: mover\n")
     } else {
-        say(b", x 1: no mover\n");
+        say(out, b", x 1: no mover\n")
     }
 }
 
@@ -136,13 +138,13 @@ fn count_movers(edition: u16) -> u64 {
     count
 }
 
-fn print_movers(edition: u16) {
-    say_number(b"n0 2, edition ", edition as u64);
-    say_number(b": of keys 0 to 42590, ", count_movers(edition));
-    say(b" are movers at x 1\n");
+fn print_movers<W: Write>(out: &mut W, edition: u16) -> io::Result<()> {
+    say_number(out, b"n0 2, edition ", edition as u64)?;
+    say_number(out, b": of keys 0 to 42590, ", count_movers(edition))?;
+    say(out, b" are movers at x 1\n")
 }
 
-fn print_due(r: u32) {
+fn print_due<W: Write>(out: &mut W, r: u32) -> io::Result<()> {
     let params = Params {
         n0: 2,
         n: 2,
@@ -155,24 +157,25 @@ fn print_due(r: u32) {
         cap: 4,
         r,
     };
-    say_number(b"P 4, ", r as u64);
+    say_number(out, b"P 4, ", r as u64)?;
     if state.due(IN_USE) {
-        say(b" records: due\n");
+        say(out, b" records: due\n")
     } else {
-        say(b" records: not due\n");
+        say(out, b" records: not due\n")
     }
 }
 
-fn main() {
-    print_draws();
-    print_order();
-    print_homes(0);
-    print_homes(1);
-    print_mover(42590);
-    print_mover(42591);
-    print_movers(1);
-    print_movers(2);
-    print_due(38);
-    print_due(39);
-    small_files::print_all();
+fn main(rt: HostRuntime) -> io::Result<()> {
+    let mut out = rt.stdout();
+    print_draws(&mut out)?;
+    print_order(&mut out)?;
+    print_homes(&mut out, 0)?;
+    print_homes(&mut out, 1)?;
+    print_mover(&mut out, 42590)?;
+    print_mover(&mut out, 42591)?;
+    print_movers(&mut out, 1)?;
+    print_movers(&mut out, 2)?;
+    print_due(&mut out, 38)?;
+    print_due(&mut out, 39)?;
+    small_files::print_all(&mut out)
 }

@@ -6,6 +6,8 @@ use crate::text::{print_item, say, say_number};
 use homes::Params;
 use pages::Record;
 use state::{Done, State};
+use std::io;
+use std::io::Write;
 
 // The keys below a number put one after the other, each with ten times itself as its value.
 fn put_below(mut state: State, area: &mut [u8], end: u64) -> State
@@ -42,14 +44,14 @@ fn file_of(area: &mut [u8], cap: u16, end: u64) -> State
     put_below(done.state, area, end)
 }
 
-fn print_answer(words: &[u8], done: Done) {
+fn print_answer<W: Write>(out: &mut W, words: &[u8], done: Done) -> io::Result<()> {
     let answer = done.answer;
     let told = answer.numbers();
-    say(words);
-    say_number(b": refusal ", told.refusal as u64);
-    say_number(b", value ", told.value);
-    say_number(b", moved ", told.moved as u64);
-    say(b"\n");
+    say(out, words)?;
+    say_number(out, b": refusal ", told.refusal as u64)?;
+    say_number(out, b", value ", told.value)?;
+    say_number(out, b", moved ", told.moved as u64)?;
+    say(out, b"\n")
 }
 
 // How many records a page counts.
@@ -61,95 +63,96 @@ fn records_on(part: &[u8]) -> usize
     if count < 12 { count as usize } else { 12 }
 }
 
-fn print_first_keys(part: &[u8], count: usize)
+fn print_first_keys<W: Write>(out: &mut W, part: &[u8], count: usize) -> io::Result<()>
     requires { (length part.now ≡ 256) × (count ≤ 12) }
 {
     let mut i = 0;
     while i < count {
-        print_item(i == 0, numbers::get_u64(part, 20 + 20 * i));
+        print_item(out, i == 0, numbers::get_u64(part, 20 + 20 * i))?;
         i += 1;
     }
+    Ok(())
 }
 
-fn print_keys(words: &[u8], part: &[u8])
+fn print_keys<W: Write>(out: &mut W, words: &[u8], part: &[u8]) -> io::Result<()>
     requires { length part.now ≡ 256 }
 {
-    say(words);
-    say(b"[");
-    print_first_keys(part, records_on(part));
-    say(b"]\n");
+    say(out, words)?;
+    say(out, b"[")?;
+    print_first_keys(out, part, records_on(part))?;
+    say(out, b"]\n")
 }
 
 // The keys of both pages, a line each, with the page's number between the words.
-fn print_pages(before: &[u8], after: &[u8], area: &[u8])
+fn print_pages<W: Write>(out: &mut W, before: &[u8], after: &[u8], area: &[u8]) -> io::Result<()>
     requires { length area.now ≡ 512 }
 {
-    say_number(before, 0);
-    print_keys(after, &area[0..256]);
-    say_number(before, 1);
-    print_keys(after, &area[256..512]);
+    say_number(out, before, 0)?;
+    print_keys(out, after, &area[0..256])?;
+    say_number(out, before, 1)?;
+    print_keys(out, after, &area[256..512])
 }
 
-fn print_put_12(state: State, area: &mut [u8]) {
+fn print_put_12<W: Write>(out: &mut W, state: State, area: &mut [u8]) -> io::Result<()> {
     let new = Record {
         key: 12,
         value: 120,
         run: 0,
     };
     let put = register::put(state, area, new);
-    print_answer(b"  then put of key 12", put);
+    print_answer(out, b"  then put of key 12", put)
 }
 
 // One page less, and no page to give up then.
-fn print_shrunk(state: State, area: &mut [u8])
+fn print_shrunk<W: Write>(out: &mut W, state: State, area: &mut [u8]) -> io::Result<()>
     requires { length area.old ≡ 512 }
 {
     let shrunk = register::shrink(state, area);
-    print_answer(b"  then shrink", shrunk);
-    print_pages(b"  page ", b" then holds ", &area[..]);
+    print_answer(out, b"  then shrink", shrunk)?;
+    print_pages(out, b"  page ", b" then holds ", &area[..])?;
     let again = register::shrink(shrunk.state, area);
-    print_answer(b"  then shrink", again);
+    print_answer(out, b"  then shrink", again)
 }
 
-fn print_grown(area: &mut [u8], row: &mut [u32])
+fn print_grown<W: Write>(out: &mut W, area: &mut [u8], row: &mut [u32]) -> io::Result<()>
     requires { length area.old ≡ 512 }
 {
     let state = file_of(area, 2, 12);
     let grown = register::grow(state, area, row);
-    print_answer(b"cap 2, keys 0 to 11, grow", grown);
-    print_pages(b"  page ", b" then holds ", &area[..]);
-    print_put_12(grown.state, area);
-    print_shrunk(grown.state, area);
+    print_answer(out, b"cap 2, keys 0 to 11, grow", grown)?;
+    print_pages(out, b"  page ", b" then holds ", &area[..])?;
+    print_put_12(out, grown.state, area)?;
+    print_shrunk(out, grown.state, area)
 }
 
-fn print_spilt(area: &mut [u8], row: &mut [u32])
+fn print_spilt<W: Write>(out: &mut W, area: &mut [u8], row: &mut [u32]) -> io::Result<()>
     requires { length area.old ≡ 512 }
 {
     let state = file_of(area, 2, 13);
-    print_pages(b"cap 2, keys 0 to 12, page ", b" holds ", &area[..]);
+    print_pages(out, b"cap 2, keys 0 to 12, page ", b" holds ", &area[..])?;
     let grown = register::grow(state, area, row);
-    print_answer(b"  then grow", grown);
+    print_answer(out, b"  then grow", grown)
 }
 
 // The held key is put again, with its value and with another.
-fn print_held(state: State, area: &mut [u8]) {
+fn print_held<W: Write>(out: &mut W, state: State, area: &mut [u8]) -> io::Result<()> {
     let again = Record {
         key: 5,
         value: 50,
         run: 0,
     };
     let held = register::put(state, area, again);
-    print_answer(b"cap 1, held key 5 (value 50) put again", held);
+    print_answer(out, b"cap 1, held key 5 (value 50) put again", held)?;
     let other = Record {
         key: 5,
         value: 1,
         run: 0,
     };
     let clash = register::put(held.state, area, other);
-    print_answer(b"cap 1, held key 5 (value 50) put with value 1", clash);
+    print_answer(out, b"cap 1, held key 5 (value 50) put with value 1", clash)
 }
 
-fn print_full(area: &mut [u8]) {
+fn print_full<W: Write>(out: &mut W, area: &mut [u8]) -> io::Result<()> {
     let state = file_of(area, 1, 12);
     let new = Record {
         key: 12,
@@ -157,16 +160,16 @@ fn print_full(area: &mut [u8]) {
         run: 0,
     };
     let thirteenth = register::put(state, area, new);
-    print_answer(b"cap 1, thirteenth key", thirteenth);
-    print_held(thirteenth.state, area);
+    print_answer(out, b"cap 1, thirteenth key", thirteenth)?;
+    print_held(out, thirteenth.state, area)
 }
 
 // Each file in an area that held other bytes before.
-pub(crate) fn print_all() {
+pub(crate) fn print_all<W: Write>(out: &mut W) -> io::Result<()> {
     let mut area = [255u8; 512];
     let mut row = [0u32; 2];
-    print_grown(&mut area[..], &mut row[..]);
-    print_spilt(&mut area[..], &mut row[..]);
+    print_grown(out, &mut area[..], &mut row[..])?;
+    print_spilt(out, &mut area[..], &mut row[..])?;
     let mut page = [255u8; 256];
-    print_full(&mut page[..]);
+    print_full(out, &mut page[..])
 }

@@ -7,7 +7,8 @@ ghost use Rattle.std.specs.Prelude.{◌≡◌, ◌+◌, ◌≤◌, ◌<◌, leng
 
 use homes::{Params, Shape};
 use layouts::{TEN, TWELVE};
-use libc::STDOUT_FILENO;
+use std::io;
+use std::io::Write;
 
 fn slot(part: &mut [u8], i: usize, kind: u16, key: u64, value: u64)
     requires { (i < 12) × (length part.old ≡ 256) }
@@ -108,7 +109,14 @@ fn change(part: &mut [u8], at: usize, eight: bool, x: u64)
 }
 
 // The good page of a layout with a number changed, judged.
-fn judge_changed(layout: u8, name: &[u8], at: usize, eight: bool, x: u64)
+fn judge_changed<W: Write>(
+    out: &mut W,
+    layout: u8,
+    name: &[u8],
+    at: usize,
+    eight: bool,
+    x: u64,
+) -> io::Result<()>
     requires { at + 8 ≤ 256 }
 {
     let mut bytes = [0; 256];
@@ -122,85 +130,108 @@ fn judge_changed(layout: u8, name: &[u8], at: usize, eight: bool, x: u64)
     };
     let shape = Shape::new(params, 8);
     let judged = pages::judge(&bytes[..], 5, layout, shape);
-    io::write_all(STDOUT_FILENO, name);
+    out.write_all(name)?;
     if judged.good {
-        io::write_all(STDOUT_FILENO, b": good\n");
+        out.write_all(b": good\n")
     } else {
-        io::write_all(STDOUT_FILENO, b": broken\n");
+        out.write_all(b": broken\n")
     }
 }
 
-fn head_cases() {
-    judge_changed(TWELVE, b"nothing changed", 0, false, 256);
-    judge_changed(TWELVE, b"head length 255", 0, false, 255);
-    judge_changed(TWELVE, b"head kind 0x0012", 2, false, 18);
-    judge_changed(TWELVE, b"address 6", 4, false, 6);
-    judge_changed(TWELVE, b"address 5 + 65536", 6, false, 1);
-    judge_changed(TWELVE, b"count 2, with three records", 8, false, 2);
-    judge_changed(TWELVE, b"count 4, with three records", 8, false, 4);
-    judge_changed(TWELVE, b"count 13", 8, false, 13);
-    judge_changed(TWELVE, b"first of the six zero bytes 1", 10, false, 1);
-    judge_changed(TWELVE, b"last of the six zero bytes 1", 14, false, 256);
+fn head_cases<W: Write>(out: &mut W) -> io::Result<()> {
+    judge_changed(out, TWELVE, b"nothing changed", 0, false, 256)?;
+    judge_changed(out, TWELVE, b"head length 255", 0, false, 255)?;
+    judge_changed(out, TWELVE, b"head kind 0x0012", 2, false, 18)?;
+    judge_changed(out, TWELVE, b"address 6", 4, false, 6)?;
+    judge_changed(out, TWELVE, b"address 5 + 65536", 6, false, 1)?;
+    judge_changed(out, TWELVE, b"count 2, with three records", 8, false, 2)?;
+    judge_changed(out, TWELVE, b"count 4, with three records", 8, false, 4)?;
+    judge_changed(out, TWELVE, b"count 13", 8, false, 13)?;
+    judge_changed(out, TWELVE, b"first of the six zero bytes 1", 10, false, 1)?;
+    judge_changed(out, TWELVE, b"last of the six zero bytes 1", 14, false, 256)
 }
 
-fn slot_cases() {
-    judge_changed(TWELVE, b"slot 0 with length 21", 16, false, 21);
-    judge_changed(TWELVE, b"slot 11 with length 19", 236, false, 19);
-    judge_changed(TWELVE, b"slot 0 with kind 2", 18, false, 2);
-    judge_changed(TWELVE, b"slot 1 empty before a record", 38, false, 0);
-    judge_changed(TWELVE, b"slot 3 a record that is not counted", 78, false, 1);
-    judge_changed(TWELVE, b"an empty slot with a key", 80, true, 21);
-    judge_changed(TWELVE, b"an empty slot with a value", 248, true, 1);
-    judge_changed(TWELVE, b"another value", 48, true, 51);
-}
-
-fn order_cases() {
-    judge_changed(TWELVE, b"home 6 on page 5", 60, true, 14);
-    judge_changed(TWELVE, b"a lower home after a higher one", 40, true, 3);
-    judge_changed(TWELVE, b"a lower key after a higher one", 40, true, 21);
-    judge_changed(TWELVE, b"a key twice", 40, true, 13);
-    judge_changed(TWELVE, b"another key in order", 60, true, 21);
-}
-
-fn ten_head_cases() {
-    judge_changed(TEN, b"ten: nothing changed", 0, false, 256);
-    judge_changed(TEN, b"ten: head length 240", 0, false, 240);
-    judge_changed(TEN, b"ten: head kind 0x0011", 2, false, 17);
-    judge_changed(TEN, b"ten: address 4", 4, false, 4);
-    judge_changed(TEN, b"ten: count 2, with three records", 8, false, 2);
-    judge_changed(TEN, b"ten: count 11", 8, false, 11);
-    judge_changed(TEN, b"ten: one of the six zero bytes 1", 12, false, 1);
-}
-
-fn ten_slot_cases() {
-    judge_changed(TEN, b"ten: slot 0 with length 20", 16, false, 20);
-    judge_changed(TEN, b"ten: slot 9 with length 25", 232, false, 25);
-    judge_changed(TEN, b"ten: slot 2 with kind 2", 66, false, 2);
+fn slot_cases<W: Write>(out: &mut W) -> io::Result<()> {
+    judge_changed(out, TWELVE, b"slot 0 with length 21", 16, false, 21)?;
+    judge_changed(out, TWELVE, b"slot 11 with length 19", 236, false, 19)?;
+    judge_changed(out, TWELVE, b"slot 0 with kind 2", 18, false, 2)?;
+    judge_changed(out, TWELVE, b"slot 1 empty before a record", 38, false, 0)?;
     judge_changed(
+        out,
+        TWELVE,
+        b"slot 3 a record that is not counted",
+        78,
+        false,
+        1,
+    )?;
+    judge_changed(out, TWELVE, b"an empty slot with a key", 80, true, 21)?;
+    judge_changed(out, TWELVE, b"an empty slot with a value", 248, true, 1)?;
+    judge_changed(out, TWELVE, b"another value", 48, true, 51)
+}
+
+fn order_cases<W: Write>(out: &mut W) -> io::Result<()> {
+    judge_changed(out, TWELVE, b"home 6 on page 5", 60, true, 14)?;
+    judge_changed(out, TWELVE, b"a lower home after a higher one", 40, true, 3)?;
+    judge_changed(out, TWELVE, b"a lower key after a higher one", 40, true, 21)?;
+    judge_changed(out, TWELVE, b"a key twice", 40, true, 13)?;
+    judge_changed(out, TWELVE, b"another key in order", 60, true, 21)
+}
+
+fn ten_head_cases<W: Write>(out: &mut W) -> io::Result<()> {
+    judge_changed(out, TEN, b"ten: nothing changed", 0, false, 256)?;
+    judge_changed(out, TEN, b"ten: head length 240", 0, false, 240)?;
+    judge_changed(out, TEN, b"ten: head kind 0x0011", 2, false, 17)?;
+    judge_changed(out, TEN, b"ten: address 4", 4, false, 4)?;
+    judge_changed(out, TEN, b"ten: count 2, with three records", 8, false, 2)?;
+    judge_changed(out, TEN, b"ten: count 11", 8, false, 11)?;
+    judge_changed(out, TEN, b"ten: one of the six zero bytes 1", 12, false, 1)
+}
+
+fn ten_slot_cases<W: Write>(out: &mut W) -> io::Result<()> {
+    judge_changed(out, TEN, b"ten: slot 0 with length 20", 16, false, 20)?;
+    judge_changed(out, TEN, b"ten: slot 9 with length 25", 232, false, 25)?;
+    judge_changed(out, TEN, b"ten: slot 2 with kind 2", 66, false, 2)?;
+    judge_changed(
+        out,
         TEN,
         b"ten: slot 3 a record that is not counted",
         90,
         false,
         1,
-    );
-    judge_changed(TEN, b"ten: an empty slot with a key", 92, true, 21);
-    judge_changed(TEN, b"ten: an empty slot with a value", 244, true, 1);
-    judge_changed(TEN, b"ten: an empty slot with a run", 248, true, 4294967296);
-    judge_changed(TEN, b"ten: another run", 36, false, 8);
+    )?;
+    judge_changed(out, TEN, b"ten: an empty slot with a key", 92, true, 21)?;
+    judge_changed(out, TEN, b"ten: an empty slot with a value", 244, true, 1)?;
+    judge_changed(
+        out,
+        TEN,
+        b"ten: an empty slot with a run",
+        248,
+        true,
+        4294967296,
+    )?;
+    judge_changed(out, TEN, b"ten: another run", 36, false, 8)
 }
 
-fn ten_order_cases() {
-    judge_changed(TEN, b"ten: home 6 on page 5", 68, true, 14);
-    judge_changed(TEN, b"ten: a lower home after a higher one", 44, true, 3);
-    judge_changed(TEN, b"ten: a key twice", 44, true, 13);
-    judge_changed(TEN, b"ten: another key in order", 68, true, 21);
+fn ten_order_cases<W: Write>(out: &mut W) -> io::Result<()> {
+    judge_changed(out, TEN, b"ten: home 6 on page 5", 68, true, 14)?;
+    judge_changed(
+        out,
+        TEN,
+        b"ten: a lower home after a higher one",
+        44,
+        true,
+        3,
+    )?;
+    judge_changed(out, TEN, b"ten: a key twice", 44, true, 13)?;
+    judge_changed(out, TEN, b"ten: another key in order", 68, true, 21)
 }
 
-fn main() {
-    head_cases();
-    slot_cases();
-    order_cases();
-    ten_head_cases();
-    ten_slot_cases();
-    ten_order_cases();
+fn main(rt: HostRuntime) -> io::Result<()> {
+    let mut out = rt.stdout();
+    head_cases(&mut out)?;
+    slot_cases(&mut out)?;
+    order_cases(&mut out)?;
+    ten_head_cases(&mut out)?;
+    ten_slot_cases(&mut out)?;
+    ten_order_cases(&mut out)
 }

@@ -8,11 +8,11 @@ ghost use Rattle.std.specs.Prelude.{◌≡◌, ◌+◌, ◌*◌, ◌≤◌, leng
 ghost use Rattle.raw_calls.specs.Records.{Lying};
 
 use homes::Params;
-use libc::{STDIN_FILENO, STDOUT_FILENO};
 use pages::Record;
 use raw_records::{Answered, Asked, COMPARE, LONGEST, MERGE};
 use records::Told;
 use state::{Done, Numbers, State};
+use std::io::{Read, Write};
 
 // A format whose four numbers stand in one, the first lowest, and its edition in another. A number
 // that is too large for an edition is none, and so is 0.
@@ -159,28 +159,30 @@ fn call_on(asked: Asked, bytes: &mut [u8], row: &mut [u32]) -> Answered
     let lent = asked.row + 4;
     let mut second = [0u8; LONGEST];
     let mut room = [0u8; LONGEST];
-    let given = bytes::copy(&bytes[start..end], &mut second[..]);
-    let wide = bytes::copy(&bytes[lent..], &mut room[..]);
+    let given = end - start;
+    let wide = bytes.len() - lent;
+    second[..given].copy_from_slice(&bytes[start..end]);
+    room[..wide].copy_from_slice(&bytes[lent..]);
     let told = with_row(asked, bytes, &second[..given], row, &mut room[..wide]);
-    bytes::copy(&room[..wide], &mut bytes[lent..]);
+    bytes[lent..].copy_from_slice(&room[..wide]);
     told
 }
 
 // A reply: its numbers, then area, row and room as they lie in the bytes, with their lengths.
-fn tell(asked: Asked, bytes: &[u8], told: Answered) -> bool
+fn tell<W: Write>(to: &mut W, asked: Asked, bytes: &[u8], told: Answered) -> bool
     requires { Lying asked × (asked.room ≡ length bytes.now) × (length bytes.now ≤ 65662) }
 {
     let area = asked.area;
     let second = asked.second;
     let mut head = [0u8; 54];
     raw_records::reply(&mut head[..], told, 8 + area + (bytes.len() - second));
-    io::write_all(STDOUT_FILENO, &head[..])
-        && io::write_all(STDOUT_FILENO, &bytes[46..area])
-        && io::write_all(STDOUT_FILENO, &bytes[second..])
+    to.write_all(&head[..]).is_ok()
+        && to.write_all(&bytes[46..area]).is_ok()
+        && to.write_all(&bytes[second..]).is_ok()
 }
 
 // A record answered, or none that is sound.
-fn answer(bytes: &mut [u8], row: &mut [u32]) -> bool
+fn answer<W: Write>(to: &mut W, bytes: &mut [u8], row: &mut [u32]) -> bool
     requires { (46 ≤ length bytes.old) × (length bytes.old ≤ 65662) × (length row.old ≡ 4100) }
 {
     let asked = raw_records::asked_in(&bytes[..]);
@@ -189,14 +191,19 @@ fn answer(bytes: &mut [u8], row: &mut [u32]) -> bool
     }
     let counts = (asked.row - asked.second) / 4 - 1;
     let told = call_on(asked, bytes, &mut row[..counts]);
-    tell(asked, &bytes[..], told)
+    tell(to, asked, &bytes[..], told)
 }
 
 // The next record answered, or no more: input that is no whole record ends the run.
-fn answer_next(bytes: &mut [u8], row: &mut [u32]) -> bool
+fn answer_next<R: Read, W: Write>(
+    from: &mut R,
+    to: &mut W,
+    bytes: &mut [u8],
+    row: &mut [u32],
+) -> bool
     requires { (length bytes.old ≡ 65662) × (length row.old ≡ 4100) }
 {
-    if io::read_full(STDIN_FILENO, &mut bytes[..4]) < 4 {
+    if from.read_exact(&mut bytes[..4]).is_err() {
         return false;
     }
     let end = numbers::get_u32(&bytes[..], 0) as usize;
@@ -206,19 +213,21 @@ fn answer_next(bytes: &mut [u8], row: &mut [u32]) -> bool
     if bytes.len() < end {
         return false;
     }
-    if io::read_full(STDIN_FILENO, &mut bytes[4..end]) < end - 4 {
+    if from.read_exact(&mut bytes[4..end]).is_err() {
         return false;
     }
-    answer(&mut bytes[..end], row)
+    answer(to, &mut bytes[..end], row)
 }
 
 // A proved loop has to end, and nothing says that an input does: it counts its turns down, from a
 // number that no run uses up.
-fn main() {
+fn main(rt: HostRuntime) {
+    let mut from = rt.stdin();
+    let mut to = rt.stdout();
     let mut bytes = [0u8; 65662];
     let mut row = [0u32; 4100];
     let mut turns = u64::MAX;
-    while turns > 0 && answer_next(&mut bytes[..], &mut row[..]) {
+    while turns > 0 && answer_next(&mut from, &mut to, &mut bytes[..], &mut row[..]) {
         turns -= 1;
     }
 }

@@ -1,12 +1,13 @@
 // The log program: commands on standard input, replies on standard output, at most 128 pages.
 #![tactic(auto)]
 
-ghost use Rattle.std.specs.Prelude.{◌≡◌, ◌-◌, ◌≤◌, length, take, drop};
+ghost use Rattle.std.specs.Prelude.{◌≡◌, ◌-◌, ◌≤◌, IfOk, length, take, drop};
 
 use commands::Ran;
 use homes::Params;
-use libc::{STDIN_FILENO, STDOUT_FILENO};
 use state::State;
+use std::io;
+use std::io::{Read, Write};
 
 // What was not taken goes to the front; answered is how many bytes that is.
 fn keep(input: &mut [u8], taken: usize, have: usize) -> usize
@@ -23,37 +24,32 @@ fn keep(input: &mut [u8], taken: usize, have: usize) -> usize
     kept
 }
 
-// One read into the free end of the input: how many bytes came, none where the input ends. A read
-// that fails is told on standard error and ends it too.
-fn read_more(free: &mut [u8]) -> usize
-    ensures { result ≤ length free.old }
+// One read into the free end of the input: how many bytes came, none where the input ends.
+fn read_more<R: Read>(from: &mut R, free: &mut [u8]) -> io::Result<usize>
+    ensures { IfOk result (λ n. n ≤ length free.old) }
 {
-    let got = libc::read(STDIN_FILENO, free);
-    if got < 0 {
-        os::fail(b"standard input");
-    }
-    io::count(got, free)
+    from.read(free)
 }
 
-// The replies out, in one write: whether they went, and the log goes on.
-fn send(replies: &[u8], ran: Ran) -> bool
+// The replies out, in one write: whether the log goes on.
+fn send<W: Write>(to: &mut W, replies: &[u8], ran: Ran) -> io::Result<bool>
     requires { ran.given ≤ length replies.now }
 {
-    let is_out = io::write_all(STDOUT_FILENO, &replies[..ran.given]);
-    if !is_out {
-        os::fail(b"standard output");
-    }
-    is_out & !ran.stopped
+    to.write_all(&replies[..ran.given])?;
+    Ok(!ran.stopped)
 }
 
 // A turn answers what is there, or else reads more: so every reply is out before the program waits.
 // A proved loop has to end, and nothing says that an input does: it counts its turns down, from a
-// number that no run uses up.
-fn main() {
+// number that no run uses up. A read that fails ends the input too: what is there is still answered,
+// and only then does the program end with the error.
+fn main(rt: HostRuntime) -> io::Result<()> {
+    let mut from = rt.stdin();
+    let mut to = rt.stdout();
     let mut space = [0u8; 32768];
     let mut row = [0u32; 128];
-    let mut input = io::large_buffer();
-    let mut replies = io::large_buffer();
+    let mut input = [0u8; 65536];
+    let mut replies = [0u8; 65536];
     let zeros = Params {
         n0: 0,
         n: 0,
@@ -63,6 +59,7 @@ fn main() {
     let mut state = State::new(zeros, 0);
     let mut have = 0;
     let mut last = false;
+    let mut ended = Ok(());
     let mut turns = u64::MAX;
     while turns > 0 {
         turns -= 1;
@@ -77,16 +74,24 @@ fn main() {
         state = ran.state;
         have = keep(&mut input[..], ran.taken, have);
         if ran.given > 0 {
-            if !send(&replies[..], ran) {
-                return;
+            if !send(&mut to, &replies[..], ran)? {
+                return ended;
             }
         } else {
             if last {
-                return;
+                return ended;
             }
-            let came = read_more(&mut input[have..]);
-            have += came;
-            last = came == 0;
+            match read_more(&mut from, &mut input[have..]) {
+                Ok(came) => {
+                    have += came;
+                    last = came == 0;
+                }
+                Err(error) => {
+                    ended = Err(error);
+                    last = true;
+                }
+            }
         }
     }
+    ended
 }

@@ -1,7 +1,8 @@
 // The log program: commands on standard input, replies on standard output, at most 128 pages.
 #![tactic(auto)]
 
-ghost use Rattle.std.specs.Prelude.{◌≡◌, ◌-◌, ◌≤◌, IfOk, length, take, drop};
+ghost use Rattle.std.specs.Prelude.{◌≡◌, ◌-◌, ◌≤◌, IfOk, OnOk, length, take, drop, not};
+ghost use Rattle.std.specs.Io.KnownBytes.{Appends, ReadConsumes};
 
 use commands::Ran;
 use homes::Params;
@@ -24,9 +25,11 @@ fn keep(input: &mut [u8], taken: usize, have: usize) -> usize
     kept
 }
 
-// One read into the free end of the input: how many bytes came, none where the input ends.
+// One read into the free end of the input: how many bytes came, none where the input ends. A read
+// that fails takes nothing from it.
 fn read_more<R: Read>(from: &mut R, free: &mut [u8]) -> io::Result<usize>
-    ensures { IfOk result (λ n. n ≤ length free.old) }
+    ensures long { IfOk result (λ n. n ≤ length free.old) }
+    ensures bytes { ReadConsumes (R.remaining from.old) (R.remaining from.new) result free.new }
 {
     from.read(free)
 }
@@ -34,6 +37,8 @@ fn read_more<R: Read>(from: &mut R, free: &mut [u8]) -> io::Result<usize>
 // The replies out, in one write: whether the log goes on.
 fn send<W: Write>(to: &mut W, replies: &[u8], ran: Ran) -> io::Result<bool>
     requires { ran.given ≤ length replies.now }
+    ensures goes_on { IfOk result (λ b. b ≡ not ran.stopped) }
+    ensures bytes { OnOk result (Appends (W.contents to.old) (W.contents to.new) (take ran.given replies.now)) }
 {
     to.write_all(&replies[..ran.given])?;
     Ok(!ran.stopped)

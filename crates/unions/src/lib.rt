@@ -45,7 +45,8 @@ fn lower(low: Clash, key: u64) -> Clash
     match low {
         Clash::Nowhere => Clash::At { lowest: key },
         Clash::At { lowest } => {
-            if key < lowest {
+            let is_lower = key < lowest;
+            if is_lower {
                 return Clash::At { lowest: key };
             }
             Clash::At { lowest }

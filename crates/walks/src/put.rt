@@ -49,7 +49,8 @@ fn reach(
             };
         }
         rises = rises & crate::joins(last_home, last_key, judged);
-        if judged.count < SLOTS {
+        let has_space = judged.count < SLOTS;
+        if has_space {
             return Plan::Go {
                 first,
                 at,

@@ -32,14 +32,14 @@ returns-then-not-judged c =
     let s = w.before.before.before in
     record { value = reach_sick (seen j) s.args.first s.args.at w.loop-a.read (not-true _ c.if-not-judged.true-raw) ∙ w.loop-a.invariant.3; within = tt }
 
-pub returns-then-judged-lt-SLOTS : goal.returns-then-judged-lt-SLOTS
-returns-then-judged-lt-SLOTS c =
+pub returns-then-has_space : goal.returns-then-has_space
+returns-then-has_space c =
     let t = c.before.before in
     let j = t.before.before in
     let w = j.before.before in
     let s = w.before.before.before in
     let good = not-false _ t.if-not-judged.false-raw in record {
-      value = reach_here (seen j) s.args.first s.args.at w.loop-a.read good c.if-judged-lt-SLOTS.true _
+      value = reach_here (seen j) s.args.first s.args.at w.loop-a.read good c.if-has_space.true _
           (edge_told w.loop-a.invariant.4 (seen j) (omega arith) good _ t.joins-rises.ensures) ∙ w.loop-a.invariant.3;
       within = (omega arith, omega arith, omega arith);
     }
@@ -56,8 +56,8 @@ loop-a-preserved c =
       omega arith,
       omega arith,
       omega arith,
-      reach_on (seen j) s.args.first s.args.at w.loop-a.read good d.if-judged-lt-SLOTS.false ∙ w.loop-a.invariant.3,
-      rw e (edge_on w.loop-a.invariant.4 (seen j) (omega arith) good _ t.joins-rises.ensures d.if-judged-lt-SLOTS.false),
+      reach_on (seen j) s.args.first s.args.at w.loop-a.read good d.if-has_space.false ∙ w.loop-a.invariant.3,
+      rw e (edge_on w.loop-a.invariant.4 (seen j) (omega arith) good _ t.joins-rises.ensures d.if-has_space.false),
     )
 
 pub returns : goal.returns

@@ -7,7 +7,8 @@
    some 22 KiB of the stack at most, and keep nothing from one call to the next, so threads may call them at once, each with
    its own slip, area, row, replies and list.
 
-   What each call does is proved (crates/reefcushion), for any bytes and any numbers. A caller owes this much:
+   What each call does is proved (crates/reefcushion, and crates/reefcushion_c for the archive), for any bytes and any
+   numbers. A caller owes this much:
    - the lengths are true: so many bytes of each slip and area, of records, replies, list and comparison, and so many
      aligned 32-bit counts of the row, are there, and each has been written once (zeros will do);
    - no two of those that one call is given overlap, but for two that it only reads;

@@ -3,7 +3,8 @@
 // a file is refused, one record of kind 513.
 #![tactic(auto)]
 
-ghost use Rattle.std.specs.Prelude.{◌≡◌, ◌≤◌, length};
+ghost use Rattle.std.specs.Io.KnownBytes.{Consumes};
+ghost use Rattle.std.specs.Prelude.{◌≡◌, ◌≤◌, length, take};
 ghost use Rattle.compare_files.specs.Within.{Within};
 
 use reefcushion::reefcushion_compare;
@@ -26,17 +27,19 @@ enum Loaded {
     Failed,
 }
 
-// Reads until the buffer is full, the input ends or a read fails: how many bytes stand at its front.
+// Reads until the buffer is full, the input ends or a read fails: how many bytes stand at its front,
+// which are those that were read.
 fn read_full<R: Read>(from: &mut R, buffer: &mut [u8]) -> usize
-    ensures { result ≤ length buffer.old }
+    ensures long { result ≤ length buffer.old }
+    ensures bytes { Consumes (R.remaining from.old) (R.remaining from.new) (take result buffer.new) }
 {
     let mut done = 0;
     while done < buffer.len() {
-        let came = from.read(&mut buffer[done..]).unwrap_or(0);
-        if came == 0 {
-            break;
+        match from.read(&mut buffer[done..]) {
+            Ok(0) => break,
+            Ok(came) => done += came,
+            Err(_) => break,
         }
-        done += came;
     }
     done
 }

@@ -1,5 +1,4 @@
 pub mod Lending
-pub mod Executing
 pub mod Turning
 pub mod Parts
 pub mod Promises

@@ -1,5 +1,5 @@
 -- A log that comes in parts answers as it does at once.
-use mathlib.Core.Path.{◌≡◌, refl, ◌∙◌}
+use mathlib.Core.Path.{◌≡◌, refl, ap, ◌∙◌}
 use mathlib.Core.Bool.{Bool, true, false, cond}
 use mathlib.Core.List.{List, ◌++◌}
 use Prim.Native.Nat.{ℕ, zero, suc, ◌+◌, ◌-◌, ◌≤◌, ◌<◌}
@@ -9,15 +9,16 @@ use lib.Dec.{eqb, ltb}
 use lib.ListN.{length, drop, length-append, length-drop}
 use lib.Seq.{drop-append-le, drop-drop}
 use borrow.Author.Tests.{ltb-false, le-ltb, eqb-false, eq-eqb, ne_eqb}
+use Rattle.std.specs.Prelude.{Option, Some, None, Result, Ok, Err}
 use Rattle.numbers.specs.Little.{number_at}
 use Rattle.numbers.proofs.Laws.{number_front}
 use Rattle.records.specs.declared.Kind.{Kind}
 use Rattle.records.specs.declared.Kind.TheVariants as kind
 use Rattle.records.specs.declared.Form.{Form}
-use Rattle.records.specs.declared.Form.TheVariants as form
-use Rattle.records.specs.declared.Item.{Item}
-use Rattle.records.specs.declared.Item.TheVariants.{Asks, Unknown, Cut}
-use Rattle.records.specs.Records.{length_of, form_of, format_in, command_of, formed, first_of}
+use Rattle.records.specs.declared.Asked.{Asked}
+use Rattle.records.specs.declared.Unread.{Unread}
+use Rattle.records.specs.declared.Unread.TheVariants.{UnknownKind, CutOff}
+use Rattle.records.specs.Records.{length_of, form_of, format_in, command_of, asks, formed, first_of}
 use Rattle.commands.specs.Execute.{Site, Executed}
 use Rattle.commands.specs.Log.{Turn, waits, stops, goes, on_item, turn, Log, rests, answered, on_turn, log, whole_log}
 use Rattle.commands.specs.Promises.{joined}
@@ -47,31 +48,32 @@ head_front l m h = rw (le-ltb (length (l ++ m)) 4 (omega (arith, length-append l
 
 -- a first record that is not cut off is the same with more behind it, and a command's lies within
 -- the bytes
-abbrev ReadSame : List ℕ → Item → Type 0
-ReadSame l Cut = Unit {0}
-ReadSame l Unknown = (m : List ℕ) → first_of (l ++ m) ≡ Unknown
-ReadSame l (Asks c n) = (0 < n) × (n ≤ length l) × ((m : List ℕ) → first_of (l ++ m) ≡ Asks c n)
+abbrev ReadSame : List ℕ → Result Asked Unread → Type 0
+ReadSame l (Err CutOff) = Unit {0}
+ReadSame l (Err UnknownKind) = (m : List ℕ) → first_of (l ++ m) ≡ Err UnknownKind
+ReadSame l (Ok a) = (0 < a.length) × (a.length ≤ length l) × ((m : List ℕ) → first_of (l ++ m) ≡ Ok a)
 
-form_same : (l : List ℕ) → 4 ≤ length l → (f : Form) → form_of (number_at 2 l 0) (number_at 2 l 2) ≡ f → ReadSame l (formed l f)
-form_same l h form.Unknown e = λ m. head_front l m h ∙ rw e
-form_same l h (form.Known k n) e = go (eqb (number_at 2 l 0) n) refl (ltb (length l) n) refl
+form_same : (l : List ℕ) → 4 ≤ length l → (f : Option Form) → form_of (number_at 2 l 0) (number_at 2 l 2) ≡ f → ReadSame l (formed l f)
+form_same l h None e = λ m. head_front l m h ∙ rw e
+form_same l h (Some f) e = go (eqb (number_at 2 l 0) f.length) refl (ltb (length l) f.length) refl
   where
-    go : (u : Bool) → eqb (number_at 2 l 0) n ≡ u → (v : Bool) → ltb (length l) n ≡ v → ReadSame l (cond u (cond v Cut (Asks (command_of k l) n)) Unknown)
+    go : (u : Bool) → eqb (number_at 2 l 0) f.length ≡ u → (v : Bool) → ltb (length l) f.length ≡ v
+        → ReadSame l (cond u (cond v (Err CutOff) (asks (command_of f.kind l) f.length)) (Err UnknownKind))
     go false p v q = λ m. head_front l m h ∙ rw (e, number_front 2 l m 0 (omega arith), p)
     go true p true q = tt
     go true p false q =
-        let b : n ≤ length l = ltb-false (length l) n q in
-        let w : n ≡ length_of k = (of_number (number_at 2 l 0) (number_at 2 l 2) k n e).1 in (
-          omega (arith, head_low k),
+        let b : f.length ≤ length l = ltb-false (length l) f.length q in
+        let w : f.length ≡ length_of f.kind = ap Form.length (of_number (number_at 2 l 0) (number_at 2 l 2) f e).1 in (
+          omega (arith, head_low f.kind),
           b,
-          λ m. head_front l m h ∙ rw (e, number_front 2 l m 0 (omega arith), p, le-ltb (length (l ++ m)) n (omega (arith, length-append l m)), command_front k l m (omega arith)),
+          λ m. head_front l m h ∙ rw (e, number_front 2 l m 0 (omega arith), p, le-ltb (length (l ++ m)) f.length (omega (arith, length-append l m)), command_front f.kind l m (omega arith)),
         )
 
 read_same : (l : List ℕ) → ReadSame l (first_of l)
 unfolding first_of
 read_same l = go (ltb (length l) 4) refl
   where
-    go : (u : Bool) → ltb (length l) 4 ≡ u → ReadSame l (cond u Cut (formed l (form_of (number_at 2 l 0) (number_at 2 l 2))))
+    go : (u : Bool) → ltb (length l) 4 ≡ u → ReadSame l (cond u (Err CutOff) (formed l (form_of (number_at 2 l 0) (number_at 2 l 2))))
     go true e = tt
     go false e = form_same l (ltb-false (length l) 4 e) (form_of (number_at 2 l 0) (number_at 2 l 2)) refl
 
@@ -92,11 +94,11 @@ turn_same last d l = go (eqb (length l) 0) refl (first_of l) (read_same l)
     cut true = λ e more m. cc
     cut false = tt
 
-    go : (u : Bool) → eqb (length l) 0 ≡ u → (i : Item) → ReadSame l i → TurnSame last d l (cond u waits (on_item last d i))
+    go : (u : Bool) → eqb (length l) 0 ≡ u → (i : Result Asked Unread) → ReadSame l i → TurnSame last d l (cond u waits (on_item last d i))
     go true e i w = tt
-    go false e Cut w = cut last
-    go false e Unknown w = λ f more m. rw (some e m, w m)
-    go false e (Asks c n) w = (w.0, w.1, λ more m. rw (some e m, w.2 m))
+    go false e (Err CutOff) w = cut last
+    go false e (Err UnknownKind) w = λ f more m. rw (some e m, w m)
+    go false e (Ok a) w = (w.0, w.1, λ more m. rw (some e m, w.2 m))
 
 -- a log with another behind it, unless it has stopped
 abbrev resumed : Log → Log → Log

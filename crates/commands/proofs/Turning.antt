@@ -7,25 +7,18 @@ use native.Mathlib.Nat.{add_assoc, add-zero, zero-add}
 use native.Mathlib.Omega.{arith}
 use lib.ListN.{length, drop, length-append, length-drop}
 use lib.Seq.{drop-drop}
-use borrow.Author.Tests.{eq-eqb, ne_eqb}
 use borrow.Rule.Slice.PartMut.{put_same}
 use Rattle.numbers.specs.Little.{written}
 use Rattle.numbers.specs.Fields.{Field, width, encode}
 use Rattle.numbers.proofs.Laws.{written-nil, written-written}
 use Rattle.numbers.proofs.Records.{length-encode}
 use Rattle.state.specs.declared.State.{State}
-use Rattle.state.specs.declared.Numbers.{Numbers}
-use Rattle.records.specs.declared.Command.{Command}
-use Rattle.records.specs.declared.Item.{Item}
-use Rattle.records.specs.declared.Item.TheVariants.{Asks, Unknown, Cut}
-use Rattle.records.specs.Steps.Within.{Lies}
 use Rattle.records.proofs.Lent.{from, from-drop, place, placed, placed-written}
 use Rattle.commands.specs.declared.Step.{Step}
 use Rattle.commands.specs.declared.Step.TheVariants.{Waits, Stops, Goes}
-use Rattle.records.specs.declared.Told.{Told}
 use Rattle.commands.specs.declared.Ran.{Ran}
-use Rattle.records.specs.Records.{first_of, reply_of, refused_by, bytes_of_all}
-use Rattle.commands.specs.Execute.{Site, site, Executed, executed, told_of}
+use Rattle.records.specs.Records.{reply_of, refused_by, bytes_of_all}
+use Rattle.commands.specs.Execute.{Site, site, Executed}
 use Rattle.commands.specs.Log.{Turn, waits, stops, goes, turn, Log, rests, on_turn, log, ran_of}
 use Rattle.commands.specs.Steps.Within.{step_of, site_after, reply_after, Takes, RanIn}
 
@@ -33,39 +26,6 @@ use Rattle.commands.specs.Steps.Within.{step_of, site_after, reply_after, Takes,
 abbrev pub Served : Site → (part : List ℕ) → (n : ℕ) → Turn → Step → (space row reply : List ℕ) → Type 0
 Served d part n t step space row reply =
     (step ≡ step_of t) × ((space ≡ (site_after d t).space) × ((row ≡ (site_after d t).row) × ((reply ≡ reply_after d part t) × Takes n step)))
-
-module _ (last : Bool) (d : Site) (l part : List ℕ) where
-  -- nothing is there
-  pub serve_none : length l ≡ 0 → Served d part (length l) (turn last d l) Waits d.space d.row part
-  unfolding turn
-  serve_none e = rw (eq-eqb (length l) 0 e) (refl, (refl, (refl, (refl, tt))))
-
-  module _ (some : length l ≡ 0 → ⊥) (i : Item) (first : i ≡ first_of l) where
-    -- a command is carried out and answered
-    pub serve_goes : (c : Command) (n : ℕ) → i ≡ Asks c n → Lies (length l) i → (told : Told) → told ≡ told_of (executed d c) → (space row reply : List ℕ)
-        → space ≡ (executed d c).site.space → row ≡ (executed d c).site.row → reply ≡ encode (reply_of told.numbers told.state)
-        → Served d part (length l) (turn last d l) (Goes told.state n) space row reply
-    unfolding turn
-    serve_goes c n e w told t space row reply s r y =
-        rw (ne_eqb (length l) 0 some, ← first, e) (rw t, (s, (r, (rw t at y, rw e at w))))
-
-    -- a record that is no command is refused
-    pub serve_unknown : i ≡ Unknown → (told : Numbers) → told ≡ refused_by 10 → (reply : List ℕ) → reply ≡ encode (reply_of told d.state)
-        → Served d part (length l) (turn last d l) Stops d.space d.row reply
-    unfolding turn
-    serve_unknown e told t reply y = rw (ne_eqb (length l) 0 some, ← first, e) (refl, (refl, (refl, (rw t at y, tt))))
-
-    module _ (e : i ≡ Cut) where
-      -- a record that is cut off waits where more may come
-      pub serve_waits : last ≡ false → Served d part (length l) (turn last d l) Waits d.space d.row part
-      unfolding turn
-      serve_waits u = rw (ne_eqb (length l) 0 some, ← first, e, u) (refl, (refl, (refl, (refl, tt))))
-
-      -- and is refused where none follows
-      pub serve_cut : last ≡ true → (told : Numbers) → told ≡ refused_by 11 → (reply : List ℕ) → reply ≡ encode (reply_of told d.state)
-          → Served d part (length l) (turn last d l) Stops d.space d.row reply
-      unfolding turn
-      serve_cut u told t reply y = rw (ne_eqb (length l) 0 some, ← first, e, u) (refl, (refl, (refl, (rw t at y, tt))))
 
 -- which turn a step tells of
 told_waits : (t : Turn) → Waits ≡ step_of t → t ≡ waits
@@ -142,9 +102,12 @@ module _ {last : Bool} {room : ℕ} {d : Site} {input given : List ℕ} {e : Sit
       rw (g.whole, r, append-nil, add-zero, g.many) (refl, (refl, (refl, (g.bytes, (g.within, omega (arith, g.fits, g.low))))))
 
   -- there is no room for more
-  pub log_full : room ≤ told → Ended (log last room d input) input given (ran_to e.state taken (28 * told) false) e.space e.row now
+  pub log_full : room ≤ told → Ended (log last room d input) input given (ran_to e.state taken (28 * room) false) e.space e.row now
   unfolding log
-  log_full l = let z : room - told ≡ 0 = omega arith in rests_here (rw z)
+  log_full l =
+      let z : room - told ≡ 0 = omega arith in
+      let all : 28 * room ≡ 28 * told = omega (arith, g.low) in
+      rw all (rests_here (rw z))
 
   -- a reply more: how many there are, how many bytes, and which
   module _ (r : List Field) (w : width r ≡ 28) where

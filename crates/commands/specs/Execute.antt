@@ -2,11 +2,11 @@
 use Rattle.std.specs.Prelude.{ℕ, ◌*◌, Bool, false, cond, List, take, ltb}
 use Rattle.numbers.specs.Little.{written}
 use Rattle.state.specs.declared.State.{State}
+use Rattle.state.specs.declared.Done.{Done}
 use Rattle.state.specs.declared.Numbers.{Numbers}
 use Rattle.register.specs.Files.{Call, format, find, put, remove, grow, shrink, check, file_of, Left, left, numbers_of}
 use Rattle.records.specs.declared.Command.{Command}
 use Rattle.records.specs.declared.Command.TheVariants.{Format, Put, Find, Remove, Grow, Check, Shrink}
-use Rattle.records.specs.declared.Told.{Told}
 use Rattle.records.specs.Records.{refused_by}
 
 -- what a log keeps from one command to the next: the state, the bytes of its pages, and a row of
@@ -73,5 +73,5 @@ unfoldable pub executed : Site → Command → Executed
 executed d c = cond (too_many c) (carries (refused_by 12) d) (called_with d c (lent_to d.state c))
 
 -- what the code gives back of it
-abbrev pub told_of : Executed → Told
-told_of c = record { state = c.site.state; numbers = c.numbers }
+abbrev pub told_of : Executed → Done Numbers
+told_of c = record { state = c.site.state; answer = c.numbers }

@@ -1,8 +1,9 @@
 -- A whole log, from bytes to replies (01, 'The log program'). What is quoted is 01's.
-use Rattle.std.specs.Prelude.{ℕ, zero, suc, ◌+◌, ◌*◌, Bool, true, false, cond, List, [], ◌∷◌, length, drop, eqb}
+use Rattle.std.specs.Prelude.{ℕ, zero, suc, ◌+◌, ◌*◌, Bool, true, false, cond, List, [], ◌∷◌, length, drop, eqb, Result, Ok, Err}
 use Rattle.numbers.specs.Fields.{Field}
-use Rattle.records.specs.declared.Item.{Item}
-use Rattle.records.specs.declared.Item.TheVariants.{Asks, Unknown, Cut}
+use Rattle.records.specs.declared.Asked.{Asked}
+use Rattle.records.specs.declared.Unread.{Unread}
+use Rattle.records.specs.declared.Unread.TheVariants.{UnknownKind, CutOff}
 use Rattle.records.specs.Records.{first_of, refused_by, reply_of}
 use Rattle.commands.specs.declared.Ran.{Ran}
 use Rattle.commands.specs.Execute.{Site, Executed, executed}
@@ -16,10 +17,10 @@ pub data Turn : Type 0 where
 
 -- 10 is "unknown kind, or length wrong for it", 11 "input ends within a record": where more may
 -- come, a record that is cut off waits for it
-abbrev pub on_item : (last : Bool) → Site → Item → Turn
-on_item last d (Asks c n) = goes (executed d c) n
-on_item last d Unknown = stops 10
-on_item last d Cut = cond last (stops 11) waits
+abbrev pub on_item : (last : Bool) → Site → Result Asked Unread → Turn
+on_item last d (Ok a) = goes (executed d a.command) a.length
+on_item last d (Err UnknownKind) = stops 10
+on_item last d (Err CutOff) = cond last (stops 11) waits
 
 -- "Input ending between records gets no reply."
 unfoldable pub turn : (last : Bool) → Site → List ℕ → Turn

@@ -10,8 +10,11 @@ ghost use Rattle.commands.specs.Execute.{site};
 ghost use Rattle.commands.specs.Log.{turn, log, ran_of};
 ghost use Rattle.commands.specs.Steps.Within.{step_of, site_after, reply_after, Takes, RanIn};
 
-use records::Item;
+use records::Unread;
 use state::State;
+
+// The bytes of a reply.
+const REPLY: usize = 28;
 
 // What comes of one record: nothing yet, a reply that is the last, or a reply after which the log
 // goes on.
@@ -32,6 +35,7 @@ pub struct Ran {
 }
 
 // The first record of the input carried out, and its reply written.
+#[tactic(auto, unfolding(crate::specs::Log::turn))]
 fn serve_one(
     state: State,
     space: &mut [u8],
@@ -43,32 +47,22 @@ fn serve_one(
     requires { length part.old ≡ 28 }
     ensures { let d = site state space.old row.old in let t = turn last d input.now in (result ≡ step_of t) × ((space.new ≡ (site_after d t).space) × ((row.new ≡ (site_after d t).row) × ((part.new ≡ reply_after d part.old t) × Takes (length input.now) result))) }
 {
-    if input.len() == 0 {
+    if input.is_empty() {
         return Step::Waits;
     }
-    let item = records::first(input);
-    match item {
-        Item::Asks { command, length } => {
-            let told = execute::execute(state, space, row, command);
-            let after = told.state;
-            let numbers = told.numbers;
-            records::reply(part, numbers, after);
-            Step::Goes {
-                state: after,
-                length,
-            }
+    let asked = match records::first(input) {
+        Ok(asked) => asked,
+        Err(Unread::CutOff) if !last => return Step::Waits,
+        Err(unread) => {
+            records::reply(part, unread.into(), state);
+            return Step::Stops;
         }
-        Item::Unknown => {
-            records::reply(part, records::refused(10), state);
-            Step::Stops
-        }
-        Item::Cut => {
-            if !last {
-                return Step::Waits;
-            }
-            records::reply(part, records::refused(11), state);
-            Step::Stops
-        }
+    };
+    let told = execute::execute(state, space, row, asked.command);
+    records::reply(part, told.answer, told.state);
+    Step::Goes {
+        state: told.state,
+        length: asked.length,
     }
 }
 
@@ -84,21 +78,13 @@ pub fn log(
 ) -> Ran
     ensures { let o = log last (length replies.old / 28) (site state space.old row.old) input.now in (result ≡ ran_of o) × ((space.new ≡ o.site.space) × ((row.new ≡ o.site.row) × ((replies.new ≡ written replies.old 0 (bytes_of_all o.replies)) × RanIn (length input.now) (length replies.old) result))) }
 {
-    let room = replies.len() / 28;
+    let room = replies.len() / REPLY;
     let mut after = state;
     let mut taken = 0;
-    let mut told = 0;
-    while told < room {
-        let at = 28 * told;
-        let step = serve_one(
-            after,
-            space,
-            row,
-            &input[taken..],
-            last,
-            &mut replies[at..at + 28],
-        );
-        match step {
+    for told in 0..room {
+        let at = REPLY * told;
+        let part = &mut replies[at..at + REPLY];
+        match serve_one(after, space, row, &input[taken..], last, part) {
             Step::Waits => {
                 return Ran {
                     state: after,
@@ -111,21 +97,20 @@ pub fn log(
                 return Ran {
                     state: after,
                     taken,
-                    given: at + 28,
+                    given: at + REPLY,
                     stopped: true,
                 };
             }
             Step::Goes { state, length } => {
                 after = state;
                 taken += length;
-                told += 1;
             }
         }
     }
     Ran {
         state: after,
         taken,
-        given: 28 * told,
+        given: REPLY * room,
         stopped: false,
     }
 }

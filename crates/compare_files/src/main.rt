@@ -4,10 +4,10 @@
 #![tactic(auto)]
 
 ghost use Rattle.std.specs.Io.KnownBytes.{Consumes};
-ghost use Rattle.std.specs.Prelude.{◌≡◌, ◌≤◌, length, take};
-ghost use Rattle.compare_files.specs.Within.{Within};
+ghost use Rattle.std.specs.Prelude.{◌≡◌, ◌≤◌, length, take, IfOk, IfSome, vec_len};
 
 use reefcushion::reefcushion_compare;
+use std::alloc::AllocError;
 use std::env::FillError;
 use std::fs::File;
 use std::io::{Read, Write};
@@ -20,13 +20,6 @@ const MOST: usize = 1048593;
 // The bytes of the longest list: 20 for each record of two full files, and the closing record.
 const ROOM: usize = 1966096;
 
-// How many bytes a file has, or that it can't be read.
-#[derive(Clone, Copy)]
-enum Loaded {
-    Bytes { count: usize },
-    Failed,
-}
-
 // Reads until the buffer is full, the input ends or a read fails: how many bytes stand at its front,
 // which are those that were read.
 fn read_full<R: Read>(from: &mut R, buffer: &mut [u8]) -> usize
@@ -34,6 +27,7 @@ fn read_full<R: Read>(from: &mut R, buffer: &mut [u8]) -> usize
     ensures bytes { Consumes (R.remaining from.old) (R.remaining from.new) (take result buffer.new) }
 {
     let mut done = 0;
+    // Each turn goes on by as many bytes as came, so no range has its steps.
     while done < buffer.len() {
         match from.read(&mut buffer[done..]) {
             Ok(0) => break,
@@ -53,48 +47,50 @@ fn no_name(rt: &impl Eprint, error: FillError) {
     let _ = eprintln!(rt; "compare_files FIRST SECOND: {words}");
 }
 
-// The file that an argument names, to the front of a buffer. What can't be read is told on standard error.
-fn load<R: Files + Env + Eprint>(rt: &R, argument: usize, buffer: &mut [u8]) -> Loaded
-    ensures { Within (length buffer.old) result }
+// What a file holds, as far as a register file goes. A read that fails ends it: what came before is
+// judged like any other bytes.
+fn read_file<R: Files + AllocGlobal>(rt: &R, name: &str) -> io::Result<Vec<u8>>
+    ensures { IfOk result (λ bytes. vec_len bytes ≤ 1048593) }
+{
+    let mut file = File::open(rt, name)?;
+    let mut bytes = vec![in rt.alloc(); 0u8; MOST]?;
+    let count = read_full(&mut file, &mut bytes[..]);
+    bytes.truncate(count);
+    Ok(bytes)
+}
+
+// The file that an argument names. What can't be read is told on standard error.
+fn load<R: Files + Env + Eprint + AllocGlobal>(rt: &R, argument: usize) -> Option<Vec<u8>>
+    ensures { IfSome result (λ bytes. vec_len bytes ≤ 1048593) }
 {
     let mut path = [0u8; 4096];
     let n = match rt.arg(argument, &mut path[..]) {
         Ok(n) => n,
         Err(error) => {
             no_name(rt, error);
-            return Loaded::Failed;
+            return None;
         }
     };
     let Ok(name) = str::from_utf8(&path[..n]) else {
         let _ = eprintln!(rt; "compare_files FIRST SECOND: a name is not UTF-8");
-        return Loaded::Failed;
+        return None;
     };
-    match File::open(rt, name) {
-        Ok(mut file) => Loaded::Bytes {
-            count: read_full(&mut file, buffer),
-        },
+    match read_file(rt, name) {
+        Ok(bytes) => Some(bytes),
         Err(error) => {
             let _ = eprintln!(rt; "{name}: {error}");
-            Loaded::Failed
+            None
         }
     }
 }
 
-// Where the pages of a file begin. A file that is shorter than a state has none, and is refused.
-fn pages_at(count: usize) -> usize
-    ensures { (result ≤ count) × (result ≤ 16) }
-{
-    if count < 16 { count } else { 16 }
-}
-
-// The slip of a file: its state, and zeros where an answer stands.
-fn slip_of(file: &[u8]) -> [u8; 40]
-    ensures { 40 ≡ length result }
-{
+// The slip of a file, which is its state and zeros where an answer stands, and its pages. A file that
+// is shorter than a state has no pages, and is refused.
+fn split_file(file: &[u8]) -> ([u8; 40], &[u8]) {
+    let (state, pages) = file.split_at(file.len().min(16));
     let mut slip = [0u8; 40];
-    let state = pages_at(file.len());
-    slip[..state].copy_from_slice(&file[..state]);
-    slip
+    slip[..state.len()].copy_from_slice(state);
+    (slip, pages)
 }
 
 // One record instead of a list: the refusal, the broken page if there is one, the pages read and the file,
@@ -104,12 +100,12 @@ fn refused(told: &[u8]) -> [u8; 16]
     ensures { 16 ≡ length result }
 {
     let mut record = [0u8; 16];
-    numbers::put_u16(&mut record[..], 0, 16);
-    numbers::put_u16(&mut record[..], 2, 513);
-    numbers::put_u16(&mut record[..], 4, numbers::get_u16(told, 0));
-    numbers::put_u16(&mut record[..], 6, numbers::get_u16(told, 4));
-    numbers::put_u32(&mut record[..], 8, numbers::get_u32(told, 8));
-    numbers::put_u16(&mut record[..], 12, numbers::get_u16(told, 2));
+    numbers::put::<u16>(&mut record[..], 0, 16);
+    numbers::put::<u16>(&mut record[..], 2, 513);
+    numbers::put(&mut record[..], 4, numbers::get::<u16>(told, 0));
+    numbers::put(&mut record[..], 6, numbers::get::<u16>(told, 4));
+    numbers::put(&mut record[..], 8, numbers::get::<u32>(told, 8));
+    numbers::put(&mut record[..], 12, numbers::get::<u16>(told, 2));
     record
 }
 
@@ -121,14 +117,14 @@ fn write(rt: &(impl Print + Eprint), output: &[u8]) {
 
 // The list of two files, or the refusal. No list is longer than the room that it was written to.
 fn tell(rt: &(impl Print + Eprint), first: &[u8], second: &[u8], room: &mut [u8]) {
-    let here = slip_of(first);
-    let there = slip_of(second);
+    let (here, first_pages) = split_file(first);
+    let (there, second_pages) = split_file(second);
     let mut told = [0u8; 20];
     let refusal = reefcushion_compare(
         &here[..],
-        &first[pages_at(first.len())..],
+        first_pages,
         &there[..],
-        &second[pages_at(second.len())..],
+        second_pages,
         room,
         &mut told[..],
     );
@@ -137,44 +133,25 @@ fn tell(rt: &(impl Print + Eprint), first: &[u8], second: &[u8], room: &mut [u8]
         write(rt, &record[..]);
         return;
     }
-    let length = numbers::get_u32(&told[..], 12) as usize;
+    let length = numbers::get::<u32>(&told[..], 12) as usize;
     if length <= room.len() {
         write(rt, &room[..length]);
     }
 }
 
-// Zeros for a file, and for the list.
-fn file_space() -> [u8; MOST]
-    ensures { 1048593 ≡ length result }
-{
-    [0; MOST]
-}
-
-fn list_space() -> [u8; ROOM]
-    ensures { 1966096 ≡ length result }
-{
-    [0; ROOM]
-}
-
 // Both files, and what differs.
-fn run<R: Files + Env + Print + Eprint>(
-    rt: &R,
-    first: &mut [u8],
-    second: &mut [u8],
-    room: &mut [u8],
-) {
-    let Loaded::Bytes { count: here } = load(rt, 1, first) else {
-        return;
+fn run<R: Files + Env + Print + Eprint + AllocGlobal>(rt: &R) -> Result<(), AllocError> {
+    let Some(first) = load(rt, 1) else {
+        return Ok(());
     };
-    let Loaded::Bytes { count: there } = load(rt, 2, second) else {
-        return;
+    let Some(second) = load(rt, 2) else {
+        return Ok(());
     };
-    tell(rt, &first[..here], &second[..there], room);
+    let mut room = vec![in rt.alloc(); 0u8; ROOM]?;
+    tell(rt, &first[..], &second[..], &mut room[..]);
+    Ok(())
 }
 
-fn main(rt: HostRuntime) {
-    let mut first = file_space();
-    let mut second = file_space();
-    let mut room = list_space();
-    run(&rt, &mut first[..], &mut second[..], &mut room[..]);
+fn main(rt: HostRuntime) -> Result<(), AllocError> {
+    run(&rt)
 }

@@ -9,6 +9,7 @@ use native.Mathlib.Omega.{arith}
 use borrow.Author.Tests.{le-leb, lt-leb}
 use lib.ListN.{length, take, drop, length-append, length-map}
 use lib.Seq.{length-take-le, take_at, drop_at, drop-drop}
+use Rattle.std.specs.Prelude.{Ok, Err}
 use Rattle.numbers.specs.Little.{written}
 use Rattle.numbers.specs.Fields.{encode}
 use Rattle.numbers.proofs.Records.{length-encode}
@@ -31,9 +32,9 @@ use Rattle.differences.specs.Listing.{fields, closing, record_bytes, listing}
 use Rattle.differences.specs.Steps.Passes.{D, entry_of}
 use Rattle.differences.specs.Steps.Unpacked.{more, unpacked}
 use Rattle.differences.proofs.Meaning.{tells, pass_firsts, pass_seconds, Told, both_told, all_sized, sort_entries, once_entries, records_entries, wide_entries}
-use Rattle.comparisons.specs.declared.Compared.TheVariants.{Listed, Short}
+use Rattle.comparisons.specs.declared.CompareRefusal.TheVariants.{Short}
 use Rattle.comparisons.specs.declared.Counts.{Counts}
-use Rattle.comparisons.specs.Compare.{filled}
+use Rattle.comparisons.specs.Compare.{listed, filled}
 use Rattle.comparisons.specs.Steps.Past.{entries_of_both, Sortable, counts_of}
 
 -- a record of the list is as long as a slot, and one of two values longer by the second
@@ -71,7 +72,7 @@ module _ (ds : List D) (n : Counts) (c : n ≡ counts_of ds) where
 
   module _ (read : ℕ) (room : List ℕ) where
     -- too short a room
-    pub room_short : length room < top_of n + 16 → (Short (top_of n + 16) read ≡ (filled read (listing in_use ds) room).answer) × (room ≡ (filled read (listing in_use ds) room).room)
+    pub room_short : length room < top_of n + 16 → (Err (Short (top_of n + 16) read) ≡ (filled read (listing in_use ds) room).answer) × (room ≡ (filled read (listing in_use ds) room).room)
     room_short h = rw (lt-leb (length (listing in_use ds)) (length room) (omega (arith, list_length)), list_length) (refl, refl)
 
     -- the records in the first part of the room, and the closing record behind them
@@ -87,7 +88,7 @@ module _ (ds : List D) (n : Counts) (c : n ≡ counts_of ds) where
           rw (w, a, d, last, append_assoc)
 
       pub room-filled : top_of n + 16 ≤ length room → (room₂ : List ℕ) → room₂ ≡ written room₁ (top_of n) (encode (closing n.first n.second n.both))
-          → (Listed (top_of n + 16) read ≡ (filled read (listing in_use ds) room).answer) × (room₂ ≡ (filled read (listing in_use ds) room).room)
+          → (Ok (listed (top_of n + 16) read) ≡ (filled read (listing in_use ds) room).answer) × (room₂ ≡ (filled read (listing in_use ds) room).room)
       room-filled h room₂ r = rw (le-leb (length (listing in_use ds)) (length room) (omega (arith, list_length)), list_length) (refl, r ∙ whole)
 
 module _ (s : State) (area : List ℕ) (t : State) (other : List ℕ) (k : Known s area) (m : Known t other) where

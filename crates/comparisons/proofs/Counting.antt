@@ -15,6 +15,7 @@ use Rattle.pages.specs.Page.{Record, key, value}
 use Rattle.pages.specs.Area.{held_from}
 use Rattle.state.specs.declared.State.{State}
 use Rattle.sites.specs.declared.Site.{Site}
+use Rattle.sites.specs.declared.Which.TheVariants.{First}
 use Rattle.sites.specs.Held.{same, held_in}
 use Rattle.sites.specs.Steps.Sites.{look, site_of}
 use Rattle.sites.proofs.Known.{Known}
@@ -61,13 +62,13 @@ module _ (s : State) (area : List ℕ) (t : State) (other : List ℕ) (k : Known
   abbrev ys : List Record
   ys = held_in in_use t other
 
-  pub counted : (site : Site) → site ≡ site_of t → (row : List ℕ) (at : ℕ) (u : Tally) (row₁ : List ℕ) → Passes true (look site other) (cat (held_from in_use area s.cap 0) []) row at u row₁
+  pub counted : (site : Site) → site ≡ site_of t → (row : List ℕ) (at : ℕ) (u : Tally) (row₁ : List ℕ) → Passes First (look site other) (cat (held_from in_use area s.cap 0) []) row at u row₁
       → Counted s t (differences key same xs ys) u.absent u.unlike
   unfolding held_in
   counted site e row at u row₁ p =
       let l = look (site_of t) other in
-      let w : Passes true l (cat (held_from in_use area s.cap 0) []) row at u row₁ = rw e at p in
-      let f : of_all true l xs ≡ firsts key same xs ys = pass_firsts l xs ys (tells l ys xs m.looks k.small) in
+      let w : Passes First l (cat (held_from in_use area s.cap 0) []) row at u row₁ = rw e at p in
+      let f : of_all First l xs ≡ firsts key same xs ys = pass_firsts l xs ys (tells l ys xs m.looks k.small) in
       let b : Balance key same xs ys = balance key same xs ys k.set.once m.set.once in
       let c : u ≡ tallied (firsts key same xs ys) = w.tally ∙ ap tallied f in
       let a : u.absent ≡ count is_only_first (firsts key same xs ys) = ap (λ (v : Tally). v.absent) c ∙ only_firsts xs ys in

@@ -1,4 +1,3 @@
 pub mod Counting
 pub mod Writing
 pub mod Contrasting
-pub mod Ways

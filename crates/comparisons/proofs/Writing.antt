@@ -1,6 +1,5 @@
 -- The entries of both files in a row: written one after the other, sorted where they stand, and unpacked.
 use mathlib.Core.Path.{◌≡◌, refl, sym, ap, ◌∙◌}
-use mathlib.Core.Bool.{Bool}
 use mathlib.Core.Option.{Option}
 use mathlib.Core.List.Permᴰ
 use mathlib.Core.List.{List, [], ◌++◌, map, append-nil}
@@ -21,12 +20,16 @@ use Rattle.entries.specs.declared.Entry.{Entry}
 use Rattle.entries.specs.Steps.Entries.{size, entries_in, row_bytes, rank}
 use Rattle.entries.proofs.Entries.{SizedEntry}
 use Rattle.entries.proofs.Rows.{row_length, row_append, entries_row}
+use Rattle.sites.specs.declared.Site.{Site}
+use Rattle.sites.specs.declared.Which.{Which}
+use Rattle.sites.specs.declared.Which.TheVariants.{First, Second}
+use Rattle.sites.specs.Steps.Sites.{look, on_pages}
 use Rattle.differences.specs.declared.Tally.{Tally}
 use Rattle.differences.specs.Steps.Passes.{of_all, entry_of, Passes}
 use Rattle.differences.specs.Steps.Unpacked.{more, unpacked, wide}
 use Rattle.differences.proofs.Fitting.{fitted_all}
-use Rattle.differences.proofs.Passing.{passes_many}
-use Rattle.comparisons.specs.Steps.Past.{Sortable}
+use Rattle.differences.proofs.Passing.{passes_many, file_few}
+use Rattle.comparisons.specs.Steps.Past.{entries_of_both, Sortable}
 
 -- a row without room is that of no entries
 pub none_written : (look : ℕ → Option Record) (row : List ℕ) (base : ℕ) (es : List Entry) → Sortable row base es → length row ≡ 0 → row ≡ unpacked look (sort rank es)
@@ -35,12 +38,12 @@ none_written look row base es w e =
     none_of_length row e ∙ rw z
 
 -- a pass writes its entries where they have room
-module _ {first : Bool} {look : ℕ → Option Record} {rs : List Record} {row : List ℕ} {at : ℕ} {t : Tally} {row₁ : List ℕ} (w : Passes first look rs row at t row₁) where
+module _ {which : Which} {look : ℕ → Option Record} {rs : List Record} {row : List ℕ} {at : ℕ} {t : Tally} {row₁ : List ℕ} (w : Passes which look rs row at t row₁) where
   abbrev es₁ : List Entry
-  es₁ = map entry_of (of_all first look rs)
+  es₁ = map entry_of (of_all which look rs)
 
   pub pass_many : t.absent + t.unlike ≡ length es₁
-  pass_many = omega (arith, passes_many w, length-map (of_all first look rs) entry_of)
+  pass_many = omega (arith, passes_many w, length-map (of_all which look rs) entry_of)
 
   pub pass_written : at + size * length es₁ ≤ length row → row₁ ≡ written row at (row_bytes es₁)
   pass_written h = w.rows ∙ fitted_all es₁ row at h
@@ -125,3 +128,42 @@ module _ {row : List ℕ} {base : ℕ} (ds es : List Entry) (w : Sortable row ba
           omega (arith, back_length, w.long),
           rw back_entries (omega (arith, w.free, perm-count (λ x. eqb x.from 771) (sort-perm rank all))),
         )
+
+-- the two passes of a comparison
+module _ (here : Site) (area : List ℕ) (there : Site) (other : List ℕ) where
+  abbrev firsts : List Entry
+  firsts = map entry_of (of_all First (look there other) (on_pages here area))
+
+  abbrev seconds : List Entry
+  seconds = map entry_of (of_all Second (look here area) (on_pages there other))
+
+  module _ {row : List ℕ} {base : ℕ} (w : Sortable row base (entries_of_both here area there other)) {t : Tally} {row₁ : List ℕ} (p : Passes First (look there other) (on_pages here area) row base t row₁) where
+    pub first_few : here.cap ≤ 4096 → t.absent + t.unlike ≤ 49152
+    first_few h = omega (arith, file_few area here.cap p, h)
+
+    -- where the second begins
+    ends₁ : base + size * (t.absent + t.unlike) ≡ base + size * length firsts
+    ends₁ = ap (λ (n : ℕ). base + size * n) (pass_many p)
+
+    wrote₁ : row₁ ≡ written row base (row_bytes firsts)
+    wrote₁ = pass_written p (first_fits firsts seconds w)
+
+    module _ {u : Tally} {row₂ : List ℕ} (q : Passes Second (look here area) (on_pages there other) row₁ (base + size * (t.absent + t.unlike)) u row₂) where
+      wrote₂ : row₂ ≡ written row₁ (base + size * (t.absent + t.unlike)) (row_bytes seconds)
+      wrote₂ = pass_written q (second_fits firsts seconds w row₁ _ ends₁ wrote₁)
+
+      pub both_lie : base ≤ length row₂
+      both_lie = part_lies firsts seconds w row₁ _ ends₁ wrote₁ row₂ wrote₂
+
+      -- what sorting asks of the part that is lent
+      pub both_sort : (length (take (length row₂ - base) (drop base row₂)) ≡ size * (length (take (length row₂ - base) (drop base row₂)) / size)) × Distinct rank (entries_in (take (length row₂ - base) (drop base row₂)))
+      both_sort = (part_whole firsts seconds w row₁ _ ends₁ wrote₁ row₂ wrote₂, part_once firsts seconds w row₁ _ ends₁ wrote₁ row₂ wrote₂)
+
+      module _ (k : List ℕ) (s : k ≡ row_bytes (sort rank (entries_in (take (length row₂ - base) (drop base row₂))))) where
+        pub both_ready : (base ≤ length (put_mid base (length row₂ - base) row₂ k))
+            × (length (put_mid base (length row₂ - base) row₂ k) ≡ base + size * ((length (put_mid base (length row₂ - base) row₂ k) - base) / size))
+            × (base ≡ more * wide (entries_in (drop base (put_mid base (length row₂ - base) row₂ k))))
+        both_ready = back_ready firsts seconds w row₁ _ ends₁ wrote₁ row₂ wrote₂ k s
+
+        pub both_sorted : entries_in (drop base (put_mid base (length row₂ - base) row₂ k)) ≡ sort rank (entries_of_both here area there other)
+        both_sorted = back_entries firsts seconds w row₁ _ ends₁ wrote₁ row₂ wrote₂ k s

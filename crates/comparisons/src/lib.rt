@@ -7,35 +7,51 @@ ghost use Rattle.layouts.specs.Layout.{in_use};
 ghost use Rattle.placing.specs.Lay.{sort};
 ghost use Rattle.pages.specs.Page.{key};
 ghost use Rattle.entries.specs.Steps.Entries.{rank};
-ghost use Rattle.state.specs.Answer as answers;
+ghost use Rattle.state.specs.Answer.{refused};
 ghost use Rattle.gates.specs.Steps.Past.{OpenImage};
 ghost use Rattle.sites.specs.Held.{same, held_in, read_over};
 ghost use Rattle.sites.specs.Steps.Sites.{Walkable, look};
 ghost use Rattle.two_sets.specs.Differences.{differences};
 ghost use Rattle.differences.specs.Steps.Unpacked.{unpacked};
-ghost use Rattle.comparisons.specs.declared.Compared.TheVariants.{Refused};
-ghost use Rattle.comparisons.specs.Compare.{contrasted, compared, compared_numbers};
+ghost use Rattle.comparisons.specs.declared.CompareRefusal.TheVariants.{File};
+ghost use Rattle.comparisons.specs.Compare.{contrasted, compared};
 ghost use Rattle.comparisons.specs.Steps.Past.{entries_of_both, Sortable, counts_of};
 
 use differences::unpacking;
 use differences::unpacking::MORE;
-use gates::Gate;
-use layouts::{IN_USE, WIDTH};
-use sites::Site;
-use state::{Answer, Numbers, State};
+use entries::Disorder;
+use layouts::{InUse, Layout};
+use sites::{Site, Which};
+use state::{Numbers, Refusal, State};
 
-// What a comparison comes to: a list of so many bytes; a file that is refused, the first or the second;
-// or a room shorter than the list, which wants so many bytes. `read` counts the pages of both files.
-#[derive(Clone, Copy)]
-pub enum Compared {
-    Listed { length: u32, read: u32 },
-    Refused { file: u16, why: Answer, read: u32 },
-    Short { wanted: u32, read: u32 },
+// A comparison that wrote its list, of so many bytes. `read` counts the pages of both files.
+#[derive(Clone, Copy, Debug, PartialEq, Eq)]
+pub struct Listed {
+    pub length: u32,
+    pub read: u32,
 }
+
+// Why there is no list: one of the two files is refused, or the room is shorter than the list, which wants
+// so many bytes.
+#[derive(Clone, Copy, Debug, PartialEq, Eq)]
+pub enum CompareRefusal {
+    File {
+        which: Which,
+        why: Refusal,
+        read: u32,
+    },
+    Short {
+        wanted: u32,
+        read: u32,
+    },
+}
+
+// What a comparison comes to.
+pub type Compared = Result<Listed, CompareRefusal>;
 
 // The same in numbers: those of every answer, the file that a refusal is about, how many bytes of the
 // room were taken, and how many the whole list takes.
-#[derive(Clone, Copy)]
+#[derive(Clone, Copy, Debug, PartialEq, Eq, Default)]
 pub struct ComparedNumbers {
     pub numbers: Numbers,
     pub file: u16,
@@ -44,7 +60,7 @@ pub struct ComparedNumbers {
 }
 
 // How many records are only in the first, only in the second, and in both with two values.
-#[derive(Clone, Copy)]
+#[derive(Clone, Copy, Debug, PartialEq, Eq)]
 pub struct Counts {
     pub first: u32,
     pub second: u32,
@@ -67,7 +83,7 @@ fn count_all(first: State, area: &[u8], second: State, other: &[u8]) -> Counts
         first.cap as usize,
         other,
         site,
-        true,
+        Which::First,
     );
     Counts {
         first: t.absent,
@@ -86,10 +102,10 @@ fn write_list(row: &mut [u8], base: usize, area: &[u8], here: Site, other: &[u8]
     if row.len() == 0 {
         return;
     }
-    let t = differences::pass(row, base, area, here.cap, other, there, true);
-    let at = base + WIDTH * (t.absent as usize + t.unlike as usize);
-    differences::pass(row, at, other, there.cap, area, here, false);
-    entries::sort_row(&mut row[base..], 0, true);
+    let t = differences::pass(row, base, area, here.cap(), other, there, Which::First);
+    let at = base + InUse::WIDTH * (t.absent as usize + t.unlike as usize);
+    differences::pass(row, at, other, there.cap(), area, here, Which::Second);
+    entries::sort_row(&mut row[base..], Disorder::Apart { home: 0 });
     unpacking::unpack(row, base, other, there);
 }
 
@@ -101,77 +117,86 @@ fn contrast(first: State, area: &[u8], second: State, other: &[u8], room: &mut [
     let read = first.cap as u32 + second.cap as u32;
     let n = count_all(first, area, second, other);
     let base = MORE * (n.both as usize);
-    let top = base + WIDTH * (n.first as usize + n.second as usize + n.both as usize);
+    let top = base + InUse::WIDTH * (n.first as usize + n.second as usize + n.both as usize);
     let length = (top + 16) as u32;
     if room.len() < top + 16 {
-        return Compared::Short {
+        return Err(CompareRefusal::Short {
             wanted: length,
             read,
-        };
+        });
     }
     let here = sites::site_of(first);
     let there = sites::site_of(second);
     write_list(&mut room[..top], base, area, here, other, there);
     unpacking::put_closing(room, top, n.first, n.second, n.both);
-    Compared::Listed { length, read }
+    Ok(Listed { length, read })
 }
 
 // A file refused, after so many pages of the other.
-fn refuse(file: u16, why: Answer, before: u32) -> Compared
-    requires { (before ≤ 65535) × ((answers.numbers why).read ≤ 4096) }
-    ensures { result ≡ Refused file why (read_over before (answers.numbers why).read) }
+fn refuse(which: Which, why: Refusal, before: u32) -> CompareRefusal
+    requires { (before ≤ 65535) × ((refused why).read ≤ 4096) }
+    ensures { result ≡ File which why (read_over before (refused why).read) }
 {
-    let read = sites::read_over(before, why);
-    Compared::Refused { file, why, read }
-}
-
-fn told(refusal: u16, page: u16, read: u32, file: u16, taken: u32, wanted: u32) -> ComparedNumbers
-    ensures { result ≡ record { numbers = answers.told refusal page 0 read 0; file = file; taken = taken; wanted = wanted } }
-{
-    let numbers = Numbers {
-        refusal,
-        page,
-        value: 0,
-        read,
-        moved: 0,
-    };
-    ComparedNumbers {
-        numbers,
-        file,
-        taken,
-        wanted,
+    CompareRefusal::File {
+        which,
+        why,
+        read: sites::read_over(before, why),
     }
 }
 
 // What differs between two files, in lent room.
+#[tactic(auto, unfolding(crate::specs::Compare::compared))]
 pub fn compare(first: State, area: &[u8], second: State, other: &[u8], room: &mut [u8]) -> Compared
     ensures { let o = compared in_use first area.now second other.now room.old in (result ≡ o.answer) × (room.new ≡ o.room) }
 {
-    let gate = gates::check_gate(first, area, IN_USE);
-    match gate {
-        Gate::Shut { why } => refuse(1, why, 0),
-        Gate::Open => {
-            let gate2 = gates::check_gate(second, other, IN_USE);
-            match gate2 {
-                Gate::Shut { why } => refuse(2, why, first.cap as u32),
-                Gate::Open => contrast(first, area, second, other, room),
-            }
-        }
+    if let Err(why) = gates::check_gate::<InUse>(first, area) {
+        return Err(refuse(Which::First, why, 0));
     }
+    if let Err(why) = gates::check_gate::<InUse>(second, other) {
+        return Err(refuse(Which::Second, why, first.cap as u32));
+    }
+    contrast(first, area, second, other, room)
 }
 
-impl Compared {
-    // The answer in numbers.
-    pub fn numbers(self) -> ComparedNumbers
-        ensures { result ≡ compared_numbers self }
-    {
-        match self {
-            Compared::Listed { length, read } => told(0, 0, read, 0, length, length),
-            Compared::Refused { file, why, read } => {
-                let n = why.numbers();
-                told(n.refusal, n.page, read, file, 0, 0)
+impl From<Compared> for ComparedNumbers {
+    ghost use Rattle.std.specs.Prelude.{◌≡◌};
+    ghost use Rattle.comparisons.specs.Compare.{compared_numbers};
+
+    ghost from_gives = { λ compared numbers. numbers ≡ compared_numbers compared };
+
+    fn from(compared: Compared) -> Self {
+        match compared {
+            Ok(Listed { length, read }) => ComparedNumbers {
+                numbers: Numbers {
+                    read,
+                    ..Numbers::default()
+                },
+                file: 0,
+                taken: length,
+                wanted: length,
+            },
+            Err(CompareRefusal::File { which, why, read }) => {
+                let own = Numbers::from(why);
+                ComparedNumbers {
+                    numbers: Numbers {
+                        refusal: own.refusal,
+                        page: own.page,
+                        read,
+                        ..Numbers::default()
+                    },
+                    file: u16::from(which),
+                    ..ComparedNumbers::default()
+                }
             }
-            Compared::Short { wanted, read } => told(15, 0, read, 0, 0, wanted),
+            Err(CompareRefusal::Short { wanted, read }) => ComparedNumbers {
+                numbers: Numbers {
+                    refusal: 15,
+                    read,
+                    ..Numbers::default()
+                },
+                wanted,
+                ..ComparedNumbers::default()
+            },
         }
     }
 }

@@ -4,14 +4,14 @@ use mathlib.Core.Bool.{true, false}
 use mathlib.Core.Logic.{inl, inr}
 use mathlib.Core.List.{List, [], ◌∷◌}
 use Prim.Native.Nat.{ℕ}
+use Rattle.std.proofs.Common.{Ok, Err}
 use Rattle.state.specs.declared.State.{State}
 use Rattle.state.specs.declared.Done.{Done}
 use Rattle.state.specs.declared.Numbers.{Numbers}
-use Rattle.state.specs.Answer.{told, numbers}
-use Rattle.gates.specs.declared.Gate.{Gate}
-use Rattle.gates.specs.declared.Gate.TheVariants.{Open, Shut}
-use Rattle.gates.specs.Gates.{on_gate}
-use Rattle.changes.specs.Changes.{done, Outcome, refused}
+use Rattle.state.specs.Answer.{Answer, told, numbers, refused as why_told}
+use Rattle.state.specs.Done.{done}
+use Rattle.gates.specs.Gates.{Gate, on_gate}
+use Rattle.changes.specs.Changes.{Outcome, refused}
 use Rattle.register.specs.Files.{Call, File}
 use Rattle.demands.specs.Refusals.{BrokenAt, order, OneOf, gives, AcceptedTells}
 use Rattle.demands.proofs.InOrder.{listed, one_of, none_of, Comes}
@@ -34,10 +34,10 @@ refuses f c k read p g w =
     }
 
 -- the numbers of a call that is refused at a gate, or goes on
-pub gated : (s : State) (area : List ℕ) (o : Outcome) (g : Gate) → numbers (on_gate g (refused s area) o).done.answer ≡ on_gate g numbers (numbers o.done.answer)
-gated s area o Open = refl
-gated s area o (Shut why) = refl
+pub gated : (s : State) (area : List ℕ) (o : Outcome) (g : Gate) → numbers (on_gate g (refused s area) o).done.answer ≡ on_gate g why_told (numbers o.done.answer)
+gated s area o (Ok u) = refl
+gated s area o (Err why) = refl
 
-pub looks : (s : State) (d : Done) (g : Gate) → numbers (on_gate g (done s) d).answer ≡ on_gate g numbers (numbers d.answer)
-looks s d Open = refl
-looks s d (Shut why) = refl
+pub looks : (s : State) (d : Done Answer) (g : Gate) → numbers (on_gate g (λ why. done s (Err why)) d).answer ≡ on_gate g why_told (numbers d.answer)
+looks s d (Ok u) = refl
+looks s d (Err why) = refl

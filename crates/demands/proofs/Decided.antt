@@ -6,20 +6,18 @@ use mathlib.Core.List.{List, [], ◌∷◌}
 use Prim.Native.Nat.{ℕ, suc}
 use native.Mathlib.Omega.{arith}
 use lib.ListN.{length, replicate}
+use Rattle.std.proofs.Common.{Ok, Err}
 use Rattle.homes.specs.declared.Params.{Params}
 use Rattle.state.specs.Promises.{Ranged}
 use Rattle.numbers.specs.Little.{Bytes}
 use Rattle.pages.specs.Area.{area_from}
 use Rattle.state.specs.declared.State.{State}
 use Rattle.state.specs.declared.Numbers.{Numbers}
-use Rattle.state.specs.declared.Answer.TheVariants.{Accepted}
 use Rattle.state.specs.State.{fresh}
-use Rattle.state.specs.Answer.{told, numbers}
-use Rattle.gates.specs.declared.Gate.{Gate}
-use Rattle.gates.specs.declared.Gate.TheVariants.{Open, Shut}
-use Rattle.gates.specs.Gates.{on_gate, gate_of, image_gate, check_gate}
+use Rattle.state.specs.Answer.{accepted, told, numbers, refused as why_told}
+use Rattle.state.specs.Done.{done}
+use Rattle.gates.specs.Gates.{Gate, on_gate, gate_of, image_gate, check_gate}
 use Rattle.register.specs.OneImage.{ImageOfR}
-use Rattle.changes.specs.Changes.{done}
 use Rattle.register.specs.Files.{Call, format, check, File, left}
 use Rattle.demands.specs.Refusals.{Cause, when, unless, RightArea, SomeBroken, LowestBroken, order, OneOf, gives, tells, AcceptedTells, Judges}
 use Rattle.demands.proofs.InOrder.{listed, one_of, none_of, Comes}
@@ -76,7 +74,7 @@ module _ (f : File) (c : Call) {A : Type 0} where
       → ((k : ℕ) → Comes k (order f c) (when 4 (SomeBroken f) ∷ unless 9 (ImageOfR f.layout f.state f.area) ∷ more) → Comes k (order f c) (order f c))
       → (listed 4 (gives c) ≡ true) × (listed 9 (gives c) ≡ true) → (A → ImageOfR f.layout f.state f.area)
       → ((SomeBroken f → ⊥) → ImageOfR f.layout f.state f.area → Decided f c A n)
-      → Pages f → Decided f c A (on_gate (image_gate f.layout f.state f.area) numbers n)
+      → Pages f → Decided f c A (on_gate (image_gate f.layout f.state f.area) why_told n)
   on_pages n more past given image on (sick a w z i) = rw i (sickly given.0 (λ v. z (image v)) (past 4 (inl ((a, w.broken), refl))) a w)
   on_pages n more past given image on (strange w z i) = rw i (late 9 refl given.1 (λ v. z (image v)) (past 9 (inr (w, inl (z, refl)))))
   on_pages n more past given image on (whole w m i) = rw i (on w m)
@@ -96,14 +94,14 @@ module _ (f : File) where
     abbrev formats : Call
     formats = format q cap
 
-    format_tells : tells f formats ≡ on_gate (gate_of f.layout new (length area)) numbers (told 0 0 0 0 0)
+    format_tells : tells f formats ≡ on_gate (gate_of f.layout new (length area)) why_told (told 0 0 0 0 0)
     unfolding left
-    format_tells = gated s area (record { done = done new (Accepted 0 0 0); area = area_from f.layout 0 (replicate cap []) }) (gate_of f.layout new (length area))
+    format_tells = gated s area (record { done = done new (Ok (accepted 0 0 0)); area = area_from f.layout 0 (replicate cap []) }) (gate_of f.layout new (length area))
 
     pub format_decided : Decided f formats (Ranged f.layout new × RightArea new area) (tells f formats)
     format_decided = rw format_tells (go (enter f.layout new area))
       where
-        go : Enters f.layout new area → Decided f formats (Ranged f.layout new × RightArea new area) (on_gate (gate_of f.layout new (length area)) numbers (told 0 0 0 0 0))
+        go : Enters f.layout new area → Decided f formats (Ranged f.layout new × RightArea new area) (on_gate (gate_of f.layout new (length area)) why_told (told 0 0 0 0 0))
         go (out r g) = rw g (early f formats 1 refl refl (λ a. r a.0) (inl (r, refl)) refl)
         go (other r l g) = rw g (early f formats 2 refl refl (λ a. l a.1) (inr (r, inl (l, refl))) refl)
         go (entered r l g) = rw g (accepts f formats refl (r, l) (inr (r, inr (l, none_of 0 (1 ∷ 2 ∷ []) refl))) 0 0 refl)
@@ -112,25 +110,25 @@ module _ (f : File) where
   abbrev Good : Type 0
   Good = Ranged f.layout s × RightArea s area × ImageOfR f.layout s area
 
-  check-tells : tells f check ≡ on_gate (gate_of f.layout s (length area)) numbers (on_gate (image_gate f.layout s area) numbers (told 0 0 0 s.cap 0))
+  check-tells : tells f check ≡ on_gate (gate_of f.layout s (length area)) why_told (on_gate (image_gate f.layout s area) why_told (told 0 0 0 s.cap 0))
   unfolding left check_gate
   check-tells = go (gate_of f.layout s (length area)) (image_gate f.layout s area)
     where
-      go : (g i : Gate) → numbers (on_gate (on_gate g Shut i) (done s) (done s (Accepted 0 s.cap 0))).answer ≡ on_gate g numbers (on_gate i numbers (told 0 0 0 s.cap 0))
-      go Open Open = refl
-      go Open (Shut why) = refl
-      go (Shut why) i = refl
+      go : (g i : Gate) → numbers (on_gate (on_gate g Err i) (λ why. done s (Err why)) (done s (Ok (accepted 0 s.cap 0)))).answer ≡ on_gate g why_told (on_gate i why_told (told 0 0 0 s.cap 0))
+      go (Ok u) (Ok v) = refl
+      go (Ok u) (Err why) = refl
+      go (Err why) i = refl
 
   module _ (b : Bytes area) where
     pub check_decided : Decided f check Good (tells f check)
     check_decided = rw check-tells (go (enter f.layout s area))
       where
-        pages : Ranged f.layout s → RightArea s area → Pages f → Decided f check Good (on_gate (image_gate f.layout s area) numbers (told 0 0 0 s.cap 0))
+        pages : Ranged f.layout s → RightArea s area → Pages f → Decided f check Good (on_gate (image_gate f.layout s area) why_told (told 0 0 0 s.cap 0))
         pages r l =
             on_pages f check (told 0 0 0 s.cap 0) [] (λ k w. inr (r, inr (l, w))) (refl, refl) (λ v. v.2)
             (λ w m. accepts f check refl (r, l, m) (inr (r, inr (l, inr (w, inr (m, none_of 0 (1 ∷ 2 ∷ 4 ∷ 9 ∷ []) refl))))) s.cap 0 refl)
 
-        go : Enters f.layout s area → Decided f check Good (on_gate (gate_of f.layout s (length area)) numbers (on_gate (image_gate f.layout s area) numbers (told 0 0 0 s.cap 0)))
+        go : Enters f.layout s area → Decided f check Good (on_gate (gate_of f.layout s (length area)) why_told (on_gate (image_gate f.layout s area) why_told (told 0 0 0 s.cap 0)))
         go (out r g) = rw g (early f check 1 refl refl (λ a. r a.0) (inl (r, refl)) refl)
         go (other r l g) = rw g (early f check 2 refl refl (λ a. l a.1) (inr (r, inl (l, refl))) refl)
         go (entered r l g) = rw g (pages r l (judge f b r l))

@@ -5,6 +5,7 @@ use mathlib.Core.Logic.{inl, inr}
 use mathlib.Core.List.{List, [], ◌∷◌}
 use Prim.Native.Nat.{ℕ}
 use lib.ListN.{length}
+use Rattle.std.proofs.Common.{Ok, Err}
 use Rattle.numbers.specs.Little.{Bytes}
 use Rattle.layouts.specs.Layout.{slots_of}
 use Rattle.homes.specs.Homes.{first_pages}
@@ -14,13 +15,11 @@ use Rattle.pages.specs.Area.{held_from}
 use Rattle.rebuild.specs.Relaid.{relaid}
 use Rattle.state.specs.declared.State.{State}
 use Rattle.state.specs.declared.Numbers.{Numbers}
-use Rattle.state.specs.declared.Answer.{Answer}
+use Rattle.state.specs.declared.Refusal.{Refusal}
 use Rattle.state.specs.State.{homes, grown, shrunk}
 use Rattle.state.specs.Promises.{Ranged}
-use Rattle.state.specs.Answer.{told, numbers}
-use Rattle.gates.specs.declared.Gate.{Gate}
-use Rattle.gates.specs.declared.Gate.TheVariants.{Open, Shut}
-use Rattle.gates.specs.Gates.{on_gate, gate_of, grow_gate, shrink_gate}
+use Rattle.state.specs.Answer.{told, numbers, refused as why_told}
+use Rattle.gates.specs.Gates.{Gate, on_gate, gate_of, grow_gate, shrink_gate}
 use Rattle.changes.specs.Changes.{refused}
 use Rattle.register.specs.OneImage.{ImageOfR}
 use Rattle.register.specs.Calls.{has_room, remade, grow_open, with_row, grown_counts}
@@ -57,13 +56,13 @@ module _ (f : File) where
     abbrev grown_tells : Numbers
     grown_tells = numbers (grow_open f.layout s area).done.answer
 
-    grow-tells : tells f (grow row) ≡ on_gate (grow_gate f.layout s area (length row)) numbers grown_tells
+    grow-tells : tells f (grow row) ≡ on_gate (grow_gate f.layout s area (length row)) why_told grown_tells
     unfolding left
     grow-tells = go (grow_gate f.layout s area (length row))
       where
-        go : (g : Gate) → numbers (on_gate g (λ why. with_row (refused s area why) row) (with_row (grow_open f.layout s area) (grown_counts f.layout s area))).done.answer ≡ on_gate g numbers grown_tells
-        go Open = refl
-        go (Shut why) = refl
+        go : (g : Gate) → numbers (on_gate g (λ why. with_row (refused s area why) row) (with_row (grow_open f.layout s area) (grown_counts f.layout s area))).done.answer ≡ on_gate g why_told grown_tells
+        go (Ok u) = refl
+        go (Err why) = refl
 
     with_room : has_room f.layout s (grown s) area ≡ true → grown_tells ≡ remade_tells (grown s)
     unfolding grow_open
@@ -74,7 +73,7 @@ module _ (f : File) where
     without_room e = rw e
 
     -- what is refused at the entry of any call
-    shut_grow : (why : Answer) → gate_of f.layout s (length area) ≡ Shut why → grow_gate f.layout s area (length row) ≡ Shut why
+    shut_grow : (why : Refusal) → gate_of f.layout s (length area) ≡ Err why → grow_gate f.layout s area (length row) ≡ Err why
     unfolding grow_gate
     shut_grow why e = rw e
 
@@ -82,7 +81,7 @@ module _ (f : File) where
     grow_decided b = rw grow-tells (go (enter f.layout s area))
       where
         Ends : Type 0
-        Ends = Decided f (grow row) GoodToGrow (on_gate (grow_gate f.layout s area (length row)) numbers grown_tells)
+        Ends = Decided f (grow row) GoodToGrow (on_gate (grow_gate f.layout s area (length row)) why_told grown_tells)
 
         -- with all else right, the room decides
         room : (r : Ranged f.layout s) (l : RightArea s area) (d : length row ≡ s.cap) (k : s.p ≡ s.cap → ⊥) (w : SomeBroken f → ⊥) (m : ImageOfR f.layout s area)
@@ -112,11 +111,11 @@ module _ (f : File) where
   abbrev GoodToShrink : Type 0
   GoodToShrink = Ranged f.layout s × RightArea s area × (s.p ≡ first_pages s.params → ⊥) × ImageOfR f.layout s area
 
-  shrink-tells : tells f shrink ≡ on_gate (shrink_gate f.layout s area) numbers (remade_tells (shrunk s))
+  shrink-tells : tells f shrink ≡ on_gate (shrink_gate f.layout s area) why_told (remade_tells (shrunk s))
   unfolding left
   shrink-tells = gated s area (remade f.layout s (shrunk s) area) (shrink_gate f.layout s area) ∙ rw (redone (shrunk s))
 
-  shut_shrink : (why : Answer) → gate_of f.layout s (length area) ≡ Shut why → shrink_gate f.layout s area ≡ Shut why
+  shut_shrink : (why : Refusal) → gate_of f.layout s (length area) ≡ Err why → shrink_gate f.layout s area ≡ Err why
   unfolding shrink_gate
   shut_shrink why e = rw e
 
@@ -124,7 +123,7 @@ module _ (f : File) where
   shrink_decided b = rw shrink-tells (go (enter f.layout s area))
     where
       Ends : Type 0
-      Ends = Decided f shrink GoodToShrink (on_gate (shrink_gate f.layout s area) numbers (remade_tells (shrunk s)))
+      Ends = Decided f shrink GoodToShrink (on_gate (shrink_gate f.layout s area) why_told (remade_tells (shrunk s)))
 
       tries : Ranged f.layout s → RightArea s area → Starts f → Ends
       tries r l (at_start k g) = rw g (early f shrink 14 refl refl (λ a. a.2 k) (inr (r, inr (l, inl (k, refl)))) refl)

@@ -5,15 +5,15 @@ use mathlib.Core.Logic.{◌↔◌, inl}
 use mathlib.Core.List.{[], ◌∷◌}
 use Prim.Native.Nat.{ℕ, ◌*◌, ◌<◌}
 use native.Mathlib.Omega.{arith}
+use Rattle.std.proofs.Common.{Ok, Err}
 use Rattle.layouts.specs.Layout.{slots_on}
 use Rattle.homes.specs.Homes.{first_pages}
 use Rattle.state.specs.Promises.{Ranged}
 use Rattle.state.proofs.Ranges.{in_range_lem}
 use Rattle.state.proofs.Promises.{state_promises}
 use Rattle.numbers.specs.Little.{Bytes}
-use Rattle.state.specs.declared.Answer.{Answer}
-use Rattle.state.specs.declared.Answer.TheVariants.{Accepted, OutOfRange, WrongArea, WrongRow, Broken, Absent, Held, NoRoom, AtCap, NotImage, Clash, AtStart}
-use Rattle.state.specs.Answer.{told, numbers}
+use Rattle.state.specs.declared.Refusal.TheVariants.{OutOfRange, WrongArea, WrongRow, Broken, Absent, Held, NoRoom, AtCap, NotImage, Clash, AtStart}
+use Rattle.state.specs.Answer.{Answer, told, numbers}
 use Rattle.state.specs.State.{is_due}
 use Rattle.register.specs.Files.{Call, format, find, put, remove, grow, shrink, check, due, File, Said, answers, says, left, numbers_of}
 use Rattle.register.proofs.Rooms.{room_to_shrink}
@@ -47,20 +47,20 @@ module _ (k : ℕ) where
   unread = record { page = λ e. refl; value = λ z e. refl; moved = λ z. refl; read = λ w. refl }
 
 plain_answer : (a : Answer) → Plain (numbers a)
-plain_answer (Accepted value read moved) =
+plain_answer (Ok a) =
     record { page = λ e. refl; value = λ z e. absurd (z refl); moved = λ z. absurd (z refl); read = λ w. absurd (none_of 0 (1 ∷ 2 ∷ 3 ∷ 8 ∷ 14 ∷ []) refl w) }
-plain_answer OutOfRange = unread 1
-plain_answer WrongArea = unread 2
-plain_answer WrongRow = unread 3
-plain_answer (Broken page read) =
+plain_answer (Err OutOfRange) = unread 1
+plain_answer (Err WrongArea) = unread 2
+plain_answer (Err WrongRow) = unread 3
+plain_answer (Err (Broken page read)) =
     record { page = λ e. absurd (e refl); value = λ z e. refl; moved = λ z. refl; read = λ w. absurd (none_of 4 (1 ∷ 2 ∷ 3 ∷ 8 ∷ 14 ∷ []) refl w) }
-plain_answer (Absent read) = looked 5 read refl
-plain_answer (Held value read) = telling 6 value read refl refl
-plain_answer (NoRoom read) = looked 7 read refl
-plain_answer AtCap = unread 8
-plain_answer (NotImage read) = looked 9 read refl
-plain_answer (Clash value read) = telling 13 value read refl refl
-plain_answer AtStart = unread 14
+plain_answer (Err (Absent read)) = looked 5 read refl
+plain_answer (Err (Held value read)) = telling 6 value read refl refl
+plain_answer (Err (NoRoom read)) = looked 7 read refl
+plain_answer (Err AtCap) = unread 8
+plain_answer (Err (NotImage read)) = looked 9 read refl
+plain_answer (Err (Clash value read)) = telling 13 value read refl refl
+plain_answer (Err AtStart) = unread 14
 
 plain_said : (t : Said) → Plain (numbers_of t)
 plain_said (answers a) = plain_answer a

@@ -12,8 +12,8 @@ use Rattle.placing.specs.Image.{Room}
 use Rattle.placing.specs.Walks.{find_in}
 use Rattle.pages.specs.Page.{Record, key, value}
 use Rattle.pages.specs.Area.{area_from}
-use Rattle.state.specs.declared.Answer.{Answer}
-use Rattle.state.specs.declared.Answer.TheVariants.{Absent, NoRoom}
+use Rattle.state.specs.declared.Refusal.{Refusal}
+use Rattle.state.specs.declared.Refusal.TheVariants.{Absent, NoRoom}
 use Rattle.state.specs.State.{homes}
 use Rattle.state.specs.Answer.{again}
 use Rattle.register.specs.Files.{Call, find, put, remove, File}
@@ -32,7 +32,7 @@ abbrev pub file_of : Kept → List (List Record) → File
 file_of m ps = record { layout = m.layout; state = state_of m; area = area_from m.layout 0 ps }
 
 -- a call is refused and leaves the file, with some row
-abbrev pub Refused : Kept → List (List Record) → Call → Answer → (row : List ℕ) → Type 0
+abbrev pub Refused : Kept → List (List Record) → Call → Refusal → (row : List ℕ) → Type 0
 Refused m ps c why row = RefusedOn m.layout (state_of m) ps c why row
 
 -- a call is accepted and leaves a file that stands

@@ -10,19 +10,20 @@ use native.Mathlib.Omega.{arith}
 use lib.Dec.{ltb, eqb}
 use lib.ListN.{length, replicate}
 use borrow.Author.Tests.{ne_eqb}
+use Rattle.std.proofs.Common.{Ok, Err}
 use Rattle.layouts.specs.Layout.{Layout, slots_on, slots_of}
 use Rattle.homes.specs.declared.Params.{Params}
 use Rattle.homes.specs.Homes.{first_pages}
 use Rattle.placing.specs.Image.{All, Room}
 use Rattle.pages.specs.Page.{Record, key, value}
 use Rattle.pages.specs.Area.{area_from}
-use Rattle.state.specs.declared.Answer.{Answer}
-use Rattle.state.specs.declared.Answer.TheVariants.{Accepted, OutOfRange, WrongArea, WrongRow, Absent, Held, NoRoom, AtCap, Clash, AtStart}
+use Rattle.state.specs.declared.Refusal.{Refusal}
+use Rattle.state.specs.declared.Refusal.TheVariants.{OutOfRange, WrongArea, WrongRow, Absent, Held, NoRoom, AtCap, Clash, AtStart}
 use Rattle.state.specs.State.{homes, grown}
-use Rattle.state.specs.Answer.{numbers, again}
+use Rattle.state.specs.Answer.{accepted as took, numbers, again}
+use Rattle.state.specs.Done.{done}
 use Rattle.state.proofs.Ranges.{ranged}
 use Rattle.state.proofs.Answers.{again_same, again_other}
-use Rattle.changes.specs.Changes.{done}
 use Rattle.register.specs.Files.{Call, format, find, put, remove, grow, shrink, check, due, File, says, Left, leaves, left, numbers_of, after}
 use Rattle.demands.specs.Histories.{Fits, refusal, Kept, state_of, without, commit_of, begun, holding, paged, unpaged, makes, kept}
 use Rattle.register.proofs.After.{same_layout}
@@ -34,17 +35,17 @@ use Rattle.demands.proofs.InOrder.{listed, none_of}
 use Rattle.demands.proofs.Sets.{set_put}
 
 -- the refusals that a file which stands can meet: all but 4 and 9; they move no record
-abbrev pub Plain : Answer → Type 0
-Plain why = (listed (numbers why).refusal (0 ∷ 4 ∷ 9 ∷ []) ≡ false) × ((numbers why).moved ≡ 0)
+abbrev pub Plain : Refusal → Type 0
+Plain why = (listed (numbers (Err why)).refusal (0 ∷ 4 ∷ 9 ∷ []) ≡ false) × ((numbers (Err why)).moved ≡ 0)
 
-pub plain_number : (why : Answer) → Plain why → ((numbers why).refusal ≡ 0 → ⊥) × ((numbers why).refusal ≡ 4 → ⊥) × ((numbers why).refusal ≡ 9 → ⊥)
+pub plain_number : (why : Refusal) → Plain why → ((numbers (Err why)).refusal ≡ 0 → ⊥) × ((numbers (Err why)).refusal ≡ 4 → ⊥) × ((numbers (Err why)).refusal ≡ 9 → ⊥)
 plain_number why p =
-    let n = none_of (numbers why).refusal (0 ∷ 4 ∷ 9 ∷ []) p.0 in
+    let n = none_of (numbers (Err why)).refusal (0 ∷ 4 ∷ 9 ∷ []) p.0 in
     (λ e. n (inl e), λ e. n (inr (inl e)), λ e. n (inr (inr (inl e))))
 
 -- what a call comes to on a file that stands
 pub data Step (m : Kept) (ps : List (List Record)) (c : Call) : Type 0 where
-  refused : (why : Answer) (row : List ℕ) → Plain why → Refused m ps c why row → Step m ps c
+  refused : (why : Refusal) (row : List ℕ) → Plain why → Refused m ps c why row → Step m ps c
   accepted : (new : Kept) (v : ℕ) (row : List ℕ) → new.layout ≡ m.layout → makes m.layout (some m) c ≡ some new → Accepts m new ps c v row → Step m ps c
   said : (u : Bool) → makes m.layout (some m) c ≡ some m → left (file_of m ps) c ≡ record { said = says u; file = file_of m ps; row = [] } → Step m ps c
 
@@ -167,10 +168,10 @@ Next form o c l = Known (cond (eqb (numbers_of l.said).refusal 0) (makes form o 
 
 step_next : (m : Kept) (ps : List (List Record)) → Stands m ps → (c : Call) → Step m ps c → Next m.layout (some m) c (left (file_of m ps) c)
 step_next m ps s c (refused why row p e) =
-    let t : Next m.layout (some m) c (leaves m.layout (done (state_of m) why) (area_from m.layout 0 ps) row) = rw (ne_eqb (numbers why).refusal 0 (plain_number why p).0) (ps, (refl, s)) in
+    let t : Next m.layout (some m) c (leaves m.layout (done (state_of m) (Err why)) (area_from m.layout 0 ps) row) = rw (ne_eqb (numbers (Err why)).refusal 0 (plain_number why p).0) (ps, (refl, s)) in
     rw e t
 step_next m ps s c (accepted new v row q k a) =
-    let t : Next m.layout (some m) c (leaves m.layout (done (state_of new) (Accepted v a.read a.moved)) (area_from m.layout 0 a.pages) row) = rw (k, q) (a.pages, (refl, a.stands)) in
+    let t : Next m.layout (some m) c (leaves m.layout (done (state_of new) (Ok (took v a.read a.moved))) (area_from m.layout 0 a.pages) row) = rw (k, q) (a.pages, (refl, a.stands)) in
     rw a.left t
 step_next m ps s c (said u k e) =
     let t : Next m.layout (some m) c (record { said = says u; file = file_of m ps; row = [] }) = rw k (ps, (refl, s)) in

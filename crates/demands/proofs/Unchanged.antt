@@ -5,17 +5,17 @@ use mathlib.Core.List.{List, []}
 use Prim.Native.Nat.{ℕ}
 use lib.Dec.{eqb}
 use lib.ListN.{length, replicate}
+use Rattle.std.proofs.Common.{Ok, Err}
 use Rattle.layouts.specs.Layout.{slots_on}
 use Rattle.pages.specs.Area.{area_from}
 use Rattle.state.specs.declared.State.{State}
-use Rattle.state.specs.declared.Answer.{Answer}
-use Rattle.state.specs.declared.Answer.TheVariants.{Accepted, NoRoom}
+use Rattle.state.specs.declared.Refusal.TheVariants.{NoRoom}
+use Rattle.state.specs.Answer.{Answer, accepted}
+use Rattle.state.specs.Done.{done}
 use Rattle.state.specs.State.{homes, fresh, one_more, one_less, grown, shrunk}
 use Rattle.walks.specs.Walks.{Walked, went, stopped, walk, find_answer, put_walk, remove_walk}
-use Rattle.gates.specs.declared.Gate.{Gate}
-use Rattle.gates.specs.declared.Gate.TheVariants.{Open, Shut}
-use Rattle.gates.specs.Gates.{on_gate, gate_of, check_gate, grow_gate, shrink_gate}
-use Rattle.changes.specs.Changes.{done, Outcome, refused, settled, put_open, remove_open}
+use Rattle.gates.specs.Gates.{Gate, on_gate, gate_of, check_gate, grow_gate, shrink_gate}
+use Rattle.changes.specs.Changes.{Outcome, refused, settled, put_open, remove_open}
 use Rattle.register.specs.Calls.{has_room, remade, grow_open, with_row, grown_counts}
 use Rattle.register.specs.Files.{format, find, put, remove, grow, shrink, check, due, File, Left, of_outcome, of_growth, leaves, left, numbers_of}
 use Rattle.demands.specs.Demands.{Total}
@@ -32,12 +32,12 @@ Leaves f l row = (number l ≡ 0 → ⊥) → (l.file ≡ f) × ((number l ≡ 7
 module _ (f : File) where
   -- past a gate, or not
   gated : (g : Gate) (o : Outcome) → Leaves f (of_outcome f.layout o) [] → Leaves f (of_outcome f.layout (on_gate g (refused f.state f.area) o)) []
-  gated Open o k = k
-  gated (Shut why) o k = λ n. (refl, λ s. refl)
+  gated (Ok u) o k = k
+  gated (Err why) o k = λ n. (refl, λ s. refl)
 
-  looks : (g : Gate) (a : Answer) → Leaves f (leaves f.layout (on_gate g (done f.state) (done f.state a)) f.area []) []
-  looks Open a = λ n. (refl, λ s. refl)
-  looks (Shut why) a = λ n. (refl, λ s. refl)
+  looks : (g : Gate) (a : Answer) → Leaves f (leaves f.layout (on_gate g (λ why. done f.state (Err why)) (done f.state a)) f.area []) []
+  looks (Ok u) a = λ n. (refl, λ s. refl)
+  looks (Err why) a = λ n. (refl, λ s. refl)
 
   walked : (next : State) (wrong : Bool) (w : Walked) → Leaves f (of_outcome f.layout (settled f.layout f.state f.area next wrong w)) []
   walked next wrong (stopped why) = λ n. (refl, λ s. refl)
@@ -46,10 +46,10 @@ module _ (f : File) where
 
   grows : (g : Gate) (row counted : List ℕ) → Leaves f (of_growth f.layout (on_gate g (λ why. with_row (refused f.state f.area why) row) (with_row (grow_open f.layout f.state f.area) counted))) row
   unfolding grow_open remade
-  grows (Shut why) row counted = λ n. (refl, λ s. refl)
-  grows Open row counted = room (has_room f.layout f.state (grown f.state) f.area)
+  grows (Err why) row counted = λ n. (refl, λ s. refl)
+  grows (Ok u) row counted = room (has_room f.layout f.state (grown f.state) f.area)
     where
-      room : (u : Bool) → Leaves f (of_growth f.layout (with_row (cond u (remade f.layout f.state (grown f.state) f.area) (refused f.state f.area (NoRoom f.state.cap))) counted)) row
+      room : (v : Bool) → Leaves f (of_growth f.layout (with_row (cond v (remade f.layout f.state (grown f.state) f.area) (refused f.state f.area (NoRoom f.state.cap))) counted)) row
       room true = λ n. absurd (n refl)
       room false = λ n. (refl, λ s. absurd (s refl))
 
@@ -58,7 +58,7 @@ unfolding left remade
 total f (format q cap) = formats (gate_of f.layout (fresh q cap) (length f.area))
   where
     new : Outcome
-    new = record { done = done (fresh q cap) (Accepted 0 0 0); area = area_from f.layout 0 (replicate cap []) }
+    new = record { done = done (fresh q cap) (Ok (accepted 0 0 0)); area = area_from f.layout 0 (replicate cap []) }
 
     formats : (g : Gate) → Leaves f (of_outcome f.layout (on_gate g (refused f.state f.area) new)) []
     formats g = gated f g new (λ n. absurd (n refl))
@@ -72,5 +72,5 @@ total f (remove k) =
     gated f (gate_of f.layout s (length f.area)) (remove_open f.layout s f.area k) (walked f (one_less s) (eqb s.r 0) (remove_walk f.layout (homes s) f.area s.cap k))
 total f (grow row) = grows f (grow_gate f.layout f.state f.area (length row)) row (grown_counts f.layout f.state f.area)
 total f shrink = gated f (shrink_gate f.layout f.state f.area) (remade f.layout f.state (shrunk f.state) f.area) (λ n. absurd (n refl))
-total f check = looks f (check_gate f.layout f.state f.area) (Accepted 0 f.state.cap 0)
+total f check = looks f (check_gate f.layout f.state f.area) (Ok (accepted 0 f.state.cap 0))
 total f due = λ n. absurd (n refl)

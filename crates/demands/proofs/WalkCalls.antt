@@ -8,19 +8,19 @@ use native.Mathlib.Omega.{arith}
 use lib.Dec.{eqb}
 use lib.ListN.{length}
 use borrow.Author.Tests.{eqb-true, eq-eqb}
+use Rattle.std.proofs.Common.{Ok, Err}
 use Rattle.layouts.specs.Layout.{slots_on}
 use Rattle.pages.specs.Page.{Record}
 use Rattle.state.specs.Promises.{Ranged}
 use Rattle.state.specs.declared.State.{State}
 use Rattle.state.specs.declared.Numbers.{Numbers}
 use Rattle.state.specs.State.{homes, one_more, one_less}
-use Rattle.state.specs.Answer.{told, numbers}
-use Rattle.walks.specs.declared.Met.{Met}
-use Rattle.walks.specs.declared.Met.TheVariants.{Found, Ends}
-use Rattle.walks.specs.declared.Met.TheVariants as mets
-use Rattle.walks.specs.Walks.{Walked, went, stopped, walk, find_answer, put_walk, remove_walk}
+use Rattle.state.specs.Answer.{told, numbers, refused as why_told}
+use Rattle.state.specs.Done.{done}
+use Rattle.walks.specs.declared.Met.TheVariants.{Found, Ends, AtEnd}
+use Rattle.walks.specs.Walks.{Walks, Walked, went, stopped, walk, find_answer, put_walk, remove_walk}
 use Rattle.gates.specs.Gates.{on_gate, gate_of}
-use Rattle.changes.specs.Changes.{done, settled, put_open, remove_open}
+use Rattle.changes.specs.Changes.{settled, put_open, remove_open}
 use Rattle.register.specs.Files.{Call, find, put, remove, File, left}
 use Rattle.demands.specs.Refusals.{RightArea, order, OneOf, gives, tells, AcceptedTells}
 use Rattle.demands.proofs.InOrder.{listed, one_of, none_of, Comes}
@@ -41,26 +41,26 @@ module _ (f : File) where
   area = f.area
 
   module _ (k : ℕ) where
-    pub find-tells : tells f (find k) ≡ on_gate (gate_of f.layout s (length area)) numbers (numbers (find_answer (walk f.layout (homes s) area s.cap k)))
+    pub find-tells : tells f (find k) ≡ on_gate (gate_of f.layout s (length area)) why_told (numbers (find_answer (walk f.layout (homes s) area s.cap k)))
     unfolding left
     find-tells = looks s (done s (find_answer (walk f.layout (homes s) area s.cap k))) (gate_of f.layout s (length area))
 
     pub find_known : Known f (find k) (tells f (find k))
     find_known = rw find-tells (go (enter f.layout s area))
       where
-        met : Ranged f.layout s → RightArea s area → (m : Met) → MetBroken f m → Known f (find k) (numbers (find_answer m))
-        met r l (Found a i c v n) t = record { comes = inr (r, inr (l, none_of 0 (1 ∷ 2 ∷ []) refl)); gives = inl refl; accepted = λ e. refl; broken = λ e. absurd (omega arith) }
-        met r l (mets.Broken a n) t =
-            record {
+        met : Ranged f.layout s → RightArea s area → (m : Walks) → MetBroken f m → Known f (find k) (numbers (find_answer m))
+        met r l (Ok (Found a i c v n)) t = record { comes = inr (r, inr (l, none_of 0 (1 ∷ 2 ∷ []) refl)); gives = inl refl; accepted = λ e. refl; broken = λ e. absurd (omega arith) }
+        met r l (Err why) t =
+            rw t.2 (record {
               comes = inr (r, inr (l, none_of 4 (1 ∷ 2 ∷ []) refl));
               gives = one_of 4 (gives (find k)) refl;
               accepted = λ e. absurd (omega arith);
-              broken = λ e. t;
-            }
-        met r l (Ends a i c n) t = refuses f (find k) 5 n refl refl (inr (r, inr (l, none_of 5 (1 ∷ 2 ∷ []) refl)))
-        met r l (mets.AtEnd n) t = refuses f (find k) 5 n refl refl (inr (r, inr (l, none_of 5 (1 ∷ 2 ∷ []) refl)))
+              broken = λ e. t.3;
+            })
+        met r l (Ok (Ends a i c n)) t = refuses f (find k) 5 n refl refl (inr (r, inr (l, none_of 5 (1 ∷ 2 ∷ []) refl)))
+        met r l (Ok (AtEnd n)) t = refuses f (find k) 5 n refl refl (inr (r, inr (l, none_of 5 (1 ∷ 2 ∷ []) refl)))
 
-        go : Enters f.layout s area → Known f (find k) (on_gate (gate_of f.layout s (length area)) numbers (numbers (find_answer (walk f.layout (homes s) area s.cap k))))
+        go : Enters f.layout s area → Known f (find k) (on_gate (gate_of f.layout s (length area)) why_told (numbers (find_answer (walk f.layout (homes s) area s.cap k))))
         go (out r g) = rw g (refuses f (find k) 1 0 refl refl (inl (r, refl)))
         go (other r l g) = rw g (refuses f (find k) 2 0 refl refl (inr (r, inl (l, refl))))
         go (entered r l g) = rw g (met r l (walk f.layout (homes s) area s.cap k) (walk_broken f k))
@@ -72,7 +72,7 @@ module _ (f : File) where
     settles wrong e (stopped why) t =
         record {
           known = record {
-            comes = past (numbers why).refusal (λ v. t.met (inr (⊎_elim inl (λ u. inr (⊎_elim inl absurd u)) v)));
+            comes = past (numbers (Err why)).refusal (λ v. t.met (inr (⊎_elim inl (λ u. inr (⊎_elim inl absurd u)) v)));
             gives = t.gives;
             accepted = λ z. absurd (t.met (inl z));
             broken = t.broken;
@@ -107,14 +107,14 @@ module _ (f : File) where
     abbrev pub puts : Numbers
     puts = numbers (put_open f.layout s area x).done.answer
 
-    pub put-tells : tells f (put x) ≡ on_gate (gate_of f.layout s (length area)) numbers puts
+    pub put-tells : tells f (put x) ≡ on_gate (gate_of f.layout s (length area)) why_told puts
     unfolding left
     put-tells = gated s area (put_open f.layout s area x) (gate_of f.layout s (length area))
 
     pub put_settled : Settled f (put x) (s.r ≡ slots_on f.layout s.cap) (tells f (put x))
     put_settled = rw put-tells (go (enter f.layout s area))
       where
-        go : Enters f.layout s area → Settled f (put x) (s.r ≡ slots_on f.layout s.cap) (on_gate (gate_of f.layout s (length area)) numbers puts)
+        go : Enters f.layout s area → Settled f (put x) (s.r ≡ slots_on f.layout s.cap) (on_gate (gate_of f.layout s (length area)) why_told puts)
         go (out r g) = rw g (shut (put x) 1 refl refl refl (inl (r, refl)))
         go (other r l g) = rw g (shut (put x) 2 refl refl refl (inr (r, inl (l, refl))))
         go (entered r l g) =
@@ -125,14 +125,14 @@ module _ (f : File) where
     abbrev removes : Numbers
     removes = numbers (remove_open f.layout s area k).done.answer
 
-    remove-tells : tells f (remove k) ≡ on_gate (gate_of f.layout s (length area)) numbers removes
+    remove-tells : tells f (remove k) ≡ on_gate (gate_of f.layout s (length area)) why_told removes
     unfolding left
     remove-tells = gated s area (remove_open f.layout s area k) (gate_of f.layout s (length area))
 
     pub remove_settled : Settled f (remove k) (s.r ≡ 0) (tells f (remove k))
     remove_settled = rw remove-tells (go (enter f.layout s area))
       where
-        go : Enters f.layout s area → Settled f (remove k) (s.r ≡ 0) (on_gate (gate_of f.layout s (length area)) numbers removes)
+        go : Enters f.layout s area → Settled f (remove k) (s.r ≡ 0) (on_gate (gate_of f.layout s (length area)) why_told removes)
         go (out r g) = rw g (shut (remove k) 1 refl refl refl (inl (r, refl)))
         go (other r l g) = rw g (shut (remove k) 2 refl refl refl (inr (r, inl (l, refl))))
         go (entered r l g) =

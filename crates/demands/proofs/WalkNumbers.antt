@@ -9,20 +9,19 @@ use Prim.Native.Nat.{ℕ, zero, suc, ◌-◌, ◌≤◌}
 use native.Mathlib.Omega.{arith}
 use lib.Dec.{leb, ltb, eqb}
 use lib.ListN.{length, take, get_or}
+use Rattle.std.proofs.Common.{Ok, Err}
 use Rattle.layouts.specs.Layout.{slots_of}
 use Rattle.placing.specs.Lay.{rank_of, rank_in, ins}
 use Rattle.placing.specs.Walks.{ends_on}
 use Rattle.pages.specs.Page.{Record, vacant, key, value, records_in, read_page}
 use Rattle.pages.specs.Places.{closed, ahead}
 use Rattle.pages.specs.Area.{part_at, pages_from}
-use Rattle.state.specs.declared.Answer.TheVariants.{Held, Clash}
+use Rattle.state.specs.declared.Refusal.TheVariants.{Broken, Held, Clash}
 use Rattle.state.specs.declared.Numbers.{Numbers}
 use Rattle.state.specs.Answer.{told, numbers}
 use Rattle.state.specs.State.{homes}
-use Rattle.walks.specs.declared.Met.{Met}
-use Rattle.walks.specs.declared.Met.TheVariants.{Found, Ends}
-use Rattle.walks.specs.declared.Met.TheVariants as mets
-use Rattle.walks.specs.Walks.{held_at, on_held, meets, walk, Walked, went, stopped, and_page, carry, put_met, put_walk, pull_back, remove_met, remove_walk}
+use Rattle.walks.specs.declared.Met.TheVariants.{Found, Ends, AtEnd}
+use Rattle.walks.specs.Walks.{Walks, held_at, on_held, meets, walk, Walked, went, stopped, and_page, carry, put_met, put_walk, pull_back, remove_met, remove_walk}
 use Rattle.register.specs.Files.{put, remove, File}
 use Rattle.demands.specs.Refusals.{BrokenAt, OneOf, gives}
 use Rattle.demands.proofs.InOrder.{listed, one_of, none_of, each_of}
@@ -39,27 +38,25 @@ module _ (f : File) where
   from m a = pages_from f.layout h f.area m a
 
   -- a page that the walk to a key calls broken is broken
-  abbrev pub MetBroken : Met → Type 0
-  MetBroken (Found a i c v n) = Unit {0}
-  MetBroken (mets.Broken a n) = BrokenAt f a
-  MetBroken (Ends a i c n) = Unit {0}
-  MetBroken (mets.AtEnd n) = Unit {0}
+  abbrev pub MetBroken : Walks → Type 0
+  MetBroken (Ok m) = Unit {0}
+  MetBroken (Err why) = (a : ℕ) × (n : ℕ) × (why ≡ Broken a n) × BrokenAt f a
 
   meets_broken : (k m a n : ℕ) → m ≤ cap - a → MetBroken (meets (slots_of f.layout) h k a n (from m a))
   meets_broken k zero a n l = tt
   meets_broken k (suc m) a n l = go (read_page f.layout h a (part_at f.area a)) refl (meets_broken k m (suc a) (suc n) (omega arith))
     where
-      on : Met
+      on : Walks
       on = meets (slots_of f.layout) h k (suc a) (suc n) (from m (suc a))
 
       held : (p : List Record) (o : Option (ℕ × ℕ)) (u : Bool) → MetBroken on
-          → MetBroken (on_held o (λ i v. Found a i (length p) v (suc n)) (cond u (Ends a (ahead (rank_in key h) (rank_of h k) p) (length p) (suc n)) on))
+          → MetBroken (on_held o (λ i v. Ok (Found a i (length p) v (suc n))) (cond u (Ok (Ends a (ahead (rank_in key h) (rank_of h k) p) (length p) (suc n))) on))
       held p (some w) u t = tt
       held p none true t = tt
       held p none false t = t
 
       go : (o : Option (List Record)) → read_page f.layout h a (part_at f.area a) ≡ o → MetBroken on → MetBroken (meets (slots_of f.layout) h k a n (o ∷ from m (suc a)))
-      go none q t = (omega arith, q)
+      go none q t = (a, suc n, refl, (omega arith, q))
       go (some p) q t = held p (held_at k 0 p) (ends_on (rank_in key h) (slots_of f.layout) (rank_of h k) p) t
 
   pub walk_broken : (k : ℕ) → MetBroken (walk f.layout h f.area cap k)
@@ -75,7 +72,7 @@ module _ (f : File) where
 
   abbrev pub StopsWith : List ℕ → Walked → Type 0
   StopsWith ks (went ws n m) = Unit {0}
-  StopsWith ks (stopped why) = Stop ks (numbers why)
+  StopsWith ks (stopped why) = Stop ks (numbers (Err why))
 
   -- with 4, and with another number
   stop_broken : (ks : List ℕ) (a n : ℕ) → listed 4 ks ≡ true → BrokenAt f a → Stop ks (told 4 a 0 n 0)
@@ -118,7 +115,7 @@ module _ (f : File) where
   carry_put (went ws n m) t = tt
   carry_put (stopped why) t =
       record {
-        gives = each_of (λ k. OneOf k put_stops) (numbers why).refusal carry_stops (one_of 4 put_stops refl, (one_of 7 put_stops refl, tt)) t.gives;
+        gives = each_of (λ k. OneOf k put_stops) (numbers (Err why)).refusal carry_stops (one_of 4 put_stops refl, (one_of 7 put_stops refl, tt)) t.gives;
         met = t.met;
         broken = t.broken;
       }
@@ -127,15 +124,15 @@ module _ (f : File) where
   unfolding put_walk
   put_stops_lem x = go (walk f.layout h f.area cap (key x)) (walk_broken (key x))
     where
-      held : (u : Bool) (v n : ℕ) → Stop put_stops (numbers (cond u (Held v n) (Clash v n)))
+      held : (u : Bool) (v n : ℕ) → Stop put_stops (numbers (Err (cond u (Held v n) (Clash v n))))
       held true v n = stop put_stops 6 v n refl refl
       held false v n = stop put_stops 13 v n refl refl
 
-      go : (m : Met) → MetBroken m → StopsWith put_stops (put_met f.layout h f.area cap x m)
-      go (Found a i c v n) t = held (eqb (value x) v) v n
-      go (mets.Broken a n) t = stop_broken put_stops a n refl t
-      go (Ends a i c n) t = carry_put (carry (slots_of f.layout) h a (n - 1) 0 x (from (cap - a) a)) (carry_stops_lem (cap - a) a (n - 1) 0 x (omega arith))
-      go (mets.AtEnd n) t = stop put_stops 7 0 n refl refl
+      go : (m : Walks) → MetBroken m → StopsWith put_stops (put_met f.layout h f.area cap x m)
+      go (Ok (Found a i c v n)) t = held (eqb (value x) v) v n
+      go (Err why) t = rw t.2 (stop_broken put_stops t.0 t.1 refl t.3)
+      go (Ok (Ends a i c n)) t = carry_put (carry (slots_of f.layout) h a (n - 1) 0 x (from (cap - a) a)) (carry_stops_lem (cap - a) a (n - 1) 0 x (omega arith))
+      go (Ok (AtEnd n)) t = stop put_stops 7 0 n refl refl
 
   -- and of any removal
   abbrev remove_stops : List ℕ
@@ -166,8 +163,8 @@ module _ (f : File) where
       full true a i n p = tt
       full false a i n p = back_stops (cap - suc a) a n 0 (closed i p) (omega arith)
 
-      go : (m : Met) → MetBroken m → StopsWith remove_stops (remove_met f.layout h f.area cap m)
-      go (Found a i c v n) t = let p = records_in f.layout (part_at f.area a) in full (ltb (length p) (slots_of f.layout)) a i n p
-      go (mets.Broken a n) t = stop_broken remove_stops a n refl t
-      go (Ends a i c n) t = stop remove_stops 5 0 n refl refl
-      go (mets.AtEnd n) t = stop remove_stops 5 0 n refl refl
+      go : (m : Walks) → MetBroken m → StopsWith remove_stops (remove_met f.layout h f.area cap m)
+      go (Ok (Found a i c v n)) t = let p = records_in f.layout (part_at f.area a) in full (ltb (length p) (slots_of f.layout)) a i n p
+      go (Err why) t = rw t.2 (stop_broken remove_stops t.0 t.1 refl t.3)
+      go (Ok (Ends a i c n)) t = stop remove_stops 5 0 n refl refl
+      go (Ok (AtEnd n)) t = stop remove_stops 5 0 n refl refl

@@ -2,33 +2,18 @@
 use mathlib.Core.Path.{◌≡◌, refl, sym, ap, ◌∙◌}
 use mathlib.Core.Bool.{Bool, true, false, cond}
 use mathlib.Core.List.{List, [], ◌∷◌, ◌++◌}
-use Prim.Native.Nat.{ℕ, suc, ◌+◌, ◌*◌, ◌≤◌, ◌<◌}
+use Prim.Native.Nat.{ℕ, suc, ◌+◌, ◌*◌, ◌≤◌}
 use native.Mathlib.Nat.{add-zero}
 use native.Mathlib.Omega.{arith}
-use borrow.Author.Tests.{leb-true, le-leb, lt-leb, ne_eqb}
+use borrow.Author.Tests.{leb-true, le-leb}
 use lib.Dec.{leb}
 use lib.ListN.{length}
 use Rattle.numbers.specs.Little.{written}
 use Rattle.numbers.proofs.Laws.{written-nil, written-length, written-written}
-use Rattle.pages.specs.Page.{Record}
 use Rattle.entries.specs.declared.Entry.{Entry}
 use Rattle.entries.specs.Steps.Entries.{size, entry_bytes, row_bytes}
 use Rattle.entries.proofs.Entries.{length_entry}
-use Rattle.differences.specs.Steps.Passes.{marked, entries_of, fitted}
-
--- the ways of one entry
-module _ (row : List ℕ) (at kind : ℕ) (x : Record) where
-  pub fitted_none : kind ≡ 0 → row ≡ fitted row at (entries_of kind x)
-  unfolding fitted
-  fitted_none e = rw e
-
-  pub fitted_short : (kind ≡ 0 → ⊥) → length row < at + size → row ≡ fitted row at (entries_of kind x)
-  unfolding fitted
-  fitted_short e h = rw (ne_eqb kind 0 e, lt-leb (at + size) (length row) h)
-
-  pub fitted_put : (kind ≡ 0 → ⊥) → at + size ≤ length row → (row₁ : List ℕ) → row₁ ≡ written row at (entry_bytes (marked kind x)) → row₁ ≡ fitted row at (entries_of kind x)
-  unfolding fitted
-  fitted_put e h row₁ g = rw (ne_eqb kind 0 e, le-leb (at + size) (length row) h) g
+use Rattle.differences.specs.Steps.Passes.{fitted}
 
 one_length : (row : List ℕ) (at : ℕ) (e : Entry) → length (cond (leb (at + size) (length row)) (written row at (entry_bytes e)) row) ≡ length row
 one_length row at e = go (leb (at + size) (length row)) refl

@@ -1,4 +1,3 @@
-pub mod Marking
 pub mod Fitting
 pub mod Passing
 pub mod InPlace

@@ -20,6 +20,7 @@ use Rattle.pages.specs.Small.{Small}
 use Rattle.entries.specs.declared.Entry.{Entry}
 use Rattle.entries.specs.Steps.Entries.{size, rank}
 use Rattle.entries.proofs.Entries.{SizedEntry}
+use Rattle.sites.specs.declared.Which.TheVariants.{First, Second}
 use Rattle.sites.specs.Held.{same}
 use Rattle.two_sets.specs.Differences.{only_first, only_second, unlike, is_unlike, key_of, of_first, of_second, firsts, seconds}
 use Rattle.differences.specs.Listing.{fields, record_bytes}
@@ -34,11 +35,11 @@ pub tells : (look : ℕ → Option Record) (set rs : List Record) → ((k : ℕ)
 tells look set rs f s = all_map (Small in_use) (λ x. look (key x) ≡ seek key (key x) set) (λ x k. f (key x) k.0) rs s
 
 -- so a pass over the first file meets the first differences, and one over the second the others
-pub pass_firsts : (look : ℕ → Option Record) (xs ys : List Record) → Tells look ys xs → of_all true look xs ≡ firsts key same xs ys
+pub pass_firsts : (look : ℕ → Option Record) (xs ys : List Record) → Tells look ys xs → of_all First look xs ≡ firsts key same xs ys
 pass_firsts look [] ys t = refl
 pass_firsts look (x ∷ xs) ys t = rw (t.0, pass_firsts look xs ys t.1)
 
-pub pass_seconds : (look : ℕ → Option Record) (xs ys : List Record) → Tells look xs ys → of_all false look ys ≡ seconds key same xs ys
+pub pass_seconds : (look : ℕ → Option Record) (xs ys : List Record) → Tells look xs ys → of_all Second look ys ≡ seconds key same xs ys
 pass_seconds look xs [] t = refl
 pass_seconds look xs (y ∷ ys) t = rw (t.0, pass_seconds look xs ys t.1)
 

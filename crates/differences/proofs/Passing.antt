@@ -1,6 +1,6 @@
 -- A pass, record by record and page by page: each has the same to show of the records that it met.
 use mathlib.Core.Path.{◌≡◌, refl, sym, ap, subst, ◌∙◌}
-use mathlib.Core.Bool.{Bool, true, false, cond, ◌||◌}
+use mathlib.Core.Bool.{Bool, true, false, cond}
 use mathlib.Core.Option.{Option, none, some}
 use mathlib.Core.List.{List, [], ◌∷◌, ◌++◌, map, map-append, append_assoc, append-nil}
 use Prim.Native.Nat.{ℕ, zero, suc, ◌+◌, ◌*◌, ◌≤◌}
@@ -11,7 +11,7 @@ use lib.Dec.{eqb}
 use lib.ListN.{length, get_or, length-append, length-map}
 use Rattle.layouts.specs.Layout.{in_use}
 use Rattle.placing.specs.Image.{cat}
-use Rattle.placing.specs.Lay.{one, count}
+use Rattle.placing.specs.Lay.{count}
 use Rattle.placing.proofs.Lists.{count-append}
 use Rattle.pages.specs.declared.Page.{Page}
 use Rattle.pages.specs.Page.{Record, key, value, record_with, in_memory, records_in}
@@ -22,10 +22,11 @@ use Rattle.pages.proofs.Seeking.{paired-length, paired_turn}
 use Rattle.pages.proofs.Read.{held_twelve}
 use Rattle.entries.specs.Steps.Entries.{size}
 use Rattle.two_sets.specs.Differences.{only_first, only_second, unlike, is_unlike}
+use Rattle.sites.specs.declared.Which.{Which}
+use Rattle.sites.specs.declared.Which.TheVariants.{First, Second}
 use Rattle.differences.specs.declared.Tally.{Tally}
-use Rattle.differences.specs.Steps.Passes.{D, of_one, of_all, kind_in, entry_of, entries_of, fitted, is_only, Passes}
-use Rattle.differences.proofs.Marking.{one_marked}
-use Rattle.differences.proofs.Fitting.{fitted-length, fitted-append}
+use Rattle.differences.specs.Steps.Passes.{D, of_one, of_all, entry_of, fitted, is_only, Passes}
+use Rattle.differences.proofs.Fitting.{fitted-append}
 
 -- each difference is of one file, or of both
 pub only_both : (ds : List D) → count is_only ds + count is_unlike ds ≡ length ds
@@ -37,83 +38,68 @@ only_both (unlike x y ∷ ds) = omega (arith, only_both ds)
 abbrev pub tally_of : (a b : ℕ) → Tally
 tally_of a b = record { absent = a; unlike = b }
 
-module _ (first : Bool) (look : ℕ → Option Record) where
-  all_append : (p q : List Record) → of_all first look (p ++ q) ≡ of_all first look p ++ of_all first look q
+module _ (which : Which) (look : ℕ → Option Record) where
+  all_append : (p q : List Record) → of_all which look (p ++ q) ≡ of_all which look p ++ of_all which look q
   all_append [] q = refl
   all_append (x ∷ p) q = rw (all_append p q, append_assoc)
 
   -- a record makes one difference at most
-  one_few : (x : Record) (o : Option Record) → length (of_one first x o) ≤ 1
-  one_few x o = go first o
+  one_few : (x : Record) (o : Option Record) → length (of_one which x o) ≤ 1
+  one_few x o = go which o
     where
-      go : (u : Bool) (p : Option Record) → length (of_one u x p) ≤ 1
-      go true none = omega arith
-      go false none = omega arith
-      go false (some y) = omega arith
-      go true (some y) = go_on (eqb (value x) (value y))
+      go : (u : Which) (p : Option Record) → length (of_one u x p) ≤ 1
+      go First none = omega arith
+      go Second none = omega arith
+      go Second (some y) = omega arith
+      go First (some y) = go_on (eqb (value x) (value y))
         where
           go_on : (v : Bool) → length (cond v [] (unlike x y ∷ [])) ≤ 1
           go_on true = omega arith
           go_on false = omega arith
 
-  all_few : (rs : List Record) → length (of_all first look rs) ≤ length rs
+  all_few : (rs : List Record) → length (of_all which look rs) ≤ length rs
   all_few [] = omega arith
-  all_few (x ∷ rs) = omega (arith, length-append (of_one first x (look (key x))) (of_all first look rs), one_few x (look (key x)), all_few rs)
+  all_few (x ∷ rs) = omega (arith, length-append (of_one which x (look (key x))) (of_all which look rs), one_few x (look (key x)), all_few rs)
 
   -- before the first record
-  pub passes_none : (row : List ℕ) (at : ℕ) → Passes first look [] row at (tally_of 0 0) row
+  pub passes_none : (row : List ℕ) (at : ℕ) → Passes which look [] row at (tally_of 0 0) row
   unfolding fitted
   passes_none row at = record { tally = refl; rows = refl }
 
-module _ {first : Bool} {look : ℕ → Option Record} {rs : List Record} {row₀ : List ℕ} {at : ℕ} {t : Tally} {row : List ℕ} (w : Passes first look rs row₀ at t row) where
+module _ {which : Which} {look : ℕ → Option Record} {rs : List Record} {row₀ : List ℕ} {at : ℕ} {t : Tally} {row : List ℕ} (w : Passes which look rs row₀ at t row) where
   -- the tally tells how many entries there are
-  pub passes_many : t.absent + t.unlike ≡ length (of_all first look rs)
-  passes_many = rw w.tally (only_both (of_all first look rs))
+  pub passes_many : t.absent + t.unlike ≡ length (of_all which look rs)
+  passes_many = rw w.tally (only_both (of_all which look rs))
 
   pub passes_few : t.absent + t.unlike ≤ length rs
-  passes_few = omega (arith, passes_many, all_few first look rs)
-
-  pub passes_length : length row ≡ length row₀
-  passes_length = ap length w.rows ∙ fitted-length row₀ at (map entry_of (of_all first look rs))
+  passes_few = omega (arith, passes_many, all_few which look rs)
 
   -- some more, from where these end
-  pub passes_more : {qs : List Record} {to : ℕ} {u : Tally} {row₁ : List ℕ} → to ≡ at + size * (t.absent + t.unlike) → Passes first look qs row to u row₁
-      → Passes first look (rs ++ qs) row₀ at (tally_of (t.absent + u.absent) (t.unlike + u.unlike)) row₁
+  pub passes_more : {qs : List Record} {to : ℕ} {u : Tally} {row₁ : List ℕ} → to ≡ at + size * (t.absent + t.unlike) → Passes which look qs row to u row₁
+      → Passes which look (rs ++ qs) row₀ at (tally_of (t.absent + u.absent) (t.unlike + u.unlike)) row₁
   passes_more {qs} {to} {u} {row₁} e v =
-      let ds : List D = of_all first look rs in
-      let es : List D = of_all first look qs in
+      let ds : List D = of_all which look rs in
+      let es : List D = of_all which look qs in
       let n : at + size * (t.absent + t.unlike) ≡ at + size * length (map entry_of ds) = omega (arith, passes_many, length-map ds entry_of) in
       let whole : fitted (fitted row₀ at (map entry_of ds)) (at + size * length (map entry_of ds)) (map entry_of es) ≡ fitted row₀ at (map entry_of (ds ++ es)) = sym (ap (fitted row₀ at) (map-append entry_of ds es) ∙ fitted-append row₀ at (map entry_of ds) (map entry_of es)) in
-      let both : of_all first look (rs ++ qs) ≡ ds ++ es = all_append first look rs qs in
+      let both : of_all which look (rs ++ qs) ≡ ds ++ es = all_append which look rs qs in
       record {
         tally = rw (both, w.tally, v.tally, count-append is_only ds es, count-append is_unlike ds es);
         rows = v.rows ∙ rw (e, n, w.rows, both) whole;
       }
 
--- one record
-pub passes_one : (first : Bool) (look : ℕ → Option Record) (x : Record) (o : Option Record) → look (key x) ≡ o → (kind : ℕ) → kind ≡ kind_in (of_one first x o)
-    → (row : List ℕ) (at : ℕ) (row₁ : List ℕ) → row₁ ≡ fitted row at (entries_of kind x)
-    → (a b : ℕ) → a ≡ one (eqb kind 769 || eqb kind 770) → b ≡ one (eqb kind 771)
-    → Passes first look (x ∷ []) row at (tally_of a b) row₁
-passes_one first look x o e kind k row at row₁ r a b f g =
-    let m = one_marked first x o in
-    let c : a ≡ count is_only (of_one first x o) = f ∙ rw k m.only in
-    let d : b ≡ count is_unlike (of_one first x o) = g ∙ rw k m.both in
-    let n : of_all first look (x ∷ []) ≡ of_one first x o = rw e (append-nil (of_one first x o)) in
-    record { tally = rw (n, c, d); rows = r ∙ rw (n, k, m.entries) }
-
 -- the records of a page's rows, one more
-module _ {first : Bool} {look : ℕ → Option Record} (ks vs us : List ℕ) (i : ℕ) {row₀ : List ℕ} {at : ℕ} {t : Tally} {row : List ℕ} (w : Passes first look (paired i ks vs us) row₀ at t row) where
+module _ {which : Which} {look : ℕ → Option Record} (ks vs us : List ℕ) (i : ℕ) {row₀ : List ℕ} {at : ℕ} {t : Tally} {row : List ℕ} (w : Passes which look (paired i ks vs us) row₀ at t row) where
   pub page_few : t.absent + t.unlike ≤ i
   page_few = omega (arith, passes_few w, paired-length i ks vs us)
 
-  pub page_turn : {to : ℕ} {u : Tally} {row₁ : List ℕ} → to ≡ at + size * (t.absent + t.unlike) → Passes first look (record_with (get_or ks i 0) (get_or vs i 0) (get_or us i 0) ∷ []) row to u row₁
-      → Passes first look (paired (i + 1) ks vs us) row₀ at (tally_of (t.absent + u.absent) (t.unlike + u.unlike)) row₁
+  pub page_turn : {to : ℕ} {u : Tally} {row₁ : List ℕ} → to ≡ at + size * (t.absent + t.unlike) → Passes which look (record_with (get_or ks i 0) (get_or vs i 0) (get_or us i 0) ∷ []) row to u row₁
+      → Passes which look (paired (i + 1) ks vs us) row₀ at (tally_of (t.absent + u.absent) (t.unlike + u.unlike)) row₁
   page_turn {to} {u} {row₁} e v =
-      subst (λ (rs : List Record). Passes first look rs row₀ at (tally_of (t.absent + u.absent) (t.unlike + u.unlike)) row₁) (sym (paired_turn i ks vs us)) (passes_more w e v)
+      subst (λ (rs : List Record). Passes which look rs row₀ at (tally_of (t.absent + u.absent) (t.unlike + u.unlike)) row₁) (sym (paired_turn i ks vs us)) (passes_more w e v)
 
-  pub page_end : (n : ℕ) → i ≡ n → Passes first look (paired n ks vs us) row₀ at t row
-  page_end n e = subst (λ (j : ℕ). Passes first look (paired j ks vs us) row₀ at t row) e w
+  pub page_end : (n : ℕ) → i ≡ n → Passes which look (paired n ks vs us) row₀ at t row
+  page_end n e = subst (λ (j : ℕ). Passes which look (paired j ks vs us) row₀ at t row) e w
 
 -- and of an area's pages
 held_more : (area : List ℕ) (n a : ℕ) → cat (held_from in_use area (suc n) a) [] ≡ cat (held_from in_use area n a) [] ++ records_in in_use (part_at area (a + n))
@@ -132,17 +118,14 @@ held_most area zero a = omega arith
 held_most area (suc n) a =
     omega (arith, length-append (records_in in_use (part_at area a)) (cat (held_from in_use area n (suc a)) []), held_twelve in_use (part_at area a), held_most area n (suc a))
 
-module _ {first : Bool} {look : ℕ → Option Record} (area : List ℕ) (a : ℕ) {row₀ : List ℕ} {at : ℕ} {t : Tally} {row : List ℕ} (w : Passes first look (cat (held_from in_use area a 0) []) row₀ at t row) where
+module _ {which : Which} {look : ℕ → Option Record} (area : List ℕ) (a : ℕ) {row₀ : List ℕ} {at : ℕ} {t : Tally} {row : List ℕ} (w : Passes which look (cat (held_from in_use area a 0) []) row₀ at t row) where
   pub file_few : t.absent + t.unlike ≤ 12 * a
   file_few = omega (arith, passes_few w, held_most area a 0)
 
-  pub file_turn : (p : Page) → p ≡ in_memory (records_in in_use (part_at area a)) → {to : ℕ} {u : Tally} {row₁ : List ℕ} → to ≡ at + size * (t.absent + t.unlike) → Passes first look (records_of p) row to u row₁
-      → Passes first look (cat (held_from in_use area (a + 1) 0) []) row₀ at (tally_of (t.absent + u.absent) (t.unlike + u.unlike)) row₁
+  pub file_turn : (p : Page) → p ≡ in_memory (records_in in_use (part_at area a)) → {to : ℕ} {u : Tally} {row₁ : List ℕ} → to ≡ at + size * (t.absent + t.unlike) → Passes which look (records_of p) row to u row₁
+      → Passes which look (cat (held_from in_use area (a + 1) 0) []) row₀ at (tally_of (t.absent + u.absent) (t.unlike + u.unlike)) row₁
   file_turn p q {to} {u} {row₁} e v =
-      subst (λ (rs : List Record). Passes first look rs row₀ at (tally_of (t.absent + u.absent) (t.unlike + u.unlike)) row₁) (held_turn area a p q) (passes_more w e v)
-
-  pub file_end : (n : ℕ) → a ≡ n → Passes first look (cat (held_from in_use area n 0) []) row₀ at t row
-  file_end n e = subst (λ (j : ℕ). Passes first look (cat (held_from in_use area j 0) []) row₀ at t row) e w
+      subst (λ (rs : List Record). Passes which look rs row₀ at (tally_of (t.absent + u.absent) (t.unlike + u.unlike)) row₁) (held_turn area a p q) (passes_more w e v)
 
 -- a page has twelve records at most
 pub page_most : (area : List ℕ) (a : ℕ) (p : Page) → p ≡ in_memory (records_in in_use (part_at area a)) → (p.count ≤ 12) × (length (records_of p) ≤ 12)

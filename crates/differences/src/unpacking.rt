@@ -11,10 +11,9 @@ ghost use Rattle.sites.specs.Steps.Sites.{Walkable, look};
 ghost use Rattle.differences.specs.Listing.{closing};
 ghost use Rattle.differences.specs.Steps.Unpacked.{more, or_vacant, entry_fields, unpacked, wide};
 
-use crate::UNLIKE;
+use crate::Difference;
 use entries::Entry;
-use layouts::WIDTH;
-use lookups::Sought;
+use layouts::{InUse, Layout};
 use pages::Record;
 use sites::Site;
 
@@ -22,17 +21,10 @@ use sites::Site;
 pub const MORE: usize = 8;
 
 // The record that was found, or zeros.
-fn record_of(held: Sought) -> Record
+fn record_of(held: Option<Record>) -> Record
     ensures { result ≡ or_vacant (held_by held) }
 {
-    match held {
-        Sought::Held { held } => held,
-        Sought::Absent => Record {
-            key: 0,
-            value: 0,
-            run: 0,
-        },
-    }
+    held.unwrap_or_default()
 }
 
 // What a record says of its key.
@@ -40,7 +32,7 @@ fn put_payload(row: &mut [u8], at: usize, x: Record)
     requires { at + more ≤ length row.old }
     ensures { row.new ≡ written row.old at (encode (payload in_use x)) }
 {
-    numbers::put_u64(row, at, x.value);
+    numbers::put(row, at, x.value);
 }
 
 // An entry as a record of the list; the answer is where it ends. A record of one file is the entry
@@ -50,23 +42,24 @@ fn put_record(row: &mut [u8], at: usize, e: Entry, other: &[u8], site: Site) -> 
     ensures value { result ≡ at + width (entry_fields (look site other.now) e) }
     ensures row_after { row.new ≡ written row.old at (encode (entry_fields (look site other.now) e)) }
 {
-    if e.from != UNLIKE {
+    let unlike = u16::from(Difference::Unlike);
+    if e.from != unlike {
         entries::put_entry(row, at, e);
-        return at + WIDTH;
+        return at + InUse::WIDTH;
     }
     let first = e.held;
-    let shape = site.shape;
+    let shape = site.shape();
     let home = shape.home(first.key);
     let sought = sites::seek(other, site, home, first.key);
     let second = record_of(sought);
     let long = Entry {
-        home: (WIDTH + MORE) as u16,
-        from: UNLIKE,
+        home: (InUse::WIDTH + MORE) as u16,
+        from: unlike,
         held: first,
     };
     entries::put_entry(row, at, long);
-    put_payload(row, at + WIDTH, second);
-    at + WIDTH + MORE
+    put_payload(row, at + InUse::WIDTH, second);
+    at + InUse::WIDTH + MORE
 }
 
 // The entries from `base` to the end of a row made records from its start on. As many bytes stand free
@@ -77,10 +70,11 @@ pub fn unpack(row: &mut [u8], base: usize, other: &[u8], site: Site)
 {
     let mut to = 0;
     let mut from = base;
+    // Two offsets step together, each by its own length: a `for` over one would be no plainer.
     while from < row.len() {
         let e = entries::get_entry(&row[..], from);
         to = put_record(row, to, e, other, site);
-        from += WIDTH;
+        from += InUse::WIDTH;
     }
 }
 
@@ -89,9 +83,9 @@ pub fn put_closing(room: &mut [u8], at: usize, first: u32, second: u32, both: u3
     requires { at + 16 ≤ length room.old }
     ensures { room.new ≡ written room.old at (encode (closing first second both)) }
 {
-    numbers::put_u16(room, at, 16);
-    numbers::put_u16(room, at + 2, 772);
-    numbers::put_u32(room, at + 4, first);
-    numbers::put_u32(room, at + 8, second);
-    numbers::put_u32(room, at + 12, both);
+    numbers::put::<u16>(room, at, 16);
+    numbers::put::<u16>(room, at + 2, 772);
+    numbers::put(room, at + 4, first);
+    numbers::put(room, at + 8, second);
+    numbers::put(room, at + 12, both);
 }

@@ -1,3 +1,4 @@
+pub mod AnyOrder
 pub mod Entries
 pub mod Rows
 pub mod Reading

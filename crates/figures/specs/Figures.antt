@@ -12,7 +12,7 @@ use Rattle.pages.specs.Steps.Slots.{opened}
 use Rattle.pages.specs.Area.{part_at}
 use Rattle.state.specs.declared.Done.{Done}
 use Rattle.state.specs.State.{all, in_range, is_due}
-use Rattle.state.specs.Answer.{numbers}
+use Rattle.state.specs.Answer.{Answer, numbers}
 use Rattle.walks.specs.Walks.{walk, put_walk}
 use Rattle.survey.specs.Survey.{is_image, surveyed}
 use Rattle.rebuild.specs.Relaid.{relaid}
@@ -55,10 +55,10 @@ abbrev grow : Outcome → Growth
 grow o = grew in_use o.done.state o.area (replicate 2 0)
 
 -- the refusal of an answer, and what it moved
-abbrev refusal : Done → ℕ
+abbrev refusal : Done Answer → ℕ
 refusal d = (numbers d.answer).refusal
 
-abbrev moved_by : Done → ℕ
+abbrev moved_by : Done Answer → ℕ
 moved_by d = (numbers d.answer).moved
 
 -- the keys of a page

@@ -2,10 +2,9 @@
 // pages then hold.
 ghost use Rattle.std.specs.Prelude.{◌≡◌, ◌≤◌, length};
 
-use crate::text::{print_item, say, say_number};
 use homes::Params;
 use pages::Record;
-use state::{Done, State};
+use state::{Answer, Done, Numbers, State};
 use std::io;
 use std::io::Write;
 
@@ -13,12 +12,9 @@ use std::io::Write;
 fn put_below(mut state: State, area: &mut [u8], end: u64) -> State
     requires { end ≤ 13 }
 {
-    let mut key = 0;
-    while key < end {
+    for key in 0..end {
         let value = 10 * key;
-        let done = register::put(state, area, Record { key, value, run: 0 });
-        state = done.state;
-        key += 1;
+        state = register::put(state, area, Record { key, value, run: 0 }).state;
     }
     state
 }
@@ -44,53 +40,40 @@ fn file_of(area: &mut [u8], cap: u16, end: u64) -> State
     put_below(done.state, area, end)
 }
 
-fn print_answer<W: Write>(out: &mut W, words: &[u8], done: Done) -> io::Result<()> {
-    let answer = done.answer;
-    let told = answer.numbers();
-    say(out, words)?;
-    say_number(out, b": refusal ", told.refusal as u64)?;
-    say_number(out, b", value ", told.value)?;
-    say_number(out, b", moved ", told.moved as u64)?;
-    say(out, b"\n")
+fn print_answer<W: Write>(out: &mut W, words: &str, done: Done<Answer>) -> io::Result<()> {
+    let Numbers {
+        refusal,
+        value,
+        moved,
+        ..
+    } = done.answer.into();
+    writeln!(
+        out,
+        "{words}: refusal {refusal}, value {value}, moved {moved}"
+    )
 }
 
-// How many records a page counts.
-fn records_on(part: &[u8]) -> usize
-    requires { length part.now ≡ 256 }
-    ensures { result ≤ 12 }
+// The keys of the slots that a page counts.
+fn print_keys<W: Write>(out: &mut W, page: &[u8]) -> io::Result<()>
+    requires { length page.now ≡ 256 }
 {
-    let count = numbers::get_u16(part, 8);
-    if count < 12 { count as usize } else { 12 }
+    let count = numbers::get::<u16>(page, 8) as usize;
+    write!(out, "[")?;
+    for (i, slot) in page[16..].chunks_exact(20).take(count).enumerate() {
+        let comma = if i == 0 { "" } else { ", " };
+        let key = numbers::get::<u64>(slot, 4);
+        write!(out, "{comma}{key}")?;
+    }
+    writeln!(out, "]")
 }
 
-fn print_first_keys<W: Write>(out: &mut W, part: &[u8], count: usize) -> io::Result<()>
-    requires { (length part.now ≡ 256) × (count ≤ 12) }
-{
-    let mut i = 0;
-    while i < count {
-        print_item(out, i == 0, numbers::get_u64(part, 20 + 20 * i))?;
-        i += 1;
+// The keys of each page, a line each, with the page's number between the words.
+fn print_pages<W: Write>(out: &mut W, before: &str, after: &str, area: &[u8]) -> io::Result<()> {
+    for (a, page) in area.chunks_exact(256).enumerate() {
+        write!(out, "{before}{a}{after}")?;
+        print_keys(out, page)?;
     }
     Ok(())
-}
-
-fn print_keys<W: Write>(out: &mut W, words: &[u8], part: &[u8]) -> io::Result<()>
-    requires { length part.now ≡ 256 }
-{
-    say(out, words)?;
-    say(out, b"[")?;
-    print_first_keys(out, part, records_on(part))?;
-    say(out, b"]\n")
-}
-
-// The keys of both pages, a line each, with the page's number between the words.
-fn print_pages<W: Write>(out: &mut W, before: &[u8], after: &[u8], area: &[u8]) -> io::Result<()>
-    requires { length area.now ≡ 512 }
-{
-    say_number(out, before, 0)?;
-    print_keys(out, after, &area[0..256])?;
-    say_number(out, before, 1)?;
-    print_keys(out, after, &area[256..512])
 }
 
 fn print_put_12<W: Write>(out: &mut W, state: State, area: &mut [u8]) -> io::Result<()> {
@@ -100,7 +83,7 @@ fn print_put_12<W: Write>(out: &mut W, state: State, area: &mut [u8]) -> io::Res
         run: 0,
     };
     let put = register::put(state, area, new);
-    print_answer(out, b"  then put of key 12", put)
+    print_answer(out, "  then put of key 12", put)
 }
 
 // One page less, and no page to give up then.
@@ -108,10 +91,10 @@ fn print_shrunk<W: Write>(out: &mut W, state: State, area: &mut [u8]) -> io::Res
     requires { length area.old ≡ 512 }
 {
     let shrunk = register::shrink(state, area);
-    print_answer(out, b"  then shrink", shrunk)?;
-    print_pages(out, b"  page ", b" then holds ", &area[..])?;
+    print_answer(out, "  then shrink", shrunk)?;
+    print_pages(out, "  page ", " then holds ", &area[..])?;
     let again = register::shrink(shrunk.state, area);
-    print_answer(out, b"  then shrink", again)
+    print_answer(out, "  then shrink", again)
 }
 
 fn print_grown<W: Write>(out: &mut W, area: &mut [u8], row: &mut [u32]) -> io::Result<()>
@@ -119,8 +102,8 @@ fn print_grown<W: Write>(out: &mut W, area: &mut [u8], row: &mut [u32]) -> io::R
 {
     let state = file_of(area, 2, 12);
     let grown = register::grow(state, area, row);
-    print_answer(out, b"cap 2, keys 0 to 11, grow", grown)?;
-    print_pages(out, b"  page ", b" then holds ", &area[..])?;
+    print_answer(out, "cap 2, keys 0 to 11, grow", grown)?;
+    print_pages(out, "  page ", " then holds ", &area[..])?;
     print_put_12(out, grown.state, area)?;
     print_shrunk(out, grown.state, area)
 }
@@ -129,9 +112,9 @@ fn print_spilt<W: Write>(out: &mut W, area: &mut [u8], row: &mut [u32]) -> io::R
     requires { length area.old ≡ 512 }
 {
     let state = file_of(area, 2, 13);
-    print_pages(out, b"cap 2, keys 0 to 12, page ", b" holds ", &area[..])?;
+    print_pages(out, "cap 2, keys 0 to 12, page ", " holds ", &area[..])?;
     let grown = register::grow(state, area, row);
-    print_answer(out, b"  then grow", grown)
+    print_answer(out, "  then grow", grown)
 }
 
 // The held key is put again, with its value and with another.
@@ -142,14 +125,14 @@ fn print_held<W: Write>(out: &mut W, state: State, area: &mut [u8]) -> io::Resul
         run: 0,
     };
     let held = register::put(state, area, again);
-    print_answer(out, b"cap 1, held key 5 (value 50) put again", held)?;
+    print_answer(out, "cap 1, held key 5 (value 50) put again", held)?;
     let other = Record {
         key: 5,
         value: 1,
         run: 0,
     };
     let clash = register::put(held.state, area, other);
-    print_answer(out, b"cap 1, held key 5 (value 50) put with value 1", clash)
+    print_answer(out, "cap 1, held key 5 (value 50) put with value 1", clash)
 }
 
 fn print_full<W: Write>(out: &mut W, area: &mut [u8]) -> io::Result<()> {
@@ -160,7 +143,7 @@ fn print_full<W: Write>(out: &mut W, area: &mut [u8]) -> io::Result<()> {
         run: 0,
     };
     let thirteenth = register::put(state, area, new);
-    print_answer(out, b"cap 1, thirteenth key", thirteenth)?;
+    print_answer(out, "cap 1, thirteenth key", thirteenth)?;
     print_held(out, thirteenth.state, area)
 }
 

@@ -6,143 +6,122 @@ use Prim.Native.Nat.{ℕ, ◌*◌, ◌<◌}
 use native.Mathlib.Omega.{arith}
 use lib.Dec.{eqb}
 use lib.ListN.{length}
+use Rattle.std.proofs.Common.{Ok, Err}
 use borrow.Author.Tests.{eq-eqb, ne_eqb}
 use Rattle.layouts.specs.Layout.{Layout}
 use Rattle.homes.specs.Homes.{first_pages}
 use Rattle.state.specs.declared.State.{State}
-use Rattle.state.specs.declared.Answer.{Answer}
-use Rattle.state.specs.declared.Answer.TheVariants.{OutOfRange, WrongArea, WrongRow, AtCap, AtStart}
+use Rattle.state.specs.declared.Refusal.{Refusal}
+use Rattle.state.specs.declared.Refusal.TheVariants.{OutOfRange, WrongArea, WrongRow, AtCap, AtStart}
 use Rattle.state.specs.State.{in_range}
 use Rattle.state.specs.Promises.{Ranged}
 use Rattle.state.proofs.Ranges.{ranged}
-use Rattle.gates.specs.declared.Gate.{Gate}
-use Rattle.gates.specs.declared.Gate.TheVariants.{Open, Shut}
-use Rattle.gates.specs.Gates.{gate_of, image_gate, check_gate, row_entry, merge_gate, grow_entry, grow_gate, shrink_entry, shrink_gate}
+use Rattle.gates.specs.Gates.{Gate, opens, gate_of, image_gate, check_gate, row_entry, merge_gate, grow_entry, grow_gate, shrink_entry, shrink_gate}
 use Rattle.gates.proofs.Judging.{pages_refuse}
-use Rattle.gates.specs.Steps.Past.{OpenFor, OpenImage, Refuses, Whole, EnteredWithRow, OpenWithRow, EnteredToGrow, EnteredToShrink}
+use Rattle.gates.specs.Steps.Past.{OpenFor, Refuses, Checked, OpenWithRow, EnteredToGrow, EnteredToShrink}
 
 module _ (form : Layout) (s : State) (n : ℕ) where
   -- a number out of range
-  pub range_shut : in_range form s ≡ false → Shut OutOfRange ≡ gate_of form s n
+  pub range_shut : in_range form s ≡ false → Err OutOfRange ≡ gate_of form s n
   unfolding gate_of
   range_shut e = rw e
 
   -- an area of another length
-  pub area_shut : in_range form s ≡ true → (n ≡ 256 * s.cap → ⊥) → Shut WrongArea ≡ gate_of form s n
+  pub area_shut : in_range form s ≡ true → (n ≡ 256 * s.cap → ⊥) → Err WrongArea ≡ gate_of form s n
   unfolding gate_of
   area_shut e f = rw (e, ne_eqb n (256 * s.cap) f)
 
   -- neither
-  pub gate_open : in_range form s ≡ true → n ≡ 256 * s.cap → Open ≡ gate_of form s n
+  pub gate_open : in_range form s ≡ true → n ≡ 256 * s.cap → opens ≡ gate_of form s n
   unfolding gate_of
   gate_open e f = rw (e, eq-eqb n (256 * s.cap) f)
 
 -- what is known past an open gate
-pub past : (form : Layout) (s : State) (n : ℕ) (g : Gate) → OpenFor form s n g → g ≡ Open → (in_range form s ≡ true) × (n ≡ 256 * s.cap)
+pub past : (form : Layout) (s : State) (n : ℕ) (g : Gate) → OpenFor form s n g → g ≡ opens → (in_range form s ≡ true) × (n ≡ 256 * s.cap)
 past form s n g k e = rw e at k
 
 -- what a check refuses
 module _ (form : Layout) (s : State) (area : List ℕ) (g : Gate) (gate : g ≡ gate_of form s (length area)) where
-  pub check_shut : (why : Answer) → g ≡ Shut why → Shut why ≡ check_gate form s area
+  pub check_shut : (why : Refusal) → g ≡ Err why → Err why ≡ check_gate form s area
   unfolding check_gate
   check_shut why e = rw (← gate, e)
 
   -- past its entry the pages decide
-  pub check_pages : g ≡ Open → (i : Gate) → i ≡ image_gate form s area → i ≡ check_gate form s area
+  pub check_pages : g ≡ opens → (i : Gate) → i ≡ image_gate form s area → i ≡ check_gate form s area
   unfolding check_gate
   check_pages e i k = rw (k, ← gate, e)
 
 -- and what is known past it, or of its refusal
-pub shut_refuses : (form : Layout) (s : State) (n : ℕ) (why : Answer) → Shut why ≡ gate_of form s n → Refuses why
+pub shut_refuses : (form : Layout) (s : State) (n : ℕ) (why : Refusal) → Err why ≡ gate_of form s n → Refuses why
 unfolding gate_of
 shut_refuses form s n why e = go (in_range form s) (eqb n (256 * s.cap)) e
   where
-    go : (u v : Bool) → Shut why ≡ cond u (cond v Open (Shut WrongArea)) (Shut OutOfRange) → Refuses why
+    go : (u v : Bool) → Err why ≡ cond u (cond v opens (Err WrongArea)) (Err OutOfRange) → Refuses why
     go true true q = absurd (let z : ◌≡◌ {A = ℕ} 1 0 = cc in omega arith)
     go true false q = let z : why ≡ WrongArea = cc in rw z (omega arith, λ p. omega arith)
     go false v q = let z : why ≡ OutOfRange = cc in rw z (omega arith, λ p. omega arith)
 
-pub whole : (form : Layout) (s : State) (area : List ℕ) → in_range form s ≡ true → length area ≡ 256 * s.cap → (i : Gate) → i ≡ image_gate form s area → Whole form s area i
-whole form s area r l Open k = (r, l, sym k)
-whole form s area r l (Shut why) k = pages_refuse form s area (ranged form s r).cap_high why k
-
-pub past_check : (form : Layout) (s : State) (area : List ℕ) (g : Gate) → Whole form s area g → g ≡ Open → OpenImage form s area
-past_check form s area g k e = rw e at k
+pub whole : (form : Layout) (s : State) (area : List ℕ) → in_range form s ≡ true → length area ≡ 256 * s.cap → (i : Gate) → i ≡ image_gate form s area → Checked form s area i
+whole form s area r l (Ok u) k = (r, l, sym k)
+whole form s area r l (Err why) k = pages_refuse form s area (ranged form s r).cap_high why k
 
 -- what a call refuses that is lent a row, before it looks at a page
 module _ (form : Layout) (s : State) (m n : ℕ) (g : Gate) (gate : g ≡ gate_of form s m) where
-  pub lent_shut : (why : Answer) → g ≡ Shut why → Shut why ≡ row_entry form s m n
+  pub lent_shut : (why : Refusal) → g ≡ Err why → Err why ≡ row_entry form s m n
   lent_shut why e = rw (← gate, e)
 
-  module _ (e : g ≡ Open) where
-    pub lent_row : (n ≡ s.cap → ⊥) → Shut WrongRow ≡ row_entry form s m n
+  module _ (e : g ≡ opens) where
+    pub lent_row : (n ≡ s.cap → ⊥) → Err WrongRow ≡ row_entry form s m n
     lent_row f = rw (← gate, e, ne_eqb n s.cap f)
 
-    pub lent_open : n ≡ s.cap → Open ≡ row_entry form s m n
+    pub lent_open : n ≡ s.cap → opens ≡ row_entry form s m n
     lent_open f = rw (← gate, e, eq-eqb n s.cap f)
-
--- what is known past it
-pub past_row : (form : Layout) (s : State) (m n : ℕ) (g : Gate) → EnteredWithRow form s m n g → g ≡ Open → (in_range form s ≡ true) × (m ≡ 256 * s.cap) × (n ≡ s.cap)
-past_row form s m n g k e = rw e at k
-
-pub row_refuses : (form : Layout) (s : State) (m n : ℕ) (g : Gate) → EnteredWithRow form s m n g → (why : Answer) → g ≡ Shut why → Refuses why
-row_refuses form s m n g k why e = rw e at k
 
 -- what a merge refuses of the file that it goes into: after its entry the pages decide
 module _ (form : Layout) (s : State) (area : List ℕ) (n : ℕ) (g : Gate) (gate : g ≡ row_entry form s (length area) n) where
-  pub merge_shut : (why : Answer) → g ≡ Shut why → Shut why ≡ merge_gate form s area n
+  pub merge_shut : (why : Refusal) → g ≡ Err why → Err why ≡ merge_gate form s area n
   unfolding merge_gate
   merge_shut why e = rw (← gate, e)
 
-  pub merge_pages : g ≡ Open → (i : Gate) → i ≡ image_gate form s area → i ≡ merge_gate form s area n
+  pub merge_pages : g ≡ opens → (i : Gate) → i ≡ image_gate form s area → i ≡ merge_gate form s area n
   unfolding merge_gate
   merge_pages e i k = rw (k, ← gate, e)
 
-pub whole_row : (form : Layout) (s : State) (area : List ℕ) (n : ℕ) → (g : Gate) → Whole form s area g → n ≡ s.cap → OpenWithRow form s area n g
-whole_row form s area n Open w e = (w, e)
-whole_row form s area n (Shut why) w e = w
+pub whole_row : (form : Layout) (s : State) (area : List ℕ) (n : ℕ) → (g : Gate) → Checked form s area g → n ≡ s.cap → OpenWithRow form s area n g
+whole_row form s area n (Ok u) w e = (w, e)
+whole_row form s area n (Err why) w e = w
 
 -- what a growth refuses before it looks at a page
 module _ (form : Layout) (s : State) (m n : ℕ) (g : Gate) (gate : g ≡ row_entry form s m n) where
-  pub grow_shut : (why : Answer) → g ≡ Shut why → Shut why ≡ grow_entry form s m n
-  grow_shut why e = rw (← gate, e)
-
-  module _ (e : g ≡ Open) where
-    pub grow_cap : s.p ≡ s.cap → Shut AtCap ≡ grow_entry form s m n
-    grow_cap k = rw (← gate, e, eq-eqb s.p s.cap k)
-
-    pub grow_open : (s.p ≡ s.cap → ⊥) → Open ≡ grow_entry form s m n
+  module _ (e : g ≡ opens) where
+    pub grow_open : (s.p ≡ s.cap → ⊥) → opens ≡ grow_entry form s m n
     grow_open k = rw (← gate, e, ne_eqb s.p s.cap k)
 
 -- the same, with an area of m bytes and a row of n counts
 module _ (form : Layout) (s : State) (m n : ℕ) (g : Gate) (gate : g ≡ gate_of form s m) where
-  module _ (e : g ≡ Open) where
+  module _ (e : g ≡ opens) where
     -- a row of another length
-    entry_row : (n ≡ s.cap → ⊥) → Shut WrongRow ≡ grow_entry form s m n
+    entry_row : (n ≡ s.cap → ⊥) → Err WrongRow ≡ grow_entry form s m n
     entry_row f = rw (← gate, e, ne_eqb n s.cap f)
 
     -- no page to grow to
-    entry_cap : n ≡ s.cap → s.p ≡ s.cap → Shut AtCap ≡ grow_entry form s m n
+    entry_cap : n ≡ s.cap → s.p ≡ s.cap → Err AtCap ≡ grow_entry form s m n
     entry_cap f k = rw (← gate, e, eq-eqb n s.cap f, eq-eqb s.p s.cap k)
 
-    entry_open : n ≡ s.cap → (s.p ≡ s.cap → ⊥) → Open ≡ grow_entry form s m n
+    entry_open : n ≡ s.cap → (s.p ≡ s.cap → ⊥) → opens ≡ grow_entry form s m n
     entry_open f k = rw (← gate, e, eq-eqb n s.cap f, ne_eqb s.p s.cap k)
 
 -- what is known past them
-pub past_entry : (form : Layout) (s : State) (m n : ℕ) → in_range form s ≡ true → m ≡ 256 * s.cap → n ≡ s.cap → (s.p ≡ s.cap → ⊥) → EnteredToGrow form s m n Open
+pub past_entry : (form : Layout) (s : State) (m n : ℕ) → in_range form s ≡ true → m ≡ 256 * s.cap → n ≡ s.cap → (s.p ≡ s.cap → ⊥) → EnteredToGrow form s m n opens
 past_entry form s m n r l f k = let w : Ranged form s = ranged form s r in (r, l, f, omega arith)
 
--- and is known where they were found open
-pub past_open : (form : Layout) (s : State) (m n : ℕ) (g : Gate) → EnteredToGrow form s m n g → g ≡ Open → EnteredToGrow form s m n Open
-past_open form s m n g k e = rw e at k
-
 -- after them the pages decide
-module _ (form : Layout) (s : State) (area : List ℕ) (n : ℕ) (g : Gate) (gate : g ≡ gate_of form s (length area)) (e : g ≡ Open) where
-  pub row_shut : (n ≡ s.cap → ⊥) → Shut WrongRow ≡ grow_gate form s area n
+module _ (form : Layout) (s : State) (area : List ℕ) (n : ℕ) (g : Gate) (gate : g ≡ gate_of form s (length area)) (e : g ≡ opens) where
+  pub row_shut : (n ≡ s.cap → ⊥) → Err WrongRow ≡ grow_gate form s area n
   unfolding grow_gate
   row_shut f = rw (← entry_row form s (length area) n g gate e f)
 
-  pub cap_shut : n ≡ s.cap → s.p ≡ s.cap → Shut AtCap ≡ grow_gate form s area n
+  pub cap_shut : n ≡ s.cap → s.p ≡ s.cap → Err AtCap ≡ grow_gate form s area n
   unfolding grow_gate
   cap_shut f m = rw (← entry_cap form s (length area) n g gate e f m)
 
@@ -156,29 +135,21 @@ start_fits form s r = let w : Ranged form s = ranged form s r in omega arith
 
 -- what a shrinking refuses before it looks at a page, with an area of m bytes
 module _ (form : Layout) (s : State) (m : ℕ) (g : Gate) (gate : g ≡ gate_of form s m) where
-  -- as every call does
-  pub shrink_shut : (why : Answer) → g ≡ Shut why → Shut why ≡ shrink_entry form s m
-  shrink_shut why e = rw (← gate, e)
-
-  module _ (e : g ≡ Open) where
+  module _ (e : g ≡ opens) where
     -- no page to give up
-    pub shrink_start : s.p ≡ first_pages s.params → Shut AtStart ≡ shrink_entry form s m
-    shrink_start k = rw (← gate, e) (sym (ap (λ (u : Bool). cond u (Shut AtStart) Open) (eq-eqb s.p (first_pages s.params) k)))
+    pub shrink_start : s.p ≡ first_pages s.params → Err AtStart ≡ shrink_entry form s m
+    shrink_start k = rw (← gate, e) (sym (ap (λ (u : Bool). cond u (Err AtStart) opens) (eq-eqb s.p (first_pages s.params) k)))
 
-    pub shrink_open : (s.p ≡ first_pages s.params → ⊥) → Open ≡ shrink_entry form s m
-    shrink_open k = rw (← gate, e) (sym (ap (λ (u : Bool). cond u (Shut AtStart) Open) (ne_eqb s.p (first_pages s.params) k)))
+    pub shrink_open : (s.p ≡ first_pages s.params → ⊥) → opens ≡ shrink_entry form s m
+    shrink_open k = rw (← gate, e) (sym (ap (λ (u : Bool). cond u (Err AtStart) opens) (ne_eqb s.p (first_pages s.params) k)))
 
 -- what is known past them
-pub past_start : (form : Layout) (s : State) (m : ℕ) → in_range form s ≡ true → m ≡ 256 * s.cap → (s.p ≡ first_pages s.params → ⊥) → EnteredToShrink form s m Open
+pub past_start : (form : Layout) (s : State) (m : ℕ) → in_range form s ≡ true → m ≡ 256 * s.cap → (s.p ≡ first_pages s.params → ⊥) → EnteredToShrink form s m opens
 past_start form s m r l k = let w : Ranged form s = ranged form s r in (r, l, omega arith)
 
--- and is known where they were found open
-pub past_shrink : (form : Layout) (s : State) (m : ℕ) (g : Gate) → EnteredToShrink form s m g → g ≡ Open → EnteredToShrink form s m Open
-past_shrink form s m g k e = rw e at k
-
 -- after them the pages decide
-module _ (form : Layout) (s : State) (area : List ℕ) (g : Gate) (gate : g ≡ gate_of form s (length area)) (e : g ≡ Open) where
-  pub start_shut : s.p ≡ first_pages s.params → Shut AtStart ≡ shrink_gate form s area
+module _ (form : Layout) (s : State) (area : List ℕ) (g : Gate) (gate : g ≡ gate_of form s (length area)) (e : g ≡ opens) where
+  pub start_shut : s.p ≡ first_pages s.params → Err AtStart ≡ shrink_gate form s area
   unfolding shrink_gate
   start_shut k = rw (← shrink_start form s (length area) g gate e k)
 

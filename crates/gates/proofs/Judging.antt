@@ -4,10 +4,10 @@ use mathlib.Core.Bool.{Bool, true, false, cond, ◌&&◌}
 use mathlib.Core.Option.{Option, none, some}
 use mathlib.Core.List.{List, [], ◌∷◌}
 use Prim.Native.Nat.{ℕ, suc, ◌+◌, ◌*◌, ◌≤◌, ◌<◌}
-use native.Mathlib.Numerals.{add-one}
 use native.Mathlib.Omega.{arith}
 use lib.Dec.{eqb}
 use lib.ListN.{length}
+use Rattle.std.proofs.Common.{Ok, Err}
 use borrow.Author.Tests.{eqb-true, eq-eqb}
 use Rattle.numbers.specs.Little.{Bytes}
 use Rattle.layouts.specs.Layout.{Layout, slots_of}
@@ -19,20 +19,14 @@ use Rattle.placing.specs.Rows.{counts}
 use Rattle.pages.proofs.Areas.{pages_length, held_length}
 use Rattle.pages.specs.Page.{Record, key, home_for}
 use Rattle.pages.specs.Area.{pages_from, held_from}
-use Rattle.survey.specs.declared.Verdict.{Verdict}
-use Rattle.survey.specs.declared.Verdict.TheVariants.{Whole}
-use Rattle.survey.specs.declared.Verdict.TheVariants as verdicts
-use Rattle.survey.specs.declared.Count.TheVariants.{Homes}
-use Rattle.survey.specs.Survey.{lowest_broken, is_image, on_broken, surveyed}
+use Rattle.survey.specs.Survey.{Verdict, whole, lowest_broken, is_image, on_broken, surveyed}
 use Rattle.survey.specs.Steps.Counts.{Counts}
 use Rattle.survey.proofs.ImageTest.{GoodFrom, image_set, image_test, good_pages}
 use Rattle.state.specs.declared.State.{State}
-use Rattle.state.specs.declared.Answer.{Answer}
-use Rattle.state.specs.declared.Answer.TheVariants.{Broken, NotImage}
+use Rattle.state.specs.declared.Refusal.{Refusal}
+use Rattle.state.specs.declared.Refusal.TheVariants.{Broken, NotImage}
 use Rattle.state.specs.State.{homes}
-use Rattle.gates.specs.declared.Gate.{Gate}
-use Rattle.gates.specs.declared.Gate.TheVariants.{Open, Shut}
-use Rattle.gates.specs.Gates.{image_of, image_gate}
+use Rattle.gates.specs.Gates.{Gate, opens, image_of, image_gate}
 use Rattle.gates.specs.Steps.Past.{Refuses}
 
 -- the lowest broken page is one of those looked at
@@ -42,52 +36,42 @@ lowest_below a b (none ∷ ps) e = let q : a ≡ b = cc in omega arith
 lowest_below a b (some p ∷ ps) e = omega (arith, lowest_below (suc a) b ps e)
 
 -- so what a survey calls broken is a page of the area
-pub sick_below : (form : Layout) (h : ℕ → ℕ) (area : List ℕ) (cap : ℕ) (v : Verdict) (a : ℕ) → v ≡ surveyed form h area cap → v ≡ verdicts.Broken a → a < cap
+pub sick_below : (form : Layout) (h : ℕ → ℕ) (area : List ℕ) (cap : ℕ) (v : Verdict) (a : ℕ) → v ≡ surveyed form h area cap → v ≡ Err a → a < cap
 unfolding surveyed
 sick_below form h area cap v a t e = go (lowest_broken 0 (pages_from form h area cap 0)) refl (sym t ∙ e)
   where
-    whole : Verdict
-    whole = Whole (is_image form h (held_from form area cap 0)) (length (cat (held_from form area cap 0) []))
-
-    go : (o : Option ℕ) → lowest_broken 0 (pages_from form h area cap 0) ≡ o → on_broken o whole ≡ verdicts.Broken a → a < cap
+    go : (o : Option ℕ) → lowest_broken 0 (pages_from form h area cap 0) ≡ o → on_broken o (whole (is_image form h (held_from form area cap 0)) (length (cat (held_from form area cap 0) []))) ≡ Err a → a < cap
     go none q k = absurd (let z : ◌≡◌ {A = ℕ} 0 1 = cc in omega arith)
     go (some b) q k =
         let w : b ≡ a = cc in
         omega (arith, lowest_below 0 b (pages_from form h area cap 0) q, pages_length form h area cap 0)
 
 -- and what the pages refuse is refused after no more than all of them
-pub pages_refuse : (form : Layout) (s : State) (area : List ℕ) → s.cap ≤ 4096 → (why : Answer) → Shut why ≡ image_gate form s area → Refuses why
+pub pages_refuse : (form : Layout) (s : State) (area : List ℕ) → s.cap ≤ 4096 → (why : Refusal) → Err why ≡ image_gate form s area → Refuses why
 unfolding image_gate
 pages_refuse form s area c why e = go (surveyed form (homes s) area s.cap) refl e
   where
-    tests : (u : Bool) → Shut why ≡ cond u Open (Shut (NotImage s.cap)) → Refuses why
+    tests : (u : Bool) → Err why ≡ cond u opens (Err (NotImage s.cap)) → Refuses why
     tests true q = absurd (let z : ◌≡◌ {A = ℕ} 1 0 = cc in omega arith)
     tests false q = let z : why ≡ NotImage s.cap = cc in rw z (c, λ p. omega arith)
 
-    go : (v : Verdict) → v ≡ surveyed form (homes s) area s.cap → Shut why ≡ image_of s v → Refuses why
-    go (verdicts.Broken a) t q = let z : why ≡ Broken a (suc a) = cc in rw z (omega (arith, sick_below form (homes s) area s.cap (verdicts.Broken a) a t refl), λ p. omega arith)
-    go (Whole image records) t q = tests (image && eqb records s.r) q
+    go : (v : Verdict) → v ≡ surveyed form (homes s) area s.cap → Err why ≡ image_of s v → Refuses why
+    go (Err a) t q = let z : why ≡ Broken a (suc a) = cc in rw z (omega (arith, sick_below form (homes s) area s.cap (Err a) a t refl), λ p. omega arith)
+    go (Ok w) t q = tests (w.image && eqb w.records s.r) q
 
 module _ (s : State) (v : Verdict) where
-  -- a broken page, which is the last that was read
-  pub broken_shut : (a : ℕ) → v ≡ verdicts.Broken a → Shut (Broken a (a + 1)) ≡ image_of s v
-  broken_shut a e = rw (e, add-one)
-
-  module _ (image : Bool) (records : ℕ) (e : v ≡ Whole image records) where
+  module _ (image : Bool) (records : ℕ) (e : v ≡ Ok (whole image records)) where
     -- an image of the right number of records, or not
-    pub image_open : (image && eqb records s.r) ≡ true → Open ≡ image_of s v
+    pub image_open : (image && eqb records s.r) ≡ true → opens ≡ image_of s v
     image_open u = rw (e, u)
 
-    pub image_shut : (image && eqb records s.r) ≡ false → Shut (NotImage s.cap) ≡ image_of s v
-    image_shut u = rw (e, u)
-
   -- where it is open, no page is broken, and the homes that were to be counted are
-  pub open_counted : (h : ℕ → ℕ) (rs : List Record) (n : ℕ) (row : List ℕ) → image_of s v ≡ Open → Counts v Homes h rs n row → row ≡ counts (home_for h) rs n 0
+  pub open_counted : (h : ℕ → ℕ) (rs : List Record) (n : ℕ) (row : List ℕ) → image_of s v ≡ opens → Counts v h rs n row → row ≡ counts (home_for h) rs n 0
   open_counted h rs n row e k = go v e k
     where
-      go : (w : Verdict) → image_of s w ≡ Open → Counts w Homes h rs n row → row ≡ counts (home_for h) rs n 0
-      go (verdicts.Broken a) q k = absurd (let z : ◌≡◌ {A = ℕ} 0 1 = cc in omega arith)
-      go (Whole image records) q k = k
+      go : (w : Verdict) → image_of s w ≡ opens → Counts w h rs n row → row ≡ counts (home_for h) rs n 0
+      go (Err a) q k = absurd (let z : ◌≡◌ {A = ℕ} 0 1 = cc in omega arith)
+      go (Ok w) q k = k
 
   -- the verdict of a survey by the state's own homes is the gate
   pub gate_told : (form : Layout) (area : List ℕ) (shape : Shape) → shape ≡ shape_of s.params s.p → v ≡ surveyed form (home_in shape) area s.cap
@@ -102,7 +86,7 @@ pub record GoodFile (form : Layout) (s : State) (area : List ℕ) : Type 0 where
   pub image : is_image form (homes s) (held_from form area s.cap 0) ≡ true
   pub count : length (cat (held_from form area s.cap 0) []) ≡ s.r
 
-pub open_good : (form : Layout) (s : State) (area : List ℕ) → image_gate form s area ≡ Open → GoodFile form s area
+pub open_good : (form : Layout) (s : State) (area : List ℕ) → image_gate form s area ≡ opens → GoodFile form s area
 unfolding image_gate surveyed
 open_good form s area e = look (lowest_broken 0 (pages_from form h area s.cap 0)) refl e
   where
@@ -115,11 +99,11 @@ open_good form s area e = look (lowest_broken 0 (pages_from form h area s.cap 0)
     records : ℕ
     records = length (cat held [])
 
-    tests : (u : Bool) → (is_image form h held && eqb records s.r) ≡ u → cond u Open (Shut (NotImage s.cap)) ≡ Open → (is_image form h held && eqb records s.r) ≡ true
+    tests : (u : Bool) → (is_image form h held && eqb records s.r) ≡ u → cond u opens (Err (NotImage s.cap)) ≡ opens → (is_image form h held && eqb records s.r) ≡ true
     tests true q k = q
     tests false q k = absurd (let z : ◌≡◌ {A = ℕ} 0 1 = cc in omega arith)
 
-    look : (o : Option ℕ) → lowest_broken 0 (pages_from form h area s.cap 0) ≡ o → image_of s (on_broken o (Whole (is_image form h held) records)) ≡ Open → GoodFile form s area
+    look : (o : Option ℕ) → lowest_broken 0 (pages_from form h area s.cap 0) ≡ o → image_of s (on_broken o (whole (is_image form h held) records)) ≡ opens → GoodFile form s area
     look (some a) q k = absurd (let z : ◌≡◌ {A = ℕ} 0 1 = cc in omega arith)
     look none q k =
         let t : (is_image form h held && eqb records s.r) ≡ true = tests (is_image form h held && eqb records s.r) refl k in
@@ -130,7 +114,7 @@ open_good form s area e = look (lowest_broken 0 (pages_from form h area s.cap 0)
         }
 
 -- and such pages open it
-pub good_open : (form : Layout) (s : State) (area : List ℕ) → GoodFile form s area → image_gate form s area ≡ Open
+pub good_open : (form : Layout) (s : State) (area : List ℕ) → GoodFile form s area → image_gate form s area ≡ opens
 unfolding image_gate surveyed
 good_open form s area k = rw (k.whole, k.image, eq-eqb (length (cat (held_from form area s.cap 0) [])) s.r k.count)
 

@@ -1,158 +1,119 @@
 // What a call refuses before it does anything.
 #![tactic(auto)]
 
-ghost use Rattle.std.specs.Prelude.{◌≡◌, true, ℕ, ◌*◌, ◌<◌, length};
+ghost use Rattle.std.specs.Prelude.{◌≡◌, true, ℕ, ◌*◌, ◌<◌, length, Err};
 ghost use Rattle.state.specs.State.{in_range};
-ghost use Rattle.survey.specs.declared.Verdict.TheVariants as verdicts;
 ghost use Rattle.gates.specs.Gates.{gate_of, image_of, image_gate, check_gate, row_entry, merge_gate, grow_entry, shrink_entry};
-ghost use Rattle.gates.specs.Steps.Past.{OpenFor, Whole, EnteredWithRow, OpenWithRow, EnteredToGrow, EnteredToShrink};
+ghost use Rattle.gates.specs.Steps.Past.{OpenFor, Checked, EnteredWithRow, OpenWithRow, EnteredToGrow, EnteredToShrink};
 
-use state::{Answer, State};
-use survey::{Count, Verdict};
-
-// Whether a call may go on, or why not.
-#[derive(Clone, Copy)]
-pub enum Gate {
-    Open,
-    Shut { why: Answer },
-}
+use layouts::Layout;
+use pages::view::Pages;
+use state::{Refusal, State};
+use survey::Whole;
 
 // The refusals that need no page: a number out of range, an area of another length.
-pub fn enter(state: State, length: usize, layout: u8) -> Gate
-    ensures value { result ≡ gate_of layout state length }
-    ensures within { OpenFor layout state length result }
+#[tactic(auto, unfolding(crate::specs::Gates::gate_of))]
+pub fn enter<L: Layout>(state: State, length: usize) -> Result<(), Refusal>
+    ensures value { result ≡ gate_of L.layout state length }
+    ensures within { OpenFor L.layout state length result }
 {
-    if !state.in_range(layout) {
-        return Gate::Shut {
-            why: Answer::OutOfRange,
-        };
+    if !state.in_range(L::NUMBER) {
+        return Err(Refusal::OutOfRange);
     }
     if length != 256 * (state.cap as usize) {
-        return Gate::Shut {
-            why: Answer::WrongArea,
-        };
+        return Err(Refusal::WrongArea);
     }
-    Gate::Open
+    Ok(())
 }
 
 // What a look at all pages comes to.
-pub fn image_of(state: State, verdict: Verdict) -> Gate
-    requires { (a : ℕ) → verdict ≡ verdicts.Broken a → a < 4096 }
+pub fn image_of(state: State, verdict: Result<Whole, usize>) -> Result<(), Refusal>
+    requires { (a : ℕ) → verdict ≡ Err a → a < 4096 }
     ensures { result ≡ image_of state verdict }
 {
-    match verdict {
-        Verdict::Broken { page } => Gate::Shut {
-            why: Answer::Broken {
+    let whole = match verdict {
+        Err(page) => {
+            return Err(Refusal::Broken {
                 page: page as u16,
                 read: page as u32 + 1,
-            },
-        },
-        Verdict::Whole { image, records } => {
-            if image & (records == state.r) {
-                return Gate::Open;
-            }
-            Gate::Shut {
-                why: Answer::NotImage {
-                    read: state.cap as u32,
-                },
-            }
+            });
         }
+        Ok(whole) => whole,
+    };
+    if whole.image & (whole.records == state.r) {
+        return Ok(());
     }
+    Err(Refusal::NotImage {
+        read: state.cap as u32,
+    })
 }
 
 // Whether the area is the image of the records that the state tells of.
-pub fn image_gate(state: State, area: &[u8], layout: u8) -> Gate
-    requires { (in_range layout state ≡ true) × (length area.now ≡ 256 * state.cap) }
-    ensures { result ≡ image_gate layout state area.now }
+pub fn image_gate<L: Layout>(state: State, area: &[u8]) -> Result<(), Refusal>
+    requires { (in_range L.layout state ≡ true) × (length area.now ≡ 256 * state.cap) }
+    ensures { result ≡ image_gate L.layout state area.now }
 {
     let shape = state.shape();
-    let mut none = [0; 0];
-    let verdict = survey::survey(
-        area,
-        state.cap as usize,
-        layout,
-        shape,
-        Count::Nothing,
-        &mut none[..],
-    );
+    let pages = Pages::new(area, state.cap as usize);
+    let verdict = survey::survey::<L>(pages, shape, &mut []);
     image_of(state, verdict)
 }
 
 // What a check refuses: it enters, and looks at all pages.
-pub fn check_gate(state: State, area: &[u8], layout: u8) -> Gate
-    ensures value { result ≡ check_gate layout state area.now }
-    ensures within { Whole layout state area.now result }
+#[tactic(auto, using(crate::proofs::Gating::shut_refuses, crate::proofs::Gating::whole), unfolding(crate::specs::Gates::check_gate))]
+pub fn check_gate<L: Layout>(state: State, area: &[u8]) -> Result<(), Refusal>
+    ensures value { result ≡ check_gate L.layout state area.now }
+    ensures within { Checked L.layout state area.now result }
 {
-    let gate = enter(state, area.len(), layout);
-    match gate {
-        Gate::Shut { why } => Gate::Shut { why },
-        Gate::Open => image_gate(state, area, layout),
-    }
+    enter::<L>(state, area.len())?;
+    image_gate::<L>(state, area)
 }
 
 // What a call refuses before it looks at a page that is lent an area of m bytes and a row of n counts.
-fn row_entry(state: State, m: usize, n: usize, layout: u8) -> Gate
-    ensures value { result ≡ row_entry layout state m n }
-    ensures within { EnteredWithRow layout state m n result }
+#[tactic(auto, using(crate::proofs::Gating::shut_refuses))]
+fn row_entry<L: Layout>(state: State, m: usize, n: usize) -> Result<(), Refusal>
+    ensures value { result ≡ row_entry L.layout state m n }
+    ensures within { EnteredWithRow L.layout state m n result }
 {
-    let gate = enter(state, m, layout);
-    match gate {
-        Gate::Shut { why } => Gate::Shut { why },
-        Gate::Open => {
-            if n != state.cap as usize {
-                return Gate::Shut {
-                    why: Answer::WrongRow,
-                };
-            }
-            Gate::Open
-        }
+    enter::<L>(state, m)?;
+    if n != state.cap as usize {
+        return Err(Refusal::WrongRow);
     }
+    Ok(())
 }
 
 // What a merge refuses of the file that it goes into, with a row of n counts.
-pub fn merge_gate(state: State, area: &[u8], n: usize, layout: u8) -> Gate
-    ensures value { result ≡ merge_gate layout state area.now n }
-    ensures within { OpenWithRow layout state area.now n result }
+#[tactic(auto, using(crate::proofs::Gating::whole), unfolding(crate::specs::Gates::merge_gate))]
+pub fn merge_gate<L: Layout>(state: State, area: &[u8], n: usize) -> Result<(), Refusal>
+    ensures value { result ≡ merge_gate L.layout state area.now n }
+    ensures within { OpenWithRow L.layout state area.now n result }
 {
-    let gate = row_entry(state, area.len(), n, layout);
-    match gate {
-        Gate::Shut { why } => Gate::Shut { why },
-        Gate::Open => image_gate(state, area, layout),
-    }
+    row_entry::<L>(state, area.len(), n)?;
+    image_gate::<L>(state, area)
 }
 
 // What a growth refuses before it looks at a page.
-pub fn grow_entry(state: State, m: usize, n: usize, layout: u8) -> Gate
-    ensures value { result ≡ grow_entry layout state m n }
-    ensures within { EnteredToGrow layout state m n result }
+#[tactic(auto, using(crate::proofs::Gating::past_entry))]
+pub fn grow_entry<L: Layout>(state: State, m: usize, n: usize) -> Result<(), Refusal>
+    ensures value { result ≡ grow_entry L.layout state m n }
+    ensures within { EnteredToGrow L.layout state m n result }
 {
-    let gate = row_entry(state, m, n, layout);
-    match gate {
-        Gate::Shut { why } => Gate::Shut { why },
-        Gate::Open => {
-            if state.p == state.cap {
-                return Gate::Shut { why: Answer::AtCap };
-            }
-            Gate::Open
-        }
+    row_entry::<L>(state, m, n)?;
+    if state.p == state.cap {
+        return Err(Refusal::AtCap);
     }
+    Ok(())
 }
 
 // What a shrinking refuses before it looks at a page, with an area of m bytes.
-pub fn shrink_entry(state: State, m: usize, layout: u8) -> Gate
-    ensures value { result ≡ shrink_entry layout state m }
-    ensures within { EnteredToShrink layout state m result }
+#[tactic(auto, using(crate::proofs::Gating::start_fits, crate::proofs::Gating::past_start))]
+pub fn shrink_entry<L: Layout>(state: State, m: usize) -> Result<(), Refusal>
+    ensures value { result ≡ shrink_entry L.layout state m }
+    ensures within { EnteredToShrink L.layout state m result }
 {
-    let gate = enter(state, m, layout);
-    match gate {
-        Gate::Shut { why } => Gate::Shut { why },
-        Gate::Open => {
-            if state.p == state.params.n0 * state.params.n {
-                return Gate::Shut {
-                    why: Answer::AtStart,
-                };
-            }
-            Gate::Open
-        }
+    enter::<L>(state, m)?;
+    if state.p == state.params.n0 * state.params.n {
+        return Err(Refusal::AtStart);
     }
+    Ok(())
 }

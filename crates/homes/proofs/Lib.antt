@@ -6,7 +6,6 @@ pub mod Forty
 pub mod Homes
 pub mod Quotients
 pub mod Rests
-pub mod Bits
 pub mod Addresses
 pub mod Turn
 pub mod Beginning

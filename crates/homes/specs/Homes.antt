@@ -3,7 +3,6 @@
 use Rattle.std.specs.Prelude.{ℕ, zero, suc, ◌+◌, ◌-◌, ◌*◌, ◌/◌, ◌%◌, ◌≤◌, min, Bool, cond, ◌&&◌, leb, ltb, eqb}
 use Rattle.draws.specs.Draws.{seed_of, draw, later}
 use Rattle.homes.specs.declared.Params.{Params}
-use Rattle.homes.specs.declared.Shape.{Shape}
 
 -- "np = n0 + ((x - 1) mod n0)"
 abbrev pub np : ℕ → ℕ → ℕ
@@ -70,6 +69,11 @@ pub record InRange (q : Params) (P : ℕ) : Type 0 where
   pub s_high : q.s ≤ 8
   pub p_low : q.n0 * q.n ≤ P
   pub p_high : P ≤ 4096
+
+-- what a home depends on, as clauses see a shape
+pub record Shape : Type 0 where
+  pub params : Params
+  pub p : ℕ
 
 -- the shape of these numbers
 abbrev pub shape_of : Params → (P : ℕ) → Shape

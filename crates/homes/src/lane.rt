@@ -7,7 +7,7 @@ use crate::Stage;
 use crate::sweeps::Sweeps;
 
 // A page by its group, and by its turn among the pages of the group.
-#[derive(Clone, Copy)]
+#[derive(Clone, Copy, Debug, PartialEq, Eq)]
 pub struct Lane {
     pub turn: u16,
     pub group: u16,
@@ -19,7 +19,7 @@ fn turn_of(page: u16, g: u16) -> u16
     requires { (1 ≤ g) × (g ≤ 4096) × (page < 4 * g) }
     ensures { result ≡ page / g }
 {
-    (g <= page) as u16 + (2 * g <= page) as u16 + (3 * g <= page) as u16
+    u16::from(g <= page) + u16::from(2 * g <= page) + u16::from(3 * g <= page)
 }
 
 impl Lane {

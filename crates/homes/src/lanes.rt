@@ -3,7 +3,7 @@
 // the last four are idle.
 ghost use Rattle.std.specs.Prelude.{◌≡◌, cond, map, ℕ, ◌*◌, ◌/◌, ◌%◌, ◌≤◌, ◌<◌, length, get_or, leb};
 ghost use Rattle.draws.specs.Draws.{seed_of};
-ghost use Rattle.homes.specs.Homes.{Ready, home_in};
+ghost use Rattle.homes.specs.Homes.{home_in};
 ghost use Rattle.draws.specs.Steps.Powers.{Drawable};
 ghost use Rattle.homes.specs.Steps.Sweeps.{sweeps_of};
 ghost use Rattle.homes.specs.Steps.Lanes.{lane_of, InGroup, gone_to, picked, Placed};
@@ -13,8 +13,9 @@ use crate::lane::Lane;
 use crate::starts::Start;
 use crate::sweeps::Sweeps;
 
-// Each key's seed, doubled, and the page that it starts from.
-#[derive(Clone, Copy)]
+// Each key's seed, doubled, and the page that it starts from. A row for each number, and no row of
+// structs, for speed: so a row fills whole registers.
+#[derive(Clone, Copy, Debug, PartialEq, Eq)]
 pub struct Begun {
     pub seeds: [u64; 12],
     pub pages: [u16; 16],
@@ -22,7 +23,7 @@ pub struct Begun {
 
 // Where each key is on its way: its page, and the same by its group and its turn among the group's
 // pages.
-#[derive(Clone, Copy)]
+#[derive(Clone, Copy, Debug, PartialEq, Eq)]
 pub struct Lanes {
     pub turns: [u16; 16],
     pub groups: [u16; 16],
@@ -38,12 +39,10 @@ fn begin(keys: [u64; 12], m: u64) -> Begun
     let start = Start::new(m);
     let mut seeds = [0; 12];
     let mut pages = [0; 16];
-    let mut i = 0;
-    while i < 12 {
+    for i in 0..12 {
         let key = keys[i];
         seeds[i] = draws::twice_seed(key);
         pages[i] = start.page(key) as u16;
-        i += 1;
     }
     Begun { seeds, pages }
 }
@@ -55,12 +54,10 @@ fn place(pages: [u16; 16], g: u16) -> Lanes
 {
     let mut turns = [0; 16];
     let mut groups = [0; 16];
-    let mut i = 0;
-    while i < 16 {
+    for i in 0..16 {
         let lane = Lane::new(pages[i], g);
         turns[i] = lane.turn;
         groups[i] = lane.group;
-        i += 1;
     }
     Lanes {
         turns,
@@ -69,21 +66,15 @@ fn place(pages: [u16; 16], g: u16) -> Lanes
     }
 }
 
-// 1 for each key that is a mover by this power. The idle places say what the four before them do:
+// 1 for each key that is a mover by this power: two bytes, as the other rows have, for speed. The idle places say what the four before them do:
 // then these four and they come from one register.
 fn movers(seeds: [u64; 12], power: u32, limit: u32) -> [u16; 16]
     requires { (i : ℕ) → i < 12 → Drawable (get_or seeds i 0) power }
     ensures { (i : ℕ) → i < 12 → get_or result i 0 ≡ cond (leb (power * (get_or seeds i 0 / 2) % 2147483647) limit) 1 0 }
 {
     let mut moves = [0; 16];
-    let mut i = 0;
-    while i < 12 {
-        moves[i] = if draws::draw(seeds[i], power) <= limit {
-            1
-        } else {
-            0
-        };
-        i += 1;
+    for i in 0..12 {
+        moves[i] = u16::from(draws::draw(seeds[i], power) <= limit);
     }
     moves[12] = moves[8];
     moves[13] = moves[9];
@@ -104,8 +95,7 @@ fn step_all(lanes: Lanes, moves: [u16; 16], np: u16, g: u16, sweeps: Sweeps) -> 
     let mut turns = [0; 16];
     let mut groups = [0; 16];
     let mut pages = [0; 16];
-    let mut i = 0;
-    while i < 16 {
+    for i in 0..16 {
         let to = sweeps.target(g, old_groups[i]);
         let goes = moves[i] == 1;
         let turn = if goes { np } else { old_turns[i] };
@@ -113,7 +103,6 @@ fn step_all(lanes: Lanes, moves: [u16; 16], np: u16, g: u16, sweeps: Sweeps) -> 
         turns[i] = turn;
         groups[i] = group;
         pages[i] = turn * g + group;
-        i += 1;
     }
     Lanes {
         turns,
@@ -132,8 +121,7 @@ fn regroup(lanes: Lanes, g: u16) -> Lanes
     let pages = lanes.pages;
     let mut turns = [0; 16];
     let mut groups = [0; 16];
-    let mut i = 0;
-    while i < 16 {
+    for i in 0..16 {
         let lane = Lane {
             turn: old_turns[i],
             group: old_groups[i],
@@ -141,7 +129,6 @@ fn regroup(lanes: Lanes, g: u16) -> Lanes
         let new = lane.regroup(g);
         turns[i] = new.turn;
         groups[i] = new.group;
-        i += 1;
     }
     Lanes {
         turns,
@@ -156,15 +143,13 @@ fn pick(before: [u16; 16], after: [u16; 16], p: u16) -> [u64; 12]
     ensures long { length result ≡ 12 }
 {
     let mut pages = [0; 12];
-    let mut i = 0;
-    while i < 12 {
+    for i in 0..12 {
         let is_there = after[i] < p;
         pages[i] = if is_there {
             after[i] as u64
         } else {
             before[i] as u64
         };
-        i += 1;
     }
     pages
 }
@@ -173,22 +158,23 @@ fn pick(before: [u16; 16], after: [u16; 16], p: u16) -> [u64; 12]
 // makes use of. At size p a round may stop before its last step: its lanes mean nothing then, and
 // its pages are what counts.
 pub fn homes(shape: Shape, keys: [u64; 12]) -> [u64; 12]
-    requires { Ready shape }
     ensures { result ≡ map (home_in shape) keys }
 {
-    let n0 = shape.params.n0 as u64;
+    let params = shape.params;
     let p = shape.p;
+    let n0 = params.n0 as u64;
     let powers = draws::powers();
     let limits = draws::limits();
-    let later = draws::later(shape.params.edition);
+    let later = draws::later(params.edition);
     let mut stage = shape.first();
     let begun = begin(keys, stage.f);
     let seeds = begun.seeds;
     let first = begun.pages;
     let mut before = first;
-    let mut lanes = place(first, shape.params.n);
-    let mut sweeps = Sweeps::new(shape.params.s, shape.params.n);
+    let mut lanes = place(first, params.n);
+    let mut sweeps = Sweeps::new(params.s, params.n);
     let mut x = 1;
+    // In both loops stage, number and lanes step together: a for over one would be no plainer.
     while stage.f < p {
         let g = stage.g as u16;
         while (stage.g == g as u64) & (stage.f < p) {

@@ -14,12 +14,15 @@ ghost use Rattle.homes.specs.Steps.Stages.{first_step, After, Bounded};
 ghost use Rattle.homes.specs.Steps.Last.{Within, last_step, stays_at};
 
 use lane::Lane;
+use new_homes::Beside;
 use starts::Start;
+use std::marker::Model;
 use sweeps::Sweeps;
 
 // The parameters of a file: pages a group and groups at the start, sweeps, and the edition, which
-// says which draws its steps take.
-#[derive(Clone, Copy)]
+// says which draws its steps take. The edition is a number, since a state may bring any, and one out of range
+// is refused as such (`State::in_range`).
+#[derive(Clone, Copy, Debug, PartialEq, Eq)]
 pub struct Params {
     pub n0: u16,
     pub n: u16,
@@ -27,15 +30,29 @@ pub struct Params {
     pub edition: u16,
 }
 
-// What the homes of a file depend on: its parameters, and the pages grown to.
-#[derive(Clone, Copy)]
+// What the homes of a file depend on: its parameters, and the pages grown to. Its numbers are in
+// range, always.
+#[derive(Clone, Copy, Debug, PartialEq, Eq)]
 pub struct Shape {
-    pub params: Params,
-    pub p: u64,
+    params: Params,
+    p: u64,
+}
+
+impl Model for Shape {
+    ghost use Rattle.homes.specs.Homes.{Shape, InRange};
+
+    ghost Value = { Shape };
+
+    ghost view = { λ a. record { params = a.params; p = a.p } };
+
+    ghost invariant = { λ a. InRange a.params a.p };
+
+    // What `Copy` and `==` need.
+    ghost inverse = { λ v. record { params = v.params; p = v.p } };
 }
 
 // A step: groups and size before it, and pages of a group.
-#[derive(Clone, Copy)]
+#[derive(Clone, Copy, Debug, PartialEq, Eq)]
 pub struct Stage {
     pub g: u64,
     pub f: u64,
@@ -78,9 +95,16 @@ impl Shape {
         Self { params, p }
     }
 
+    // How many pages the file has.
+    pub fn pages(self) -> u64
+        ensures value { result ≡ self.p }
+        ensures ready { Ready self }
+    {
+        self.p
+    }
+
     // The first step.
     fn first(self) -> Stage
-        requires { Ready self }
         ensures value { result ≡ first_step self }
         ensures sound { Bounded self.params.n0 result }
     {
@@ -93,22 +117,24 @@ impl Shape {
         }
     }
 
-    // The home of a key.
+    // The home of a key. Beside `lanes::homes` for speed: one key alone would wait for twelve.
     pub fn home(self, key: u64) -> u64
-        requires { Ready self }
-        ensures { result ≡ home_in self key }
+        ensures value { result ≡ home_in self key }
+        ensures within { result < self.p }
     {
-        let n0 = self.params.n0 as u64;
+        let params = self.params;
         let p = self.p;
+        let n0 = params.n0 as u64;
         let powers = draws::powers();
         let limits = draws::limits();
-        let later = draws::later(self.params.edition);
+        let later = draws::later(params.edition);
         let seed = draws::twice_seed(key);
         let mut stage = self.first();
         let start = Start::new(stage.f);
-        let mut lane = Lane::new(start.page(key) as u16, self.params.n);
-        let mut sweeps = Sweeps::new(self.params.s, self.params.n);
+        let mut lane = Lane::new(start.page(key) as u16, params.n);
+        let mut sweeps = Sweeps::new(params.s, params.n);
         let mut x = 1;
+        // Stage, number, lane and sweeps step together: a for over one of them would be no plainer.
         while stage.f < p {
             let moves = draws::draw(seed, powers[x + later]) <= limits[stage.np as usize];
             lane = lane.step(stage, sweeps, p, moves);
@@ -126,7 +152,7 @@ impl Shape {
     // The last step that a file of this shape takes, asked for once where a page is added or taken
     // away.
     pub fn last_step(self) -> Stage
-        requires { Ready self × (self.params.n0 * self.params.n < self.p) }
+        requires { self.params.n0 * self.params.n < self.p }
         ensures value { result ≡ last_step self }
         ensures within { Within result }
     {
@@ -136,11 +162,12 @@ impl Shape {
 
     // Whether the keys that have their home on a page are the same with the page that the step
     // added as without it. It tells so by the page's group alone, and may say no where they are.
-    fn stays(self, last: Stage, added: u64, page: u64) -> bool
-        requires { Ready self × Within last }
-        ensures { result ≡ stays_at self.params.s last added page }
+    fn stays(self, beside: Beside, page: u64) -> bool
+        requires { Within beside.last }
+        ensures { result ≡ stays_at self.params.s beside.last beside.added page }
     {
+        let last = beside.last;
         let new = new_page(self.params.s, last.f, last.g, page);
-        (page < added) & (new != added)
+        (page < beside.added) & (new != beside.added)
     }
 }

@@ -3,7 +3,7 @@ ghost use Rattle.std.specs.Prelude.{◌≡◌, ◌/◌, ◌%◌, ◌≤◌, ◌<
 ghost use Rattle.homes.specs.Steps.Starts.{start_of};
 
 // How remainders by m are found without dividing by it: 2^34 by m, and what 2^24 and 2^34 leave.
-#[derive(Clone, Copy)]
+#[derive(Clone, Copy, Debug, PartialEq, Eq)]
 pub struct Start {
     pub m: u64,
     pub by: u64,

@@ -7,7 +7,7 @@ ghost use Rattle.homes.specs.Steps.Sweeps.{sweeps_of};
 const SHARES: [u16; 9] = [0, 65535, 32767, 21845, 16383, 13107, 10922, 9362, 8191];
 
 // s sweeps over g groups: what `SHARES` has for s, groups of each sweep, and sweeps with one more.
-#[derive(Clone, Copy)]
+#[derive(Clone, Copy, Debug, PartialEq, Eq)]
 pub struct Sweeps {
     pub s: u16,
     pub share: u16,
@@ -50,7 +50,7 @@ impl Sweeps {
         Self {
             s,
             share: self.share,
-            each: 2 * self.each + over as u16,
+            each: 2 * self.each + u16::from(over),
             more: twice - less,
         }
     }
@@ -64,7 +64,7 @@ impl Sweeps {
         let next = g - group;
         let row = row_before(next, self.share);
         let w = next - row * self.s - 1;
-        let least = if w < self.more { w } else { self.more };
+        let least = w.min(self.more);
         w * self.each + least + row
     }
 }

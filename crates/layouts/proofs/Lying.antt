@@ -1,7 +1,7 @@
 -- Where slots lie and how many there are: one line for each layout, and everything above says a
 -- layout.
 use mathlib.Core.Path.{◌≡◌, refl}
-use Prim.Native.Nat.{ℕ, zero, suc, ◌+◌, ◌-◌, ◌*◌, ◌^◌, ◌≤◌, ◌<◌}
+use Prim.Native.Nat.{ℕ, zero, suc, ◌+◌, ◌*◌, ◌^◌, ◌≤◌, ◌<◌}
 use native.Mathlib.Omega.{arith}
 use Rattle.layouts.specs.Layout.{Layout, kind_of, slots_of, width_of, slot_at, slots_on}
 
@@ -48,7 +48,3 @@ kind_small (suc f) = omega arith
 pub slots_times : (f : Layout) (n : ℕ) → slots_on f n ≡ slots_of f * n
 slots_times zero n = refl
 slots_times (suc f) n = refl
-
--- a layout that isn't the first is one more than another
-pub past_twelve : (f : Layout) → (f ≡ 0 → ⊥) → f ≡ suc (f - 1)
-past_twelve f h = omega arith

@@ -1,6 +1,6 @@
 -- The layouts of a page (01, 'Bytes of a page'; 02, request 8), by cases, so that each says its own
 -- numbers. Ten slots with a run are read and written by the page layer alone: no file has them yet.
-use Rattle.std.specs.Prelude.{ℕ, zero, suc, ◌+◌, ◌*◌}
+use Rattle.std.specs.Prelude.{ℕ, zero, suc, ◌+◌, ◌*◌, Bool, true, false}
 
 -- a layout is a number: 0 has twelve slots, any other has ten
 abbrev pub Layout : Type 0
@@ -30,6 +30,11 @@ slots_of (suc f) = 10
 abbrev pub width_of : Layout → ℕ
 width_of zero = 20
 width_of (suc f) = 24
+
+-- 02: "A record gains a four-byte run number after its value"
+abbrev pub has_run : Layout → Bool
+has_run zero = false
+has_run (suc f) = true
 
 -- where a slot starts: after the head of 16 bytes and the slots before it
 abbrev pub slot_at : Layout → ℕ → ℕ

@@ -44,11 +44,6 @@ pub record Putting (takes : ℕ → Bool) (area : List ℕ) (to a start n at₀ 
   pub rest : entered room at (going takes area to a (start + n - j) j) ≡ entered room₀ at₀ (going takes area to a n start)
   pub long : length room ≡ length room₀
 
-pub putting_start : (takes : ℕ → Bool) (area : List ℕ) (to a start n at₀ : ℕ) (room₀ : List ℕ) → Putting takes area to a start n at₀ room₀ start at₀ room₀
-putting_start takes area to a start n at₀ room₀ =
-    let e : start + n - start ≡ n = omega arith in
-    record { within = omega arith; ends = rw e; rest = rw e; long = refl }
-
 module _ {takes : ℕ → Bool} {area : List ℕ} {to a start n at₀ : ℕ} {room₀ : List ℕ} {j at : ℕ} {room : List ℕ} (w : Putting takes area to a start n at₀ room₀ j at room) where
   pub not_far : at ≤ at₀ + size * n
   not_far = omega (arith, w.ends, going_few takes area to a n start)

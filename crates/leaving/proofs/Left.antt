@@ -37,7 +37,7 @@ use Rattle.leaving.proofs.Growing.{Grows, stays_or_goes}
 use Rattle.leaving.proofs.Leaving.{Leaving, waiting}
 
 -- the records of n pages
-abbrev holds : (n : ℕ) → List ℕ → List Record
+abbrev pub holds : (n : ℕ) → List ℕ → List Record
 holds n area = cat (held_from in_use area n 0) []
 
 -- an image for the old homes, with its counts, that grows by page P

@@ -1,13 +1,11 @@
 -- The pages that give, met one after the other: each is the groups behind the one before, so a loop
 -- over the pages knows the next of them with nothing divided.
 use mathlib.Core.Path.{◌≡◌, refl, sym, ap, ◌∙◌}
-use mathlib.Core.Bool.{Bool, true, false, ◌&&◌, false≢true}
+use mathlib.Core.Bool.{Bool, true, false}
 use Prim.Native.Nat.{ℕ, ◌+◌, ◌-◌, ◌*◌, ◌/◌, ◌%◌, ◌≤◌, ◌<◌}
 use native.Mathlib.Nat.{mod-eq_of_lt, add-mod_right, mul-add-mod_self_right, mul-mod_left, div-add-mod'}
 use native.Mathlib.Decide.{dec_lt}
 use native.Mathlib.Omega.{arith}
-use lib.Dec.{ltb, eqb}
-use borrow.Author.Tests.{ltb-true, eqb-true, lt-ltb, eq-eqb}
 use Rattle.homes.specs.declared.giving.Giving.{Giving}
 use Rattle.homes.specs.Steps.Giving.{Gives, gives_at, first_giver}
 use Rattle.homes.proofs.Givers.{givers}
@@ -19,22 +17,13 @@ apart g a b l m e =
     let none : b - a ≡ 0 = sym (mod-eq_of_lt (omega arith)) ∙ sym (mul-add-mod_self_right (a / g) g (b - a)) ∙ ap (λ (n : ℕ). n % g) both ∙ mul-mod_left (b / g) g in
     omega arith
 
--- what both tests say where they hold together,
-both_hold : (a n f : ℕ) → eqb a n && ltb n f ≡ true → (a ≡ n) × (n < f)
-both_hold a n f = go (eqb a n) (ltb n f) refl refl
-  where
-    go : (u v : Bool) → eqb a n ≡ u → ltb n f ≡ v → u && v ≡ true → (a ≡ n) × (n < f)
-    go true true e l on = (eqb-true a n e, ltb-true n f l)
-    go true false e l on = absurd (false≢true on)
-    go false v e l on = absurd (false≢true on)
-
--- and, of an old page not past the next, where they don't
-before_next : (a n f : ℕ) → eqb a n && ltb n f ≡ false → a < f → a ≤ n → a < n
+-- an old page not past the next, which isn't it
+before_next : (a n f : ℕ) → (a ≡ n → n < f → ⊥) → a < f → a ≤ n → a < n
 before_next a n f off l m = go (dec_lt a n)
   where
     go : Dec (a < n) → a < n
     go (yes k) = k
-    go (no k) = absurd (false≢true (sym off ∙ rw (eq-eqb a n (omega arith), lt-ltb n f (omega arith))))
+    go (no k) = absurd (off (omega arith) (omega arith))
 
 -- at page a: the next page that may give, with none from a on before it; past the pages that were
 -- there before the step none gives, so there it may lie behind
@@ -54,16 +43,9 @@ module _ {t : Giving} (w : Gives t) where
 
   module _ {a next : ℕ} (n : Next t a next) where
     -- the page is the next, so it gives, and the one to come is the groups behind it
-    module _ (on : eqb a next && ltb next t.f ≡ true) where
-      here : a ≡ next
-      here = (both_hold a next t.f on).0
-
+    module _ (here : a ≡ next) (old : next < t.f) where
       pub does_give : gives_at t a ≡ true
-      does_give = (givers w a).1 (omega (arith, here, (both_hold a next t.f on).1), rw here n.group)
-
-      -- which no addition loses
-      pub next_small : next + t.g < 8192
-      next_small = omega (arith, (both_hold a next t.f on).1, w.small, w.more)
+      does_give = (givers w a).1 (omega (arith, here), rw here n.group)
 
       pub next_on : (n' : ℕ) → n' ≡ next + t.g → Next t (a + 1) n'
       next_on n' e =
@@ -74,7 +56,7 @@ module _ {t : Giving} (w : Gives t) where
           }
 
     -- it isn't, so it gives none, and the next stays
-    module _ (off : eqb a next && ltb next t.f ≡ false) where
+    module _ (off : a ≡ next → next < t.f → ⊥) where
       pub gives_none : gives_at t a ≡ false
       gives_none = go (gives_at t a) refl
         where

@@ -11,7 +11,7 @@ log_answers =
       execute = record {
         asks_nothing = λ κs a. tt;
         one = λ κs a y z v w p q. (p.0 ∙⁻¹ q.0, λ i. (tt, ((p.1.0 ∙⁻¹ q.1.0) i, ((p.1.1 ∙⁻¹ q.1.1) i, (tt, tt)))));
-        does = λ κs a y v p i. carries (p.0 i).numbers (site (p.0 i).state (p.1.0 i) (p.1.1 i));
+        does = λ κs a y v p i. carries (p.0 i).answer (site (p.0 i).state (p.1.0 i) (p.1.1 i));
       };
       whole_log = record {
         asks_nothing = λ κs a. tt;

@@ -8,6 +8,7 @@ use native.Mathlib.Omega.{arith}
 use lib.Dec.{eqb}
 use lib.ListN.{length, drop}
 use borrow.Author.Tests.{eqb-true}
+use Rattle.std.specs.Prelude.{Result, Ok, Err}
 use Rattle.layouts.specs.Layout.{in_use}
 use Rattle.placing.specs.Image.{All}
 use Rattle.state.specs.State.{all, in_range}
@@ -18,8 +19,9 @@ use Rattle.demands.specs.Demands.{Fresh}
 use Rattle.demands.proofs.Demands.{demands}
 use Rattle.records.specs.declared.Command.{Command}
 use Rattle.records.specs.declared.Command.TheVariants.{Format, Put, Find, Remove, Grow, Check, Shrink}
-use Rattle.records.specs.declared.Item.{Item}
-use Rattle.records.specs.declared.Item.TheVariants.{Asks, Unknown, Cut}
+use Rattle.records.specs.declared.Asked.{Asked}
+use Rattle.records.specs.declared.Unread.{Unread}
+use Rattle.records.specs.declared.Unread.TheVariants.{UnknownKind, CutOff}
 use Rattle.records.specs.Records.{first_of}
 use Rattle.commands.specs.Execute.{Site, call_of, executed}
 use Rattle.commands.specs.Log.{waits, stops, on_item, turn, on_turn, log}
@@ -51,15 +53,15 @@ log-site last (suc room) d l = go (eqb (length l) 0) refl (first_of l) refl (λ 
     cut true = refl
     cut false = refl
 
-    go : (u : Bool) → eqb (length l) 0 ≡ u → (i : Item) → first_of l ≡ i
+    go : (u : Bool) → eqb (length l) 0 ≡ u → (i : Result Asked Unread) → first_of l ≡ i
         → ((e : Site) (n : ℕ) → (log last room e (drop n l)).site ≡ after_all e (asked room (drop n l)))
         → (on_turn d (cond u waits (on_item last d i)) (λ e n. log last room e (drop n l))).site ≡ after_all d (on_first i (λ n. asked room (drop n l)))
     go true e i q k =
-        let c : i ≡ Cut = sym q ∙ sym (head_cut l (omega (arith, eqb-true (length l) 0 e))) in
+        let c : i ≡ Err CutOff = sym q ∙ head_cut l (omega (arith, eqb-true (length l) 0 e)) in
         rw c
-    go false e (Asks c n) q k = k (executed d c).site n
-    go false e Unknown q k = refl
-    go false e Cut q k = cut last
+    go false e (Ok a) q k = k (executed d a.command).site a.length
+    go false e (Err UnknownKind) q k = refl
+    go false e (Err CutOff) q k = cut last
 
 -- after a log the file at the site is one that a fresh history left
 fresh : (m : Kept) (d : Site) → After m d → Fresh m (file_at d)

@@ -8,16 +8,18 @@ use native.Mathlib.Omega.{arith}
 use lib.Dec.{eqb}
 use lib.ListN.{length, replicate}
 use borrow.Author.Tests.{eq-eqb, eqb-true}
+use Rattle.std.specs.Prelude.{Ok, Err}
 use Rattle.homes.specs.declared.Params.{Params}
 use Rattle.placing.proofs.Lists.{all_append}
 use Rattle.pages.specs.Area.{area_from}
 use Rattle.pages.proofs.Areas.{area_length}
 use Rattle.state.specs.declared.State.{State}
-use Rattle.state.specs.declared.Answer.TheVariants.{Accepted, OutOfRange, WrongArea}
+use Rattle.state.specs.declared.Refusal.TheVariants.{OutOfRange, WrongArea}
 use Rattle.state.specs.State.{in_range, fresh}
-use Rattle.gates.specs.declared.Gate.TheVariants.{Open, Shut}
-use Rattle.gates.specs.Gates.{on_gate, gate_of}
-use Rattle.changes.specs.Changes.{done, Outcome, refused}
+use Rattle.state.specs.Answer.{accepted}
+use Rattle.state.specs.Done.{done}
+use Rattle.gates.specs.Gates.{opens, on_gate, gate_of}
+use Rattle.changes.specs.Changes.{Outcome, refused}
 use Rattle.register.specs.Files.{Call, format, File, of_outcome, left, numbers_of, after}
 use Rattle.register.proofs.After.{after-append, after-layout}
 use Rattle.demands.specs.Histories.{Fits, refusal, Kept, begun, makes, kept}
@@ -56,10 +58,10 @@ unfolding left gate_of
 format_lent f q cap = go (in_range f.layout (fresh q cap)) (eqb (length f.area) (256 * cap)) refl
   where
     new : Outcome
-    new = record { done = done (fresh q cap) (Accepted 0 0 0); area = area_from f.layout 0 (replicate cap []) }
+    new = record { done = done (fresh q cap) (Ok (accepted 0 0 0)); area = area_from f.layout 0 (replicate cap []) }
 
     go : (u v : Bool) → eqb (length f.area) (256 * cap) ≡ v
-        → (numbers_of (of_outcome f.layout (on_gate (cond u (cond v Open (Shut WrongArea)) (Shut OutOfRange)) (refused f.state f.area) new)).said).refusal ≡ 0
+        → (numbers_of (of_outcome f.layout (on_gate (cond u (cond v opens (Err WrongArea)) (Err OutOfRange)) (refused f.state f.area) new)).said).refusal ≡ 0
         → length f.area ≡ 256 * cap
     go true true e z = eqb-true (length f.area) (256 * cap) e
     go true false e z = absurd (omega arith)

@@ -32,7 +32,7 @@ pub record LogAnswers : Type 0 where
   pub first : Settled FirstContract.ended First.Reads.Asked First.Reads.Learnt (λ κs a. first_of a.0.now) (λ κs a y v. y)
   pub execute : Settled ExecuteContract.ended Execute.Reads.Asked Execute.Reads.Learnt
       (λ κs a. executed (site a.0 a.1.0.now a.1.1.0.now) a.1.1.1.0)
-      (λ κs a y v. carries y.numbers (site y.state v.1.0 v.1.1.0))
+      (λ κs a y v. carries y.answer (site y.state v.1.0 v.1.1.0))
   pub whole_log : Settled WholeContract.ended Whole.Reads.Asked Whole.Reads.Learnt
       (λ κs a.
       let room = length a.1.1.1.1.1.0.now / 28 in

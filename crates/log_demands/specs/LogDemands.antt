@@ -1,6 +1,6 @@
 -- What the demands come to in a log: `LogDemands`, at the end. What is quoted is the demands', or
 -- 01's where it says so.
-use Rattle.std.specs.Prelude.{ℕ, zero, suc, ◌*◌, ◌^◌, ◌<◌, ◌≡◌, ◌↔◌, Bool, cond, List, [], ◌∷◌, take, drop, eqb}
+use Rattle.std.specs.Prelude.{ℕ, zero, suc, ◌*◌, ◌^◌, ◌<◌, ◌≡◌, ◌↔◌, Bool, cond, List, [], ◌∷◌, take, drop, eqb, Result, Ok, Err}
 use Rattle.std.proofs.Math.Option.{Option, none, some}
 use Rattle.layouts.specs.Layout.{in_use}
 use Rattle.homes.specs.Homes.{params}
@@ -11,17 +11,16 @@ use Rattle.demands.specs.Histories.{Kept, commit_of, makes}
 use Rattle.demands.specs.Demands.{Fresh}
 use Rattle.records.specs.declared.Command.{Command}
 use Rattle.records.specs.declared.Command.TheVariants.{Format, Put, Find, Remove, Grow, Check, Shrink}
-use Rattle.records.specs.declared.Item.{Item}
-use Rattle.records.specs.declared.Item.TheVariants.{Asks, Unknown, Cut}
+use Rattle.records.specs.declared.Asked.{Asked}
+use Rattle.records.specs.declared.Unread.{Unread}
 use Rattle.records.specs.Records.{first_of, refused_by}
 use Rattle.commands.specs.Execute.{Site, site, call_of, executed}
 use Rattle.commands.specs.Log.{log}
 
 -- a command that is read goes before those behind it; at what is no command they end
-abbrev pub on_first : Item → (ℕ → List Command) → List Command
-on_first (Asks c n) rest = c ∷ rest n
-on_first Unknown rest = []
-on_first Cut rest = []
+abbrev pub on_first : Result Asked Unread → (ℕ → List Command) → List Command
+on_first (Ok a) rest = a.command ∷ rest a.length
+on_first (Err why) rest = []
 
 -- the commands at the start of an input, at most so many
 unfoldable pub asked : (room : ℕ) → List ℕ → List Command

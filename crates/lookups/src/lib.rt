@@ -3,8 +3,8 @@
 // from there on are full of them: a long way is cut short by halves.
 #![tactic(auto)]
 
-ghost use Rattle.std.specs.Prelude.{◌≡◌, ◌*◌, ◌≤◌, length};
-ghost use Rattle.homes.specs.Homes.{Ready, home_in};
+ghost use Rattle.std.specs.Prelude.{◌≡◌, ◌≤◌, ◌<◌};
+ghost use Rattle.homes.specs.Homes.{home_in};
 ghost use Rattle.layouts.specs.Layout.{slots_of};
 ghost use Rattle.placing.specs.Lay.{ranked};
 ghost use Rattle.placing.specs.Walks.{seek, find_in};
@@ -14,69 +14,58 @@ ghost use Rattle.lookups.specs.Steps.Told.{told};
 ghost use Rattle.lookups.specs.Steps.Skips.{passes_on, Imaged, Unpassed};
 
 use homes::Shape;
-use pages::Record;
+use layouts::Layout;
+use pages::view::Pages;
+use pages::{Rank, Record};
 
 // So many pages a search looks at one by one: nearly every search ends among them.
 const NEAR: usize = 8;
 
-// What is held at a key.
-#[derive(Clone, Copy)]
-pub enum Sought {
-    Held { held: Record },
-    Absent,
-}
-
 // The record of a key among those of a page.
-fn on_page(part: &[u8], layout: u8, sought: u64) -> Sought
-    requires { length part.now ≡ 256 }
-    ensures { result ≡ told (seek key sought (records_in layout part.now)) }
+#[tactic(auto, using(crate::proofs::Looking::sifted_none, crate::proofs::Looking::sifted_on))]
+fn on_page<L: Layout>(part: &[u8; 256], sought: u64) -> Option<Record>
+    ensures { result ≡ told (seek key sought (records_in L.layout part.now)) }
 {
-    let count = pages::count_in(part, layout);
-    let mut i = 0;
-    while i < count {
-        let held = pages::slot::get(part, layouts::slot_at(layout, i), layout);
+    let count = pages::count_in::<L>(part);
+    for i in 0..count {
+        let held = pages::slot::get::<L>(part, layouts::slot_at::<L>(i));
         if held.key == sought {
-            return Sought::Held { held };
+            return Some(held);
         }
-        i += 1;
     }
-    Sought::Absent
+    None
 }
 
 // Whether a search passes a page: it is full, and its last record stands before (home, key). A page
 // that neither holds the key nor is passed ends the search.
-fn passes(part: &[u8], layout: u8, shape: Shape, home: u64, sought: u64) -> bool
-    requires { (length part.now ≡ 256) × Ready shape }
-    ensures { result ≡ passes_on (rank (home_in shape)) (slots_of layout) (ranked home sought) (records_in layout part.now) }
+#[tactic(auto, using(crate::proofs::Looking::passes_short))]
+fn passes<L: Layout>(part: &[u8; 256], shape: Shape, home: u64, sought: u64) -> bool
+    ensures { result ≡ passes_on (rank (home_in shape)) (slots_of L.layout) (ranked home sought) (records_in L.layout part.now) }
 {
-    let slots = layouts::slots(layout);
-    if pages::count_in(part, layout) < slots {
+    let slots = L::SLOTS;
+    if pages::count_in::<L>(part) < slots {
         return false;
     }
-    let last = pages::slot::get(part, layouts::slot_at(layout, slots - 1), layout);
-    pages::before(shape.home(last.key), last.key, home, sought)
+    let last = pages::slot::get::<L>(part, layouts::slot_at::<L>(slots - 1));
+    let met = Rank {
+        home: shape.home(last.key),
+        key: last.key,
+    };
+    met < Rank { home, key: sought }
 }
 
 // The first page from `from` on that a search doesn't pass, found by halves: in an image it passes all
 // pages from its home on up to one that it passes.
-fn skip(
-    area: &[u8],
-    from: usize,
-    cap: usize,
-    layout: u8,
-    shape: Shape,
-    home: u64,
-    sought: u64,
-) -> usize
-    requires { (cap ≤ 4096) × (length area.now ≡ 256 * cap) × Ready shape × (home ≡ home_in shape sought) × (home ≤ from) × (from ≤ cap) × Imaged layout area.now (home_in shape) cap }
-    ensures { Unpassed layout area.now (home_in shape) cap sought from result }
+fn skip<L: Layout>(pages: Pages<'_>, from: usize, shape: Shape, home: u64, sought: u64) -> usize
+    requires { (home ≡ home_in shape sought) × (home ≤ from) × (from ≤ pages.cap) × Imaged L.layout pages.bytes.now (home_in shape) pages.cap }
+    ensures { Unpassed L.layout pages.entry.bytes.now (home_in shape) pages.entry.cap sought from result }
 {
+    // A search of std by halves takes a slice of values, and a page is judged by its last record.
     let mut lo = from;
-    let mut hi = cap;
+    let mut hi = pages.cap;
     while lo < hi {
         let mid = lo + (hi - lo) / 2;
-        let at = 256 * mid;
-        if passes(&area[at..at + 256], layout, shape, home, sought) {
+        if passes::<L>(pages.part(mid), shape, home, sought) {
             lo = mid + 1;
         } else {
             hi = mid;
@@ -87,30 +76,25 @@ fn skip(
 
 // From the home of a key up to the record, to a page that ends the search, or to the end. After the
 // nearest pages those that are passed are skipped.
-pub fn look(area: &[u8], cap: usize, layout: u8, shape: Shape, home: u64, sought: u64) -> Sought
-    requires { (cap ≤ 4096) × (length area.now ≡ 256 * cap) × Ready shape × (shape.p ≤ cap) × (home ≡ home_in shape sought) × Imaged layout area.now (home_in shape) cap }
-    ensures { result ≡ told (find_in key (home_in shape) (slots_of layout) sought (held_from layout area.now cap 0)) }
+pub fn look<L: Layout>(pages: Pages<'_>, shape: Shape, home: u64, sought: u64) -> Option<Record>
+    requires { (home < pages.cap) × (home ≡ home_in shape sought) × Imaged L.layout pages.bytes.now (home_in shape) pages.cap }
+    ensures { result ≡ told (find_in key (home_in shape) (slots_of L.layout) sought (held_from L.layout pages.entry.bytes.now pages.entry.cap 0)) }
 {
     let mut a = home as usize;
     let far = a + NEAR;
-    while a < cap {
-        let at = 256 * a;
-        let part = &area[at..at + 256];
-        let here = on_page(part, layout, sought);
-        match here {
-            Sought::Held { held } => {
-                return Sought::Held { held };
-            }
-            Sought::Absent => {
-                if !passes(part, layout, shape, home, sought) {
-                    return Sought::Absent;
-                }
-            }
+    // The address goes on by a page or by a jump, which no range counts.
+    while a < pages.cap {
+        let part = pages.part(a);
+        if let Some(held) = on_page::<L>(part, sought) {
+            return Some(held);
+        }
+        if !passes::<L>(part, shape, home, sought) {
+            return None;
         }
         a += 1;
         if a == far {
-            a = skip(area, a, cap, layout, shape, home, sought);
+            a = skip::<L>(pages, a, shape, home, sought);
         }
     }
-    Sought::Absent
+    None
 }

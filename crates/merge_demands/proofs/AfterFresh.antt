@@ -14,7 +14,7 @@ use Rattle.pages.specs.Page.{key}
 use Rattle.pages.specs.Small.{Small}
 use Rattle.state.specs.declared.State.{State}
 use Rattle.state.specs.State.{homes}
-use Rattle.gates.specs.declared.Gate.TheVariants.{Open}
+use Rattle.gates.specs.Gates.{opens}
 use Rattle.gates.proofs.Gating.{check_pages, lent_open, merge_pages}
 use Rattle.register.specs.Files.{File}
 use Rattle.demands.specs.Histories as histories
@@ -73,8 +73,8 @@ module _ (a b : Kept) (f g : File) (w : TwoFresh a b f g) where
     comes =
         let e : length row ≡ f.state.cap = d ∙ sym (ap (λ (s : State). s.cap) first.state) in
         settle f g own others row
-        (sym (merge_pages f.layout f.state f.area (length row) Open (lent_open f.layout f.state (length f.area) (length row) Open first.enters refl e) refl Open first.passes))
-        (sym (check_pages f.layout g.state g.area Open second.enters refl Open second.passes))
+        (sym (merge_pages f.layout f.state f.area (length row) opens (lent_open f.layout f.state (length f.area) (length row) opens first.enters refl e) refl opens first.passes))
+        (sym (check_pages f.layout g.state g.area opens second.enters refl opens second.passes))
 
     tells_clash : (k : ℕ) → ((number f row g ≡ 13) × ((says f row g).numbers.value ≡ k)) ↔ (lowest_clash key same a.held b.held ≡ some k)
     tells_clash k = go comes

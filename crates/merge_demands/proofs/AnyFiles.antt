@@ -8,24 +8,27 @@ use Prim.Native.Nat.{ℕ, suc, ◌+◌, ◌*◌, ◌<◌}
 use native.Mathlib.Decide.{ℕ_discrete}
 use native.Mathlib.Omega.{arith}
 use lib.ListN.{length, drop}
+use Rattle.std.specs.Prelude.{Err}
 use Rattle.numbers.specs.Little.{Bytes}
 use Rattle.layouts.specs.Layout.{Layout}
 use Rattle.placing.specs.Image.{Distinct}
 use Rattle.pages.specs.Page.{key}
 use Rattle.state.specs.declared.State.{State}
-use Rattle.state.specs.declared.Answer.{Answer}
-use Rattle.state.specs.declared.Answer.TheVariants.{OutOfRange, WrongArea, WrongRow, Broken, NotImage}
-use Rattle.state.specs.Answer.{numbers}
+use Rattle.state.specs.declared.Refusal.{Refusal}
+use Rattle.state.specs.declared.Refusal.TheVariants.{OutOfRange, WrongArea, WrongRow, Broken, NotImage}
+use Rattle.state.specs.Answer.{refused}
 use Rattle.state.specs.Promises.{Ranged}
-use Rattle.gates.specs.declared.Gate.TheVariants.{Open}
-use Rattle.gates.specs.Gates.{image_gate, check_gate, merge_gate}
+use Rattle.gates.specs.Gates.{opens, image_gate, check_gate, merge_gate}
 use Rattle.gates.proofs.Gating.{check_shut, check_pages, lent_shut, lent_row, lent_open, merge_shut, merge_pages}
 use Rattle.register.specs.OneImage.{ImageOfR}
 use Rattle.register.specs.Files.{File, file_in}
 use Rattle.demands.specs.Refusals.{RightArea, SomeBroken, LowestBroken}
 use Rattle.demands.proofs.InOrder.{listed, none_of, ranks, Comes, in_order}
 use Rattle.demands.proofs.Causes.{Enters, out, other, entered, enter, Pages, sick, strange, whole, judge}
+use Rattle.sites.specs.declared.Which.{Which}
+use Rattle.sites.specs.declared.Which.TheVariants.{First, Second}
 use Rattle.sites.specs.Held.{held_in, same}
+use Rattle.sites.specs.Told.{file_of}
 use Rattle.two_sets.proofs.Clash.{lowest_clash_lem, no_clash}
 use Rattle.merges.specs.declared.MergedNumbers.{MergedNumbers}
 use Rattle.merges.specs.Merge.{Outcome, refused_file, merged_numbers}
@@ -69,8 +72,8 @@ module _ (f : File) (row : List ℕ) (g : File) where
     broken : refusal o ≡ 4 → SickPage (tells o).file (tells o).numbers.page
 
   -- a file is refused
-  module _ (file before : ℕ) (why : Answer) (p : listed (numbers why).refusal (0 ∷ 7 ∷ 13 ∷ []) ≡ false) (w : Comes (file * 100 + (numbers why).refusal) (order f row g) (order f row g)) (n : Good → ⊥) where
-    refuses : ((numbers why).refusal ≡ 4 → SickPage file (numbers why).page) → Decided (refused_file s f.area row file before why)
+  module _ (file : Which) (before : ℕ) (why : Refusal) (p : listed (refused why).refusal (0 ∷ 7 ∷ 13 ∷ []) ≡ false) (w : Comes (file_of file * 100 + (refused why).refusal) (order f row g) (order f row g)) (n : Good → ⊥) where
+    refuses : ((refused why).refusal ≡ 4 → SickPage (file_of file) (refused why).page) → Decided (refused_file s f.area row file before why)
     refuses b =
         record {
           comes = w;
@@ -82,12 +85,12 @@ module _ (f : File) (row : List ℕ) (g : File) where
           broken = b;
         }
 
-    plainly : listed (numbers why).refusal (4 ∷ []) ≡ false → Decided (refused_file s f.area row file before why)
+    plainly : listed (refused why).refusal (4 ∷ []) ≡ false → Decided (refused_file s f.area row file before why)
     plainly q = refuses (λ e. absurd (none_of _ (4 ∷ []) q (inl e)))
 
   module _ (b : Bytes f.area) (c : Bytes g.area) where
     -- past the living file and its row
-    module _ (r : Ranged l s) (q : RightArea s f.area) (d : length row ≡ s.cap) (w : SomeBroken f → ⊥) (m : ImageOfR l s f.area) (e : merge_gate l s f.area (length row) ≡ Open) where
+    module _ (r : Ranged l s) (q : RightArea s f.area) (d : length row ≡ s.cap) (w : SomeBroken f → ⊥) (m : ImageOfR l s f.area) (e : merge_gate l s f.area (length row) ≡ opens) where
       past : (k : ℕ) → Comes k (order f row g) (drop 5 (order f row g)) → Comes k (order f row g) (order f row g)
       past k v = inr (r, inr (q, inr (d, inr (w, inr (m, v)))))
 
@@ -147,10 +150,10 @@ module _ (f : File) (row : List ℕ) (g : File) where
       second : Enters l t g.area → Decided (merging f row g)
       second (out r' i) =
           rw (second_shut f g row e OutOfRange (sym (check_shut l t g.area _ refl OutOfRange i)))
-          (plainly 2 s.cap OutOfRange refl (past 201 (inl (r', refl))) (λ a. r' a.4) refl)
+          (plainly Second s.cap OutOfRange refl (past 201 (inl (r', refl))) (λ a. r' a.4) refl)
       second (other r' q' i) =
           rw (second_shut f g row e WrongArea (sym (check_shut l t g.area _ refl WrongArea i)))
-          (plainly 2 s.cap WrongArea refl (past 202 (inr (r', inl (q', refl)))) (λ a. q' a.5) refl)
+          (plainly Second s.cap WrongArea refl (past 202 (inr (r', inl (q', refl)))) (λ a. q' a.5) refl)
       second (entered r' q' i) = go (judge (read_as f g) c r' q')
         where
           decide : check_gate l t g.area ≡ image_gate l t g.area
@@ -159,35 +162,35 @@ module _ (f : File) (row : List ℕ) (g : File) where
           go : Pages (read_as f g) → Decided (merging f row g)
           go (sick a w' z k) =
               rw (second_shut f g row e (Broken a (suc a)) (decide ∙ k))
-              (refuses 2 s.cap (Broken a (suc a)) refl (past 204 (inr (r', inr (q', inl ((a, w'.broken), refl))))) (λ v. z v.6) (λ x. ((λ y. absurd (omega arith)), (λ y. w'))))
+              (refuses Second s.cap (Broken a (suc a)) refl (past 204 (inr (r', inr (q', inl ((a, w'.broken), refl))))) (λ v. z v.6) (λ x. ((λ y. absurd (omega arith)), (λ y. w'))))
           go (strange w' z k) =
               rw (second_shut f g row e (NotImage t.cap) (decide ∙ k))
-              (plainly 2 s.cap (NotImage t.cap) refl (past 209 (inr (r', inr (q', inr (w', inl (z, refl)))))) (λ v. z v.6) refl)
+              (plainly Second s.cap (NotImage t.cap) refl (past 209 (inr (r', inr (q', inr (w', inl (z, refl)))))) (λ v. z v.6) refl)
           go (whole w' m' k) = settled r' q' w' m' (settle f g (holds l s f.area b q m) (holds l t g.area c q' m') row e (decide ∙ k))
 
     -- the living file
     first : Enters l s f.area → Decided (merging f row g)
     first (out r i) =
         rw (first_shut f g row OutOfRange (sym (merge_shut l s f.area (length row) _ refl OutOfRange (sym (lent_shut l s (length f.area) (length row) _ refl OutOfRange i)))))
-        (plainly 1 0 OutOfRange refl (inl (r, refl)) (λ a. r a.1) refl)
+        (plainly First 0 OutOfRange refl (inl (r, refl)) (λ a. r a.1) refl)
     first (other r q i) =
         rw (first_shut f g row WrongArea (sym (merge_shut l s f.area (length row) _ refl WrongArea (sym (lent_shut l s (length f.area) (length row) _ refl WrongArea i)))))
-        (plainly 1 0 WrongArea refl (inr (r, inl (q, refl))) (λ a. q a.2) refl)
+        (plainly First 0 WrongArea refl (inr (r, inl (q, refl))) (λ a. q a.2) refl)
     first (entered r q i) = rows (ℕ_discrete (length row) s.cap)
       where
         pages : (d : length row ≡ s.cap) → merge_gate l s f.area (length row) ≡ image_gate l s f.area → Pages f → Decided (merging f row g)
         pages d o (sick a w z k) =
             rw (first_shut f g row (Broken a (suc a)) (o ∙ k))
-            (refuses 1 0 (Broken a (suc a)) refl (inr (r, inr (q, inr (d, inl ((a, w.broken), refl))))) (λ v. z v.0) (λ x. ((λ y. w), (λ y. absurd (omega arith)))))
+            (refuses First 0 (Broken a (suc a)) refl (inr (r, inr (q, inr (d, inl ((a, w.broken), refl))))) (λ v. z v.0) (λ x. ((λ y. w), (λ y. absurd (omega arith)))))
         pages d o (strange w z k) =
             rw (first_shut f g row (NotImage s.cap) (o ∙ k))
-            (plainly 1 0 (NotImage s.cap) refl (inr (r, inr (q, inr (d, inr (w, inl (z, refl)))))) (λ v. z v.0) refl)
+            (plainly First 0 (NotImage s.cap) refl (inr (r, inr (q, inr (d, inr (w, inl (z, refl)))))) (λ v. z v.0) refl)
         pages d o (whole w m k) = second r q d w m (o ∙ k) (enter l t g.area)
 
         rows : Dec (length row ≡ s.cap) → Decided (merging f row g)
         rows (no d) =
             rw (first_shut f g row WrongRow (sym (merge_shut l s f.area (length row) _ refl WrongRow (sym (lent_row l s (length f.area) (length row) _ refl i d)))))
-            (plainly 1 0 WrongRow refl (inr (r, inr (q, inl (d, refl)))) (λ a. d a.3) refl)
+            (plainly First 0 WrongRow refl (inr (r, inr (q, inl (d, refl)))) (λ a. d a.3) refl)
         rows (yes d) = pages d (sym (merge_pages l s f.area (length row) _ refl (sym (lent_open l s (length f.area) (length row) _ refl i d)) (image_gate l s f.area) refl)) (judge f b r q)
 
     decided : Decided (merging f row g)

@@ -6,6 +6,7 @@ use mathlib.Core.List.{List}
 use Prim.Native.Nat.{ℕ, ◌+◌}
 use lib.ListN.{length}
 use borrow.Author.Tests.{eq-eqb, ne_eqb}
+use Rattle.std.specs.Prelude.{Ok, Err}
 use Rattle.layouts.specs.Layout.{Layout, slots_of}
 use Rattle.placing.specs.Image.{All, RecordSet, Image}
 use Rattle.placing.specs.Lay.{taken}
@@ -17,20 +18,20 @@ use Rattle.pages.specs.Small.{Small}
 use Rattle.pages.specs.Area.{area_from}
 use Rattle.rebuild.specs.Relaid.{laid_out}
 use Rattle.state.specs.declared.State.{State}
-use Rattle.state.specs.declared.Answer.{Answer}
+use Rattle.state.specs.declared.Refusal.{Refusal}
 use Rattle.state.specs.State.{homes, holding}
 use Rattle.state.specs.Promises.{Ranged}
 use Rattle.walks.proofs.Clean.{image_clean, clean_pass}
-use Rattle.gates.specs.declared.Gate.TheVariants.{Open, Shut}
-use Rattle.gates.specs.Gates.{merge_gate, check_gate}
+use Rattle.gates.specs.Gates.{opens, merge_gate, check_gate}
 use Rattle.register.specs.OneImage.{AreaImage}
 use Rattle.register.specs.Files.{File}
 use Rattle.register.proofs.ImageCalls.{room_told}
+use Rattle.sites.specs.declared.Which.TheVariants.{First, Second}
 use Rattle.sites.specs.Held.{held_in, same}
 use Rattle.two_sets.specs.Union.{missing, union, lowest_clash}
 use Rattle.two_sets.proofs.Union.{missing_all, union_set}
-use Rattle.merges.specs.declared.Merged.TheVariants.{Joined, Clash, NoRoom}
-use Rattle.merges.specs.Merge.{Outcome, refused, refused_file, joined, settled, merged}
+use Rattle.merges.specs.declared.MergeRefusal.TheVariants.{Clash, NoRoom}
+use Rattle.merges.specs.Merge.{done, Outcome, refused, refused_file, joined, settled, merged}
 use Rattle.merge_demands.specs.MergeDemands.{merging, both, RoomForBoth, Joins}
 use Rattle.merge_demands.proofs.Held.{Holds}
 
@@ -65,20 +66,20 @@ module _ (f g : File) where
 
   -- an accepted merge
   abbrev pub joined_to : Outcome
-  joined_to = record { merge = record { state = holding s (length (both f g)); answer = Joined (s.cap + t.cap) }; area = area_from l 0 pages_of; row = row_of }
+  joined_to = record { merge = done (holding s (length (both f g))) (Ok (record { read = s.cap + t.cap })); area = area_from l 0 pages_of; row = row_of }
 
   module _ (row : List ℕ) where
     -- a file that is refused
-    pub first_shut : (why : Answer) → merge_gate l s area (length row) ≡ Shut why → merging f row g ≡ refused_file s area row 1 0 why
+    pub first_shut : (why : Refusal) → merge_gate l s area (length row) ≡ Err why → merging f row g ≡ refused_file s area row First 0 why
     unfolding merged
     first_shut why e = rw e
 
-    module _ (e : merge_gate l s area (length row) ≡ Open) where
-      pub second_shut : (why : Answer) → check_gate l t g.area ≡ Shut why → merging f row g ≡ refused_file s area row 2 s.cap why
+    module _ (e : merge_gate l s area (length row) ≡ opens) where
+      pub second_shut : (why : Refusal) → check_gate l t g.area ≡ Err why → merging f row g ≡ refused_file s area row Second s.cap why
       unfolding merged
       second_shut why q = rw (e, q)
 
-      both_open : check_gate l t g.area ≡ Open → merging f row g ≡ settled l s area row t g.area
+      both_open : check_gate l t g.area ≡ opens → merging f row g ≡ settled l s area row t g.area
       unfolding merged
       both_open q = rw (e, q)
 
@@ -106,7 +107,7 @@ module _ (f g : File) where
     pub both_set : RecordSet key (both f g)
     both_set = union_set key (held_in l s area) (held_in l t g.area) own.set others.set
 
-    pub settle : (row : List ℕ) → merge_gate l s area (length row) ≡ Open → check_gate l t g.area ≡ Open → Settles row
+    pub settle : (row : List ℕ) → merge_gate l s area (length row) ≡ opens → check_gate l t g.area ≡ opens → Settles row
     settle row e q = go lowest_of refl
       where
         room : lowest_of ≡ none → Dec (RoomForBoth f g) → Settles row

@@ -12,8 +12,7 @@ use Rattle.pages.specs.Page.{Record, key}
 use Rattle.pages.specs.Small.{Small}
 use Rattle.state.specs.declared.State.{State}
 use Rattle.walks.proofs.Clean.{clean_held}
-use Rattle.gates.specs.declared.Gate.TheVariants.{Open}
-use Rattle.gates.specs.Gates.{gate_of, image_gate}
+use Rattle.gates.specs.Gates.{opens, gate_of, image_gate}
 use Rattle.gates.proofs.Judging.{held_set}
 use Rattle.register.specs.OneImage.{ImageOfR}
 use Rattle.register.specs.Files.{File}
@@ -45,8 +44,8 @@ pub record Stood (m : Kept) (f : File) : Type 0 where
   pub bytes : Bytes f.area
   pub long : RightArea f.state f.area
   pub image : ImageOfR f.layout f.state f.area
-  pub enters : Open ≡ gate_of f.layout f.state (length f.area)
-  pub passes : Open ≡ image_gate f.layout f.state f.area
+  pub enters : opens ≡ gate_of f.layout f.state (length f.area)
+  pub passes : opens ≡ image_gate f.layout f.state f.area
   pub held : Permᴰ (held_in f.layout f.state f.area) m.held
   pub set : RecordSet key m.held
   pub small : All (Small m.layout) m.held

@@ -8,6 +8,7 @@ use native.Mathlib.Omega.{arith}
 use lib.Dec.{eqb}
 use lib.ListN.{length}
 use borrow.Author.Tests.{eqb-true}
+use Rattle.std.specs.Prelude.{Option as Optional, None, Some, Ok, Err}
 use Rattle.layouts.specs.Layout.{in_use}
 use Rattle.homes.specs.Homes.{home_in}
 use Rattle.homes.proofs.Homes.{home_below}
@@ -25,6 +26,7 @@ use Rattle.pages.specs.Area.{area_from}
 use Rattle.rebuild.specs.Relaid.{laid_out}
 use Rattle.rebuild.specs.Steps.Rebuild.{slots}
 use Rattle.state.specs.declared.State.{State}
+use Rattle.state.specs.declared.Done.{Done}
 use Rattle.state.specs.State.{homes, holding}
 use Rattle.sites.specs.declared.Site.{Site}
 use Rattle.sites.specs.Held.{held_in, same}
@@ -36,15 +38,18 @@ use Rattle.two_sets.specs.Steps.Lowest.{lowest_in}
 use Rattle.two_sets.proofs.Union.{union_set}
 use Rattle.two_sets.proofs.Lowest.{lowest_cong, lowest_in_lem, lacking-missing}
 use Rattle.two_sets.proofs.Rooms.{comm, sorted_alike}
-use Rattle.unions.specs.declared.Clash.{Clash}
 use Rattle.unions.specs.Steps.Both.{clash_by, lacking_on, both_of}
-use Rattle.merges.specs.declared.Merged.TheVariants.{Joined, NoRoom}
-use Rattle.merges.specs.declared.MergeDone.{MergeDone}
-use Rattle.merges.specs.Merge.{Outcome, joined}
+use Rattle.merges.specs.declared.MergeRefusal.TheVariants.{NoRoom}
+use Rattle.merges.specs.Merge.{Merged, done, Outcome, joined}
 
 -- an answer and an area are those of an outcome
-abbrev pub Comes : MergeDone → List ℕ → Outcome → Type 0
+abbrev pub Comes : Done Merged → List ℕ → Outcome → Type 0
 Comes r area o = (r ≡ o.merge) × (area ≡ o.area)
+
+-- where the code tells no clash
+pub none_left : (c : Optional ℕ) → ((k : ℕ) → c ≡ Some k → ⊥) → clash_by c ≡ none
+none_left None n = refl
+none_left (Some k) n = absurd (n k refl)
 
 module _ (s : State) (area : List ℕ) (t : State) (other : List ℕ) (k : Known s area) (j : Known t other) where
   abbrev mine : List Record
@@ -70,7 +75,7 @@ module _ (s : State) (area : List ℕ) (t : State) (other : List ℕ) (k : Known
   lowest_told = lowest_cong key same (look (site_of t) other) (λ i. seek key i theirs) mine none looks ∙ lowest_in_lem key same mine theirs k.set j.set
 
   module _ (here there : Site) (p : here ≡ site_of s) (q : there ≡ site_of t) where
-    pub clash_told : (c : Clash) → clash_by c ≡ lowest_in key same (look there other) (on_pages here area) none → clash_by c ≡ lowest_clash key same mine theirs
+    pub clash_told : (c : Optional ℕ) → clash_by c ≡ lowest_in key same (look there other) (on_pages here area) none → clash_by c ≡ lowest_clash key same mine theirs
     clash_told c e = (rw (p, q) at e) ∙ lowest_told
 
     pub walkable : Walkable area here × Walkable other there
@@ -102,7 +107,7 @@ module _ (s : State) (area : List ℕ) (t : State) (other : List ℕ) (k : Known
       rooms : eqb (taken (home_for (homes s)) slots both s.cap) (length both) ≡ room
       rooms = sym (told ∙ rw filled (row_room (home_for (homes s)) slots both s.cap (homes_low both)))
 
-      pub join_full : room ≡ false → Comes (record { state = s; answer = NoRoom read }) area (joined in_use s area both read)
+      pub join_full : room ≡ false → Comes (done s (Err (NoRoom read))) area (joined in_use s area both read)
       unfolding joined
       join_full e = rw (rooms, e) (refl, refl)
 
@@ -116,12 +121,12 @@ module _ (s : State) (area : List ℕ) (t : State) (other : List ℕ) (k : Known
 
         -- and is laid as both are
         lays : (r : ℕ) → r ≡ length met → (new : List ℕ) → new ≡ area_from in_use 0 (laid_out slots (homes s) s.cap met) → (x : State) → x ≡ holding s r
-            → Comes (record { state = x; answer = Joined read }) new (joined in_use s area both read)
+            → Comes (done x (Ok (record { read = read }))) new (joined in_use s area both read)
         unfolding joined
         lays r q new f x g =
             let many : holding s r ≡ holding s (length both) = rw (q, perm-length met-both) in
             let pages : area_from in_use 0 (laid_out slots (homes s) s.cap met) ≡ area_from in_use 0 (laid_out slots (homes s) s.cap both) = rw (sorted_alike key (homes s) met-both fits.0) in
-            rw (rooms, e) (ap (λ (z : State). record { state = z; answer = Joined read }) (g ∙ many), f ∙ pages)
+            rw (rooms, e) (ap (λ (z : State). done z (Ok (record { read = read }))) (g ∙ many), f ∙ pages)
 
         -- the same of the sites that the code has
         module _ (here there : Site) (p : here ≡ site_of s) (q : there ≡ site_of t) where
@@ -131,5 +136,5 @@ module _ (s : State) (area : List ℕ) (t : State) (other : List ℕ) (k : Known
 
           pub join_laid : (r : ℕ) (new : List ℕ)
               → (r ≡ length (both_of here area there other)) × (new ≡ area_from in_use 0 (laid_out slots (home_in here.shape) here.cap (both_of here area there other)))
-              → (x : State) → x ≡ holding s r → Comes (record { state = x; answer = Joined read }) new (joined in_use s area both read)
+              → (x : State) → x ≡ holding s r → Comes (done x (Ok (record { read = read }))) new (joined in_use s area both read)
           join_laid r new f = let g = rw (p, q) at f in lays r g.0 new g.1

@@ -3,125 +3,93 @@
 // not by the code under test.
 #![tactic(auto)]
 
-ghost use Rattle.std.specs.Prelude.{◌≡◌, ◌+◌, ◌≤◌, ◌<◌, length};
+ghost use Rattle.std.specs.Prelude.{◌≡◌, ◌+◌, ◌≤◌, length, IsSome};
 
+use Number::{Long, Short};
 use homes::{Params, Shape};
-use layouts::{TEN, TWELVE};
+use layouts::{Layout, Ten, Twelve};
 use std::io;
 use std::io::Write;
 
-fn slot(part: &mut [u8], i: usize, kind: u16, key: u64, value: u64)
-    requires { (i < 12) × (length part.old ≡ 256) }
-{
-    let at = 16 + 20 * i;
-    numbers::put_u16(part, at, 20);
-    numbers::put_u16(part, at + 2, kind);
-    numbers::put_u64(part, at + 4, key);
-    numbers::put_u64(part, at + 12, value);
+// A number of a page: of two bytes, or of eight.
+#[derive(Clone, Copy)]
+enum Number {
+    Short(u16),
+    Long(u64),
 }
 
-fn empty_slots(part: &mut [u8])
-    requires { length part.old ≡ 256 }
+// A slot. One of the layout of ten has a run, and is four bytes longer for it.
+fn write_slot(slot: &mut [u8], kind: u16, key: u64, value: u64, run: Option<u32>)
+    requires { (20 ≤ length slot.old) × (IsSome run → length slot.old ≡ 24) }
 {
-    let mut i = 3;
-    while i < 12 {
-        slot(part, i, 0, 0, 0);
-        i += 1;
+    numbers::put(slot, 2, kind);
+    numbers::put(slot, 4, key);
+    numbers::put(slot, 12, value);
+    match run {
+        None => numbers::put::<u16>(slot, 0, 20),
+        Some(run) => {
+            numbers::put::<u16>(slot, 0, 24);
+            numbers::put(slot, 20, run);
+        }
     }
 }
 
-// A slot of the layout of ten: four bytes longer, with a run.
-fn slot_of_ten(part: &mut [u8], i: usize, kind: u16, key: u64, value: u64, run: u32)
-    requires { (i < 10) × (length part.old ≡ 256) }
+fn write_head(page: &mut [u8], kind: u16)
+    requires { length page.old ≡ 256 }
 {
-    let at = 16 + 24 * i;
-    numbers::put_u16(part, at, 24);
-    numbers::put_u16(part, at + 2, kind);
-    numbers::put_u64(part, at + 4, key);
-    numbers::put_u64(part, at + 12, value);
-    numbers::put_u32(part, at + 20, run);
+    numbers::put::<u16>(page, 0, 256);
+    numbers::put(page, 2, kind);
+    numbers::put::<u32>(page, 4, 5);
+    numbers::put::<u16>(page, 8, 3);
+    numbers::put::<u16>(page, 10, 0);
+    numbers::put::<u32>(page, 12, 0);
 }
 
-fn head(part: &mut [u8], kind: u16)
-    requires { length part.old ≡ 256 }
-{
-    numbers::put_u16(part, 0, 256);
-    numbers::put_u16(part, 2, kind);
-    numbers::put_u32(part, 4, 5);
-    numbers::put_u16(part, 8, 3);
-    numbers::put_u16(part, 10, 0);
-    numbers::put_u32(part, 12, 0);
-}
-
-// Page 5 of a file of eight pages, with keys 4, 5 and 13, whose homes are 4, 5 and 5.
-fn good_twelve(part: &mut [u8])
-    requires { length part.old ≡ 256 }
-{
-    head(part, 0x0011);
-    slot(part, 0, 1, 4, 40);
-    slot(part, 1, 1, 5, 50);
-    slot(part, 2, 1, 13, 0);
-    empty_slots(part);
-}
-
-fn empty_of_ten(part: &mut [u8])
-    requires { length part.old ≡ 256 }
-{
-    slot_of_ten(part, 3, 0, 0, 0, 0);
-    slot_of_ten(part, 4, 0, 0, 0, 0);
-    slot_of_ten(part, 5, 0, 0, 0, 0);
-    slot_of_ten(part, 6, 0, 0, 0, 0);
-    slot_of_ten(part, 7, 0, 0, 0, 0);
-    slot_of_ten(part, 8, 0, 0, 0, 0);
-    slot_of_ten(part, 9, 0, 0, 0, 0);
-}
-
-// The same records in the layout of ten, with runs 7, 0 and the highest there is.
-fn good_ten(part: &mut [u8])
-    requires { length part.old ≡ 256 }
-{
-    head(part, 0x0021);
-    slot_of_ten(part, 0, 1, 4, 40, 7);
-    slot_of_ten(part, 1, 1, 5, 50, 0);
-    slot_of_ten(part, 2, 1, 13, 0, 4294967295);
-    empty_of_ten(part);
-}
-
-fn good_page(part: &mut [u8], layout: u8)
-    requires { length part.old ≡ 256 }
-{
-    if layout == TWELVE {
-        good_twelve(part);
-    } else {
-        good_ten(part);
+// Page 5 of a file of eight pages, with keys 4, 5 and 13, whose homes are 4, 5 and 5. In the layout
+// of ten their runs are 7, 0 and the highest there is.
+fn good_page<L: Layout>() -> [u8; 256] {
+    let has_run = L::HAS_RUN;
+    let width = if has_run { 24 } else { 20 };
+    let mut page = [0; 256];
+    write_head(&mut page[..], if has_run { 0x0021 } else { 0x0011 });
+    for (i, slot) in page[16..].chunks_exact_mut(width).enumerate() {
+        let (kind, key, value, run) = match i {
+            0 => (1, 4, 40, 7),
+            1 => (1, 5, 50, 0),
+            2 => (1, 13, 0, u32::MAX),
+            3.. => (0, 0, 0, 0),
+        };
+        write_slot(
+            slot,
+            kind,
+            key,
+            value,
+            if has_run { Some(run) } else { None },
+        );
     }
+    page
 }
 
-// A number of two or of eight bytes changed.
-fn change(part: &mut [u8], at: usize, eight: bool, x: u64)
-    requires { (at + 8 ≤ 256) × (length part.old ≡ 256) }
+fn change(page: &mut [u8], at: usize, number: Number)
+    requires { (at + 8 ≤ 256) × (length page.old ≡ 256) }
 {
-    if eight {
-        numbers::put_u64(part, at, x);
-    } else {
-        numbers::put_u16(part, at, (x % 65536) as u16);
+    match number {
+        Short(x) => numbers::put::<u16>(page, at, x),
+        Long(x) => numbers::put::<u64>(page, at, x),
     }
 }
 
 // The good page of a layout with a number changed, judged.
-fn judge_changed<W: Write>(
+fn judge_changed<L: Layout, W: Write>(
     out: &mut W,
-    layout: u8,
-    name: &[u8],
+    name: &str,
     at: usize,
-    eight: bool,
-    x: u64,
+    number: Number,
 ) -> io::Result<()>
     requires { at + 8 ≤ 256 }
 {
-    let mut bytes = [0; 256];
-    good_page(&mut bytes[..], layout);
-    change(&mut bytes[..], at, eight, x);
+    let mut page = good_page::<L>();
+    change(&mut page[..], at, number);
     let params = Params {
         n0: 1,
         n: 8,
@@ -129,101 +97,73 @@ fn judge_changed<W: Write>(
         edition: 1,
     };
     let shape = Shape::new(params, 8);
-    let judged = pages::judge(&bytes[..], 5, layout, shape);
-    out.write_all(name)?;
-    if judged.good {
-        out.write_all(b": good\n")
-    } else {
-        out.write_all(b": broken\n")
-    }
+    let is_good = pages::judge::<L>(&page[..], 5, shape).is_some();
+    writeln!(out, "{name}: {}", if is_good { "good" } else { "broken" })
 }
 
 fn head_cases<W: Write>(out: &mut W) -> io::Result<()> {
-    judge_changed(out, TWELVE, b"nothing changed", 0, false, 256)?;
-    judge_changed(out, TWELVE, b"head length 255", 0, false, 255)?;
-    judge_changed(out, TWELVE, b"head kind 0x0012", 2, false, 18)?;
-    judge_changed(out, TWELVE, b"address 6", 4, false, 6)?;
-    judge_changed(out, TWELVE, b"address 5 + 65536", 6, false, 1)?;
-    judge_changed(out, TWELVE, b"count 2, with three records", 8, false, 2)?;
-    judge_changed(out, TWELVE, b"count 4, with three records", 8, false, 4)?;
-    judge_changed(out, TWELVE, b"count 13", 8, false, 13)?;
-    judge_changed(out, TWELVE, b"first of the six zero bytes 1", 10, false, 1)?;
-    judge_changed(out, TWELVE, b"last of the six zero bytes 1", 14, false, 256)
+    judge_changed::<Twelve, _>(out, "nothing changed", 0, Short(256))?;
+    judge_changed::<Twelve, _>(out, "head length 255", 0, Short(255))?;
+    judge_changed::<Twelve, _>(out, "head kind 0x0012", 2, Short(18))?;
+    judge_changed::<Twelve, _>(out, "address 6", 4, Short(6))?;
+    judge_changed::<Twelve, _>(out, "address 5 + 65536", 6, Short(1))?;
+    judge_changed::<Twelve, _>(out, "count 2, with three records", 8, Short(2))?;
+    judge_changed::<Twelve, _>(out, "count 4, with three records", 8, Short(4))?;
+    judge_changed::<Twelve, _>(out, "count 13", 8, Short(13))?;
+    judge_changed::<Twelve, _>(out, "first of the six zero bytes 1", 10, Short(1))?;
+    judge_changed::<Twelve, _>(out, "last of the six zero bytes 1", 14, Short(256))
 }
 
 fn slot_cases<W: Write>(out: &mut W) -> io::Result<()> {
-    judge_changed(out, TWELVE, b"slot 0 with length 21", 16, false, 21)?;
-    judge_changed(out, TWELVE, b"slot 11 with length 19", 236, false, 19)?;
-    judge_changed(out, TWELVE, b"slot 0 with kind 2", 18, false, 2)?;
-    judge_changed(out, TWELVE, b"slot 1 empty before a record", 38, false, 0)?;
-    judge_changed(
-        out,
-        TWELVE,
-        b"slot 3 a record that is not counted",
-        78,
-        false,
-        1,
-    )?;
-    judge_changed(out, TWELVE, b"an empty slot with a key", 80, true, 21)?;
-    judge_changed(out, TWELVE, b"an empty slot with a value", 248, true, 1)?;
-    judge_changed(out, TWELVE, b"another value", 48, true, 51)
+    judge_changed::<Twelve, _>(out, "slot 0 with length 21", 16, Short(21))?;
+    judge_changed::<Twelve, _>(out, "slot 11 with length 19", 236, Short(19))?;
+    judge_changed::<Twelve, _>(out, "slot 0 with kind 2", 18, Short(2))?;
+    judge_changed::<Twelve, _>(out, "slot 1 empty before a record", 38, Short(0))?;
+    judge_changed::<Twelve, _>(out, "slot 3 a record that is not counted", 78, Short(1))?;
+    judge_changed::<Twelve, _>(out, "an empty slot with a key", 80, Long(21))?;
+    judge_changed::<Twelve, _>(out, "an empty slot with a value", 248, Long(1))?;
+    judge_changed::<Twelve, _>(out, "another value", 48, Long(51))
 }
 
 fn order_cases<W: Write>(out: &mut W) -> io::Result<()> {
-    judge_changed(out, TWELVE, b"home 6 on page 5", 60, true, 14)?;
-    judge_changed(out, TWELVE, b"a lower home after a higher one", 40, true, 3)?;
-    judge_changed(out, TWELVE, b"a lower key after a higher one", 40, true, 21)?;
-    judge_changed(out, TWELVE, b"a key twice", 40, true, 13)?;
-    judge_changed(out, TWELVE, b"another key in order", 60, true, 21)
+    judge_changed::<Twelve, _>(out, "home 6 on page 5", 60, Long(14))?;
+    judge_changed::<Twelve, _>(out, "a lower home after a higher one", 40, Long(3))?;
+    judge_changed::<Twelve, _>(out, "a lower key after a higher one", 40, Long(21))?;
+    judge_changed::<Twelve, _>(out, "a key twice", 40, Long(13))?;
+    judge_changed::<Twelve, _>(out, "another key in order", 60, Long(21))
 }
 
 fn ten_head_cases<W: Write>(out: &mut W) -> io::Result<()> {
-    judge_changed(out, TEN, b"ten: nothing changed", 0, false, 256)?;
-    judge_changed(out, TEN, b"ten: head length 240", 0, false, 240)?;
-    judge_changed(out, TEN, b"ten: head kind 0x0011", 2, false, 17)?;
-    judge_changed(out, TEN, b"ten: address 4", 4, false, 4)?;
-    judge_changed(out, TEN, b"ten: count 2, with three records", 8, false, 2)?;
-    judge_changed(out, TEN, b"ten: count 11", 8, false, 11)?;
-    judge_changed(out, TEN, b"ten: one of the six zero bytes 1", 12, false, 1)
+    judge_changed::<Ten, _>(out, "ten: nothing changed", 0, Short(256))?;
+    judge_changed::<Ten, _>(out, "ten: head length 240", 0, Short(240))?;
+    judge_changed::<Ten, _>(out, "ten: head kind 0x0011", 2, Short(17))?;
+    judge_changed::<Ten, _>(out, "ten: address 4", 4, Short(4))?;
+    judge_changed::<Ten, _>(out, "ten: count 2, with three records", 8, Short(2))?;
+    judge_changed::<Ten, _>(out, "ten: count 11", 8, Short(11))?;
+    judge_changed::<Ten, _>(out, "ten: one of the six zero bytes 1", 12, Short(1))
 }
 
 fn ten_slot_cases<W: Write>(out: &mut W) -> io::Result<()> {
-    judge_changed(out, TEN, b"ten: slot 0 with length 20", 16, false, 20)?;
-    judge_changed(out, TEN, b"ten: slot 9 with length 25", 232, false, 25)?;
-    judge_changed(out, TEN, b"ten: slot 2 with kind 2", 66, false, 2)?;
-    judge_changed(
+    judge_changed::<Ten, _>(out, "ten: slot 0 with length 20", 16, Short(20))?;
+    judge_changed::<Ten, _>(out, "ten: slot 9 with length 25", 232, Short(25))?;
+    judge_changed::<Ten, _>(out, "ten: slot 2 with kind 2", 66, Short(2))?;
+    judge_changed::<Ten, _>(
         out,
-        TEN,
-        b"ten: slot 3 a record that is not counted",
+        "ten: slot 3 a record that is not counted",
         90,
-        false,
-        1,
+        Short(1),
     )?;
-    judge_changed(out, TEN, b"ten: an empty slot with a key", 92, true, 21)?;
-    judge_changed(out, TEN, b"ten: an empty slot with a value", 244, true, 1)?;
-    judge_changed(
-        out,
-        TEN,
-        b"ten: an empty slot with a run",
-        248,
-        true,
-        4294967296,
-    )?;
-    judge_changed(out, TEN, b"ten: another run", 36, false, 8)
+    judge_changed::<Ten, _>(out, "ten: an empty slot with a key", 92, Long(21))?;
+    judge_changed::<Ten, _>(out, "ten: an empty slot with a value", 244, Long(1))?;
+    judge_changed::<Ten, _>(out, "ten: an empty slot with a run", 248, Long(4294967296))?;
+    judge_changed::<Ten, _>(out, "ten: another run", 36, Short(8))
 }
 
 fn ten_order_cases<W: Write>(out: &mut W) -> io::Result<()> {
-    judge_changed(out, TEN, b"ten: home 6 on page 5", 68, true, 14)?;
-    judge_changed(
-        out,
-        TEN,
-        b"ten: a lower home after a higher one",
-        44,
-        true,
-        3,
-    )?;
-    judge_changed(out, TEN, b"ten: a key twice", 44, true, 13)?;
-    judge_changed(out, TEN, b"ten: another key in order", 68, true, 21)
+    judge_changed::<Ten, _>(out, "ten: home 6 on page 5", 68, Long(14))?;
+    judge_changed::<Ten, _>(out, "ten: a lower home after a higher one", 44, Long(3))?;
+    judge_changed::<Ten, _>(out, "ten: a key twice", 44, Long(13))?;
+    judge_changed::<Ten, _>(out, "ten: another key in order", 68, Long(21))
 }
 
 fn main(rt: HostRuntime) -> io::Result<()> {

@@ -1,6 +1,6 @@
 -- The homes of a page's records, those that are known and those that are worked out, one by one.
 use mathlib.Core.Path.{◌≡◌, refl, sym, ap}
-use mathlib.Core.Bool.{Bool, true, false, not, ◌&&◌, ◌||◌, false≢true}
+use mathlib.Core.Bool.{Bool, true, false, not, ◌&&◌, ◌||◌, false≢true, cond}
 use mathlib.Core.List.{List, [], ◌∷◌, map}
 use Prim.Native.Nat.{ℕ, zero, suc, ◌+◌, ◌-◌, ◌≤◌, ◌<◌}
 use native.Mathlib.Numerals.{add-one}
@@ -16,7 +16,9 @@ use Rattle.pages.specs.declared.Page.{Page}
 use Rattle.pages.specs.Page.{Record, vacant, home_for, count_in, records_in, padded, in_memory}
 use Rattle.pages.specs.Steps.Slots.{paired, records_of}
 use Rattle.pages.specs.Area.{part_at}
-use Rattle.pages.specs.Steps.Known.{AllHere, OnceHere, Known, full_before, KnownHere, KnownAt}
+use Rattle.pages.specs.Steps.Known.{AllHere, OnceHere, Known, KnownAs, full_before, KnownHere, KnownAt}
+use Rattle.pages.specs.declared.known.AtHome.{AtHome}
+use Rattle.pages.specs.declared.known.AtHome.TheVariants.{All as AllKnown, AfterOne, Unknown}
 use Rattle.pages.proofs.Memory.{page_records}
 use Rattle.pages.proofs.Read.{row_starts, length_held}
 use Rattle.pages.proofs.Seeking.{paired-length, paired-key}
@@ -29,13 +31,24 @@ full_by_count f area (suc b) n z e =
     rw (e, m, length_held f (part_at area b))
 
 -- what is known of a page of an area, for the page as it is read
-pub known_page : (f : Layout) (new : NewHomes) (area : List ℕ) (a : ℕ) (p : Page) (u v : Bool) → p ≡ in_memory (records_in f (part_at area a)) → u ≡ keeps_at new a → v ≡ full_before f area a
-    → KnownAt f new area a → Known (new_home new) a (u && not v) u (records_of p)
-known_page f new area a p u v e s b k = rw (page_records p (records_in f (part_at area a)) e, s, b) k
+pub known_page : (f : Layout) (new : NewHomes) (area : List ℕ) (a : ℕ) (p : Page) (k : AtHome) → p ≡ in_memory (records_in f (part_at area a))
+    → k ≡ cond (keeps_at new a) (cond (full_before f area a) AfterOne AllKnown) Unknown
+    → KnownAt f new area a → KnownAs (new_home new) a k (records_of p)
+known_page f new area a p k e q w = rw (q, page_records p (records_in f (part_at area a)) e) (go (keeps_at new a) (full_before f area a) w)
+  where
+    go : (u v : Bool) → Known (new_home new) a (u && not v) u (records_in f (part_at area a)) → KnownAs (new_home new) a (cond u (cond v AfterOne AllKnown) Unknown) (records_in f (part_at area a))
+    go true true w = w.1 refl
+    go true false w = w.0 refl
+    go false v w = tt
 
-pub here_page : (f : Layout) (h : ℕ → ℕ) (area : List ℕ) (a : ℕ) (p : Page) (v : Bool) → p ≡ in_memory (records_in f (part_at area a)) → v ≡ full_before f area a
-    → KnownHere f h area a → Known h a (not v) true (records_of p)
-here_page f h area a p v e b k = rw (page_records p (records_in f (part_at area a)) e, b) k
+pub here_page : (f : Layout) (h : ℕ → ℕ) (area : List ℕ) (a : ℕ) (p : Page) (k : AtHome) → p ≡ in_memory (records_in f (part_at area a))
+    → k ≡ cond (full_before f area a) AfterOne AllKnown
+    → KnownHere f h area a → KnownAs h a k (records_of p)
+here_page f h area a p k e q w = rw (q, page_records p (records_in f (part_at area a)) e) (go (full_before f area a) w)
+  where
+    go : (v : Bool) → Known h a (not v) true (records_in f (part_at area a)) → KnownAs h a (cond v AfterOne AllKnown) (records_in f (part_at area a))
+    go true w = w.1 refl
+    go false w = w.0 refl
 
 pub homes_page : (h : ℕ → ℕ) (p : Page) (rs : List Record) → p ≡ in_memory rs → padded (map (home_for h) (records_of p)) ≡ padded (map (home_for h) rs)
 homes_page h p rs e = ap (λ (s : List Record). padded (map (home_for h) s)) (page_records p rs e)
@@ -52,12 +65,12 @@ module _ (h : ℕ → ℕ) (a n : ℕ) (ks vs us : List ℕ) where
     pub after : once ≡ true → OnceHere h a (drop i rs)
     pub rest : sets homes i (map (home_for h) (drop i rs)) ≡ padded (map (home_for h) rs)
 
-  pub homing_starts : (all once : Bool) → n ≤ 12 → Known h a all once rs → Homing once (replicate 12 0) all 0
-  homing_starts all once few k =
+  pub homing_starts : (k : AtHome) (here once : Bool) → n ≤ 12 → (here ≡ true → k ≡ AllKnown) → (once ≡ true → k ≡ AfterOne) → KnownAs h a k rs → Homing once (replicate 12 0) here 0
+  homing_starts k here once few u v w =
       record {
         low = omega arith;
-        all = k.0;
-        after = k.1;
+        all = λ e. rw (u e) at w;
+        after = λ e. rw (v e) at w;
         rest = row_starts (map (home_for h) rs) (rw length-map (omega (arith, paired-length n ks vs us)));
       }
 

@@ -1,6 +1,7 @@
 -- The rules about homes and order, record by record, and what is judged of a page.
-use mathlib.Core.Path.{◌≡◌, refl, sym, ap, ◌∙◌}
-use mathlib.Core.Bool.{Bool, true, false, cond, ◌&&◌, ◌||◌, false≢true}
+use mathlib.Core.Path.{◌≡◌, refl, sym, ◌∙◌}
+use mathlib.Core.Bool.{Bool, true, false, cond, ◌&&◌, ◌||◌}
+use Rattle.std.specs.Prelude.{Option as Optional, Some, None}
 use mathlib.Core.Option.{Option, none, some}
 use mathlib.Core.List.{List, [], ◌∷◌, map}
 use Prim.Native.Nat.{ℕ, suc, ◌+◌, ◌≤◌, ◌<◌}
@@ -12,15 +13,10 @@ use lib.ListN.{length, drop, get_or, set, replicate, length-map, drop_of_length-
 use lib.Seq.{sets, drop-cons}
 use Rattle.layouts.specs.Layout.{Layout}
 use Rattle.pages.specs.declared.Judged.{Judged}
-use Rattle.pages.specs.Page.{Record, key, vacant, home_for, rank, homes_to, rises, well_formed, records_in, read_page, padded, judged}
+use Rattle.pages.specs.Page.{Record, key, vacant, home_for, rank, homes_to, rises, well_formed, records_in, read_page, padded, judged_page, judged}
 use Rattle.placing.specs.Lay.{ranked}
 use Rattle.pages.proofs.Rows.{row_at}
 use Rattle.pages.proofs.Read.{row_starts}
-
--- nothing is told of a broken page, whatever the homes
-pub judged-none : (g h : ℕ → ℕ) → judged g none ≡ judged h none
-unfolding judged
-judged-none g h = refl
 
 -- four tests in another order
 swap : (a b c d : Bool) → ((a && b) && (c && d)) ≡ ((a && c) && (b && d))
@@ -86,10 +82,10 @@ module _ (h : ℕ → ℕ) (address : ℕ) (rs : List Record) where
       stores = rw (next_record i l, next_key i l, ← e) at left.2
 
       -- a record that breaks a rule makes the page a broken one
-      pub judging_breaks : (out : Judged) → (leb home address && (eqb i 0 || next)) ≡ false → out ≡ judged (λ k. k) none → out ≡ judged h (cond kept (some rs) none)
-      judging_breaks out f o =
+      pub judging_breaks : (leb home address && (eqb i 0 || next)) ≡ false → None ≡ judged h (cond kept (some rs) none)
+      judging_breaks f =
           let no : kept ≡ false = sym judges ∙ rw f in
-          o ∙ judged-none (λ k. k) h ∙ rw no
+          rw no
 
       -- after one that keeps to them the others are left
       pub judging_goes_on : (leb home address && (eqb i 0 || next)) ≡ true → ToJudge (set homes i home) (ranked home (get_or ks i 0)) (i + 1)
@@ -99,56 +95,59 @@ module _ (h : ℕ → ℕ) (address : ℕ) (rs : List Record) where
 
     -- at the end the page is good
     pub judging_ends : (homes : List ℕ) (r i : ℕ) → n ≤ i → ToJudge homes r i
-        → ◌≡◌ {A = Judged} (record { good = true; count = n; keys = ks; homes = homes }) (judged h (cond kept (some rs) none))
-    unfolding judged
+        → ◌≡◌ {A = Optional Judged} (Some (record { count = n; keys = ks; homes = homes })) (judged h (cond kept (some rs) none))
+    unfolding judged_page
     judging_ends homes r i l left =
         let z : drop i rs ≡ [] = drop_of_length-le rs {i = i} (omega arith) in
         let good : true ≡ kept = rw z at left.1 in
         let stored : homes ≡ padded (map (home_for h) rs) = rw z at left.2 in
         rw (← good, ← stored, c, k)
 
-module _ (f : Layout) (h : ℕ → ℕ) (address : ℕ) (l : List ℕ) (out : Judged) where
+module _ (f : Layout) (h : ℕ → ℕ) (address : ℕ) (l : List ℕ) where
   -- a page whose bytes are not well formed is broken
-  pub judged_unformed : well_formed f address l ≡ false → out ≡ judged (λ k. k) none → out ≡ judged h (read_page f h address l)
+  pub judged_unformed : well_formed f address l ≡ false → None ≡ judged h (read_page f h address l)
   unfolding read_page
-  judged_unformed w o = o ∙ judged-none (λ k. k) h ∙ rw w
+  judged_unformed w = rw w
 
   -- one whose bytes are is judged by its records
-  pub judged_formed : well_formed f address l ≡ true
+  pub judged_formed : (out : Optional Judged) → well_formed f address l ≡ true
       → out ≡ judged h (cond (homes_to h address (records_in f l) && rises h (records_in f l)) (some (records_in f l)) none)
       → out ≡ judged h (read_page f h address l)
   unfolding read_page
-  judged_formed w o = rw w o
+  judged_formed out w o = rw w o
 
 -- a page that is judged broken is none
-pub judged_broken : (h : ℕ → ℕ) (o : Option (List Record)) (j : Judged) → j ≡ judged h o → j.good ≡ false → o ≡ none
-unfolding judged
-judged_broken h none j e b = refl
-judged_broken h (some rs) j e b = absurd (false≢true (sym b ∙ rw e))
+pub judged_broken : (h : ℕ → ℕ) (o : Option (List Record)) (r : Optional Judged) → r ≡ judged h o → r ≡ None → o ≡ none
+judged_broken h none r e b = refl
+judged_broken h (some rs) r e b = absurd (cc (sym b ∙ e))
+
+-- what is told of a page that has records
+told : (h : ℕ → ℕ) (o : Option (List Record)) (j : Judged) (rs : List Record) → Some j ≡ judged h o → o ≡ some rs → j ≡ judged_page h rs
+told h o j rs e s = cc (rw s at e)
 
 -- one that is judged good has the records that its bytes hold
-module _ (f : Layout) (h : ℕ → ℕ) (address : ℕ) (l : List ℕ) (j : Judged) (e : j ≡ judged h (read_page f h address l)) (g : j.good ≡ true) where
+module _ (f : Layout) (h : ℕ → ℕ) (address : ℕ) (l : List ℕ) (r : Optional Judged) (j : Judged) (e : r ≡ judged h (read_page f h address l)) (g : r ≡ Some j) where
   pub judged_good : read_page f h address l ≡ some (records_in f l)
-  unfolding read_page judged
+  unfolding read_page
   judged_good = go (well_formed f address l && (homes_to h address (records_in f l) && rises h (records_in f l))) e
     where
-      go : (u : Bool) → j ≡ judged h (cond u (some (records_in f l)) none) → cond u (some (records_in f l)) none ≡ some (records_in f l)
+      go : (u : Bool) → r ≡ judged h (cond u (some (records_in f l)) none) → cond u (some (records_in f l)) none ≡ some (records_in f l)
       go true k = refl
-      go false k = absurd (false≢true (rw k at g))
+      go false k = absurd (cc (sym g ∙ k))
 
-  pub judged_held : j ≡ judged h (some (records_in f l))
-  judged_held = e ∙ ap (judged h) judged_good
+  pub judged_held : j ≡ judged_page h (records_in f l)
+  judged_held = told h (read_page f h address l) j (records_in f l) (sym g ∙ e) judged_good
 
 -- and tells how many they are, and the key and the home of each
-module _ (h : ℕ → ℕ) (j : Judged) (rs : List Record) (e : j ≡ judged h (some rs)) where
+module _ (h : ℕ → ℕ) (j : Judged) (rs : List Record) (e : j ≡ judged_page h rs) where
   pub judged_count : j.count ≡ length rs
-  unfolding judged
+  unfolding judged_page
   judged_count = rw e
 
   pub judged_key : (i : ℕ) → i < j.count → get_or j.keys i 0 ≡ key (get_or rs i vacant)
-  unfolding judged
+  unfolding judged_page
   judged_key i l = rw e (row_at key rs _ i vacant (omega (arith, judged_count)))
 
   pub judged_home : (i : ℕ) → i < j.count → get_or j.homes i 0 ≡ h (key (get_or rs i vacant))
-  unfolding judged
+  unfolding judged_page
   judged_home i l = rw e (row_at (home_for h) rs _ i vacant (omega (arith, judged_count)))

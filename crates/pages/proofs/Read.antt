@@ -1,23 +1,22 @@
 -- What is read of a page's bytes: the records that they hold, and whether they are those of the
 -- records.
 use mathlib.Core.Path.{◌≡◌, refl, sym, ap, ◌∙◌}
-use mathlib.Core.Bool.{Bool, true, false, cond, ◌&&◌, and-true}
+use mathlib.Core.Bool.{Bool, true, false, cond, ◌&&◌}
 use mathlib.Core.List.{List, [], ◌∷◌, ◌++◌, map}
 use Prim.Native.Nat.{ℕ, zero, suc, ◌+◌, ◌-◌, ◌≤◌, ◌<◌}
-use native.Mathlib.Nat.{add_assoc, add-zero, zero-add, sub-zero}
+use native.Mathlib.Nat.{add-zero, zero-add, sub-zero}
 use native.Mathlib.Numerals.{add-one}
 use native.Mathlib.Omega.{arith}
-use borrow.Author.Tests.{eq-eqb, ltb-true, ltb-false}
-use lib.Dec.{eqb, ltb}
+use borrow.Author.Tests.{ltb-true, ltb-false}
+use lib.Dec.{ltb}
 use lib.ListN.{length, drop, get_or, set, replicate, length-map, length-replicate, replicate-append-replicate, get_or-eq_default}
 use lib.Seq.{sets, sets-eq}
-use Rattle.numbers.specs.Little.{number_at}
 use Rattle.numbers.specs.Fields.{Field, width, matches}
 use Rattle.numbers.proofs.Records.{matches-append}
-use Rattle.layouts.specs.Layout.{Layout, kind_of, slots_of, width_of, slot_at}
+use Rattle.layouts.specs.Layout.{Layout, slots_of, width_of, slot_at, has_run}
 use Rattle.layouts.proofs.Lying.{slots_few, slot_first, slot_next, slot_fits, width_low}
 use Rattle.pages.specs.declared.Page.{Page}
-use Rattle.pages.specs.Page.{Record, key, value, run, run_at, vacant, head, slot, record_slot, empty_slot, slots, record_in, records_from, count_in, records_in, well_formed, padded, in_memory}
+use Rattle.pages.specs.Page.{Record, key, value, run, vacant, head, slot, record_slot, empty_slot, slots, record_in, records_from, count_in, records_in, well_formed, padded, in_memory}
 use Rattle.pages.specs.Steps.Slots.{records_of}
 use Rattle.pages.proofs.Memory.{memory}
 
@@ -46,25 +45,6 @@ ready p rs e h = rw e (h, ap in_memory (sym (memory rs)))
 pub slot-width : (f : Layout) (kind : ℕ) (x : Record) → width (slot f kind x) ≡ width_of f
 slot-width zero kind x = omega arith
 slot-width (suc f) kind x = omega arith
-
--- the tests of a record's slot are those of its fields; the record is any numbers
-pub full_tests : (f : Layout) (l : List ℕ) (at : ℕ)
-    → (eqb (number_at 2 l at) (width_of f) && eqb (number_at 2 l (at + 2)) 1) ≡ matches l at (record_slot f (record_in f l at))
-full_tests f l at = go f
-  where
-    same : (n : ℕ) → eqb n n ≡ true
-    same n = eq-eqb n n refl
-
-    go : (g : Layout) → (eqb (number_at 2 l at) (width_of g) && eqb (number_at 2 l (at + 2)) 1) ≡ matches l at (record_slot g (record_in g l at))
-    go zero = simp (add_assoc, same, and-true)
-    go (suc f) = simp (add_assoc, same, and-true)
-
--- the tests of an empty slot are those of its fields
-pub empty_tests : (f : Layout) (l : List ℕ) (at : ℕ)
-    → (eqb (number_at 2 l at) (width_of f) && (eqb (number_at 2 l (at + 2)) 0 && (eqb (number_at 8 l (at + 4)) 0 && (eqb (number_at 8 l (at + 12)) 0 && eqb (run_at f l (at + 20)) 0))))
-    ≡ matches l at (empty_slot f)
-empty_tests zero l at = simp (add_assoc, and-true)
-empty_tests (suc f) l at = simp (add_assoc, and-true)
 
 module _ (f : Layout) where
   -- n slots have n records
@@ -103,47 +83,31 @@ module _ (f : Layout) where
   pub held_twelve : (l : List ℕ) → length (records_in f l) ≤ 12
   held_twelve l = omega (arith, held_few l, (slots_few f).1)
 
-  module _ (l : List ℕ) (count : ℕ) (c : count ≡ count_in f l) where
+  module _ (l : List ℕ) (count : ℕ) (g : Record → ℕ) where
     -- what is left to store of a row, from slot i on
-    abbrev pub RowLeft : (Record → ℕ) → List ℕ → ℕ → Type 0
-    RowLeft g row i = sets row i (map g (records_from f (count - i) i l)) ≡ padded (map g (records_in f l))
+    abbrev pub RowLeft : List ℕ → ℕ → Type 0
+    RowLeft row i = sets row i (map g (records_from f (count - i) i l)) ≡ padded (map g (records_in f l))
 
-    pub row_left : (g : Record → ℕ) → RowLeft g (replicate 12 0) 0
+    pub row_left : count ≡ count_in f l → RowLeft (replicate 12 0) 0
     unfolding records_in
-    row_left g = rw (c, sub-zero) (row_starts (map g (records_in f l)) (rw length-map (held_twelve l)))
+    row_left c = rw (c, sub-zero) (row_starts (map g (records_in f l)) (rw length-map (held_twelve l)))
 
-    pub row_turn : (g : Record → ℕ) (row : List ℕ) (i x : ℕ) → i < count → x ≡ g (record_in f l (slot_at f i)) → RowLeft g row i → RowLeft g (set row i x) (i + 1)
-    row_turn g row i x h q left =
-        let e : count - i ≡ suc (count - (i + 1)) = omega arith in
-        rw (q, add-one) (rw (e, add-one) at left)
+    module _ (row : List ℕ) (i : ℕ) (left : RowLeft row i) where
+      pub row_turn : (x : ℕ) → i < count → x ≡ g (record_in f l (slot_at f i)) → RowLeft (set row i x) (i + 1)
+      row_turn x h q =
+          let e : count - i ≡ suc (count - (i + 1)) = omega arith in
+          rw (q, add-one) (rw (e, add-one) at left)
 
-    pub row_done : (g : Record → ℕ) (row : List ℕ) (i : ℕ) → count ≤ i → RowLeft g row i → row ≡ padded (map g (records_in f l))
-    row_done g row i h left =
-        let e : count - i ≡ 0 = omega arith in
-        rw e at left
+      pub row_done : count ≤ i → row ≡ padded (map g (records_in f l))
+      row_done h =
+          let e : count - i ≡ 0 = omega arith in
+          rw e at left
 
-    -- so for the rows of a page: before the first turn all is left
-    abbrev pub ToStore : (ks vs : List ℕ) → ℕ → Type 0
-    ToStore ks vs i = RowLeft key ks i × RowLeft value vs i
-
-    pub parse_starts : ToStore (replicate 12 0) (replicate 12 0) 0
-    parse_starts = (row_left key, row_left value)
-
-    module _ (ks vs : List ℕ) (i : ℕ) (left : ToStore ks vs i) where
-      -- a turn stores the numbers of one slot
-      pub parse_turn : (x : Record) → i < count → x ≡ record_in f l (slot_at f i) → ToStore (set ks i (key x)) (set vs i (value x)) (i + 1)
-      parse_turn x h q = (row_turn key ks i (key x) h (ap key q) left.0, row_turn value vs i (value x) h (ap value q) left.1)
-
-      -- after the last turn the rows are those of the page in memory
-      pub parse_ends : (us : List ℕ) → us ≡ padded (map run (records_in f l)) → count ≤ i → ◌≡◌ {A = Page} (record { count = count; keys = ks; values = vs; runs = us }) (in_memory (records_in f l))
-      unfolding in_memory
-      parse_ends us u h = rw (row_done key ks i h left.0, row_done value vs i h left.1, u, length_held, ← c)
-
-  -- the tests of a head are those of its fields
-  pub head_tests : (l : List ℕ) (address used : ℕ)
-      → (eqb (number_at 2 l 0) 256 && (eqb (number_at 2 l 2) (kind_of f) && (eqb (number_at 4 l 4) address && (eqb (number_at 2 l 8) used && (eqb (number_at 2 l 10) 0 && eqb (number_at 4 l 12) 0)))))
-      ≡ matches l 0 (head f address used)
-  head_tests l address used = rw and-true
+  -- after the last turn the rows are those of the page in memory
+  pub parsed : (l ks vs us : List ℕ) (count : ℕ) → count ≡ count_in f l → ks ≡ padded (map key (records_in f l)) → vs ≡ padded (map value (records_in f l)) → us ≡ padded (map run (records_in f l))
+      → ◌≡◌ {A = Page} (record { count = count; keys = ks; values = vs; runs = us }) (in_memory (records_in f l))
+  unfolding in_memory
+  parsed l ks vs us count c k v u = rw (k, v, u, length_held, ← c)
 
   module _ (l : List ℕ) (count i : ℕ) where
     -- whether slot i is well formed
@@ -216,9 +180,10 @@ no_run : (n i : ℕ) (l : List ℕ) → map run (records_from 0 n i l) ≡ repli
 no_run zero i l = refl
 no_run (suc n) i l = ap (λ (s : List ℕ). 0 ∷ s) (no_run n (suc i) l)
 
-pub no_runs : (l : List ℕ) → ◌≡◌ {A = List ℕ} (replicate 12 0) (padded (map run (records_in 0 l)))
+pub no_runs : (f : Layout) (l : List ℕ) → has_run f ≡ false → ◌≡◌ {A = List ℕ} (replicate 12 0) (padded (map run (records_in f l)))
 unfolding records_in
-no_runs l =
+no_runs zero l h =
     let n = count_in 0 l in
     let e : n + (12 - n) ≡ 12 = omega arith in
     rw (no_run n 0 l, length-replicate, replicate-append-replicate, e)
+no_runs (suc f) l h = absurd (cc h)

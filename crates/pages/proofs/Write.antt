@@ -1,6 +1,8 @@
 -- The bytes of a page as they are written, slot by slot.
 use mathlib.Core.Path.{◌≡◌, refl, sym, ap, ◌∙◌}
-use mathlib.Core.List.{List, [], ◌∷◌, ◌++◌, map}
+use Rattle.std.specs.Prelude.{Option as Optional, Some, None}
+use mathlib.Core.Bool.{true, false}
+use mathlib.Core.List.{List, [], ◌∷◌, ◌++◌, map, append-nil}
 use Prim.Native.Nat.{ℕ, zero, suc, ◌+◌, ◌*◌, ◌-◌, ◌≤◌, ◌<◌}
 use native.Mathlib.Nat.{add-zero, zero-add, sub-zero}
 use native.Mathlib.Numerals.{add-one}
@@ -8,13 +10,13 @@ use native.Mathlib.Omega.{arith}
 use lib.ListN.{length, drop, get_or, replicate}
 use lib.Seq.{drop-drop}
 use borrow.Rule.Slice.PartMut.{put_mid}
-use Rattle.numbers.specs.Little.{Bytes, written}
+use Rattle.numbers.specs.Little.{Bytes, bytes_of, written}
 use Rattle.numbers.specs.Fields.{Field, width, encode}
 use Rattle.numbers.proofs.Laws.{written-nil, written_all, written-written}
 use Rattle.numbers.proofs.Records.{length-encode, width-append, encode-append, bytes_encode}
-use Rattle.layouts.specs.Layout.{Layout, slots_of, slot_at}
+use Rattle.layouts.specs.Layout.{Layout, slots_of, width_of, slot_at, has_run}
 use Rattle.layouts.proofs.Lying.{slot_first, slot_next, slot_end, slot_fits}
-use Rattle.pages.specs.Page.{Record, key, value, run, record_with, vacant, head, slot, slots, fields, page_bytes}
+use Rattle.pages.specs.Page.{Record, key, value, run, record_with, vacant, run_field, head, slot, slot_of, empty_slot, slots, fields, page_bytes}
 use Rattle.pages.proofs.Held.{Held}
 use Rattle.pages.proofs.Read.{slot-width}
 
@@ -24,6 +26,17 @@ pub fields_on : (fs gs : List Field) (l : List ℕ) (at to : ℕ) → at + width
 fields_on fs gs l at to e h =
     let n : at + length (encode fs) ≡ to = omega (arith, length-encode fs) in
     rw (encode-append, ← n) (written-written l at (encode fs) (encode gs) (omega arith))
+
+-- a run is written where slots have one
+pub run_written : (f : Layout) (l : List ℕ) (at r : ℕ) → has_run f ≡ true → written l at (bytes_of 4 r) ≡ written l at (encode (run_field f r))
+unfolding encode
+run_written zero l at r h = absurd (cc h)
+run_written (suc f) l at r h = rw append-nil
+
+pub no_run_written : (f : Layout) (l : List ℕ) (at r : ℕ) → has_run f ≡ false → l ≡ written l at (encode (run_field f r))
+unfolding encode
+no_run_written zero l at r h = sym (written-nil l at)
+no_run_written (suc f) l at r h = absurd (cc h)
 
 -- zeros stand in each place
 pub zeros : (m i : ℕ) → ◌≡◌ {A = ℕ} (get_or (replicate m 0) i 0) 0
@@ -64,40 +77,42 @@ module _ (f : Layout) where
   slot_used (x ∷ rs) ks vs us (suc i) n h = slot_used rs ks vs us i n (omega arith)
 
   -- past the records an empty slot, and then the others
-  slot_empty : (rs : List Record) (a b d i n : ℕ) → length rs ≤ i
-      → slots f (suc n) (drop i rs) ≡ slot f 0 (record_with (get_or (map key rs ++ replicate a 0) i 0) (get_or (map value rs ++ replicate b 0) i 0) (get_or (map run rs ++ replicate d 0) i 0)) ++ slots f n (drop (suc i) rs)
-  slot_empty [] a b d zero n h = rw (zeros a, zeros b, zeros d)
-  slot_empty [] a b d (suc i) n h = rw (zeros a, zeros b, zeros d)
-  slot_empty (x ∷ rs) a b d zero n h = absurd (omega arith)
-  slot_empty (x ∷ rs) a b d (suc i) n h = slot_empty rs a b d i n (omega arith)
+  slot_empty : (rs : List Record) (i n : ℕ) → length rs ≤ i → slots f (suc n) (drop i rs) ≡ empty_slot f ++ slots f n (drop (suc i) rs)
+  slot_empty [] zero n h = refl
+  slot_empty [] (suc i) n h = refl
+  slot_empty (x ∷ rs) zero n h = absurd (omega arith)
+  slot_empty (x ∷ rs) (suc i) n h = slot_empty rs i n (omega arith)
 
-  -- what is left to write at place i is a slot of this kind with what stands in the rows, and then
-  -- what is left at the next place
-  abbrev pub Next : ℕ → ℕ → List ℕ → List ℕ → List ℕ → List Record → Type 0
-  Next i kind ks vs us rs = slots f (slots_of f - i) (drop i rs) ≡ slot f kind (record_with (get_or ks i 0) (get_or vs i 0) (get_or us i 0)) ++ slots f (slots_of f - (i + 1)) (drop (i + 1) rs)
+  -- what is left to write at place i is this slot, and then what is left at the next place
+  abbrev pub Next : ℕ → Optional Record → List Record → Type 0
+  Next i x rs = slots f (slots_of f - i) (drop i rs) ≡ slot_of f x ++ slots f (slots_of f - (i + 1)) (drop (i + 1) rs)
 
-  module _ (i kind n : ℕ) (ks vs us : List ℕ) (rs : List Record) (h : Held n ks vs us rs) (t : i < slots_of f) where
+  module _ (i n : ℕ) (ks vs us : List ℕ) (rs : List Record) (h : Held n ks vs us rs) (t : i < slots_of f) (x : Optional Record) where
     more : slots_of f - i ≡ suc (slots_of f - (i + 1))
     more = omega arith
 
-    -- so it is with a record's kind below the count
-    pub next_used : i < n → kind ≡ 1 → Next i kind ks vs us rs
+    -- so it is with a record of the rows below the count
+    pub next_used : i < n → x ≡ Some (record_with (get_or ks i 0) (get_or vs i 0) (get_or us i 0)) → Next i x rs
     next_used lt k = rw (more, k, h.1, h.2, h.3, add-one) (slot_used rs _ _ _ i (slots_of f - suc i) (omega arith))
 
-    -- and with an empty slot's from the count on
-    pub next_empty : n ≤ i → kind ≡ 0 → Next i kind ks vs us rs
-    next_empty ge k = rw (more, k, h.1, h.2, h.3, add-one) (slot_empty rs (12 - length (map key rs)) (12 - length (map value rs)) (12 - length (map run rs)) i (slots_of f - suc i) (omega arith))
+    -- and with an empty slot from the count on
+    pub next_empty : n ≤ i → x ≡ None → Next i x rs
+    next_empty ge k = rw (more, k, add-one) (slot_empty rs i (slots_of f - suc i) (omega arith))
+
+  -- a slot of either kind has the width of the layout
+  slot_of-width : (x : Optional Record) → width (slot_of f x) ≡ width_of f
+  slot_of-width None = slot-width f 0 vacant
+  slot_of-width (Some x) = slot-width f 1 x
 
   -- a turn of the code writes a slot of what is left to write
-  pub slot_turn : (l m : List ℕ) (i kind : ℕ) (ks vs us : List ℕ) (rs : List Record) → i < slots_of f → length l ≡ 256
-      → m ≡ written l (slot_at f i) (encode (slot f kind (record_with (get_or ks i 0) (get_or vs i 0) (get_or us i 0))))
-      → Next i kind ks vs us rs
+  pub slot_turn : (l m : List ℕ) (i : ℕ) (x : Optional Record) (rs : List Record) → i < slots_of f → length l ≡ 256
+      → m ≡ written l (slot_at f i) (encode (slot_of f x))
+      → Next i x rs
       → written m (slot_at f (i + 1)) (encode (slots f (slots_of f - (i + 1)) (drop (i + 1) rs))) ≡ written l (slot_at f i) (encode (slots f (slots_of f - i) (drop i rs)))
-  slot_turn l m i kind ks vs us rs t n e next =
-      let x = record_with (get_or ks i 0) (get_or vs i 0) (get_or us i 0) in
-      let on : slot_at f i + width (slot f kind x) ≡ slot_at f (i + 1) = rw (slot-width f kind x, add-one) (slot_next f i) in
+  slot_turn l m i x rs t n e next =
+      let on : slot_at f i + width (slot_of f x) ≡ slot_at f (i + 1) = rw (slot_of-width x, add-one) (slot_next f i) in
       rw (e, next)
-      (fields_on (slot f kind x) (slots f (slots_of f - (i + 1)) (drop (i + 1) rs)) l (slot_at f i) (slot_at f (i + 1)) on (omega (arith, slot_fits f i t, slot-width f kind x)))
+      (fields_on (slot_of f x) (slots f (slots_of f - (i + 1)) (drop (i + 1) rs)) l (slot_at f i) (slot_at f (i + 1)) on (omega (arith, slot_fits f i t, slot_of-width x)))
 
   -- with the head written, all slots are left to write
   pub head_first : (l m : List ℕ) (address n : ℕ) (ks vs us : List ℕ) (rs : List Record) → length l ≡ 256

@@ -1,6 +1,7 @@
 -- A page: its records, its bytes and its rules (01, 'Bytes of a page'; 02, request 8, for the second
 -- layout), over any layout. What is quoted is 01's, or 02's where that is said.
-use Rattle.std.specs.Prelude.{ℕ, zero, suc, ◌+◌, ◌-◌, min, Bool, true, false, cond, ◌&&◌, List, [], ◌∷◌, ◌++◌, map, length, replicate, leb, ltb}
+use Rattle.std.specs.Prelude.{ℕ, zero, suc, ◌+◌, ◌-◌, min, Bool, true, cond, ◌&&◌, List, [], ◌∷◌, ◌++◌, map, length, replicate, leb, ltb}
+use Rattle.std.specs.Prelude.{Option as Optional, Some, None}
 use Rattle.std.proofs.Math.Option.{Option, none, some}
 use Rattle.numbers.specs.Little.{number_at}
 use Rattle.numbers.specs.Fields.{Field, encode, matches}
@@ -71,6 +72,11 @@ module _ (f : Layout) where
   abbrev pub empty_slot : List Field
   empty_slot = slot 0 vacant
 
+  -- the slot of a record, or an empty one
+  abbrev pub slot_of : Optional Record → List Field
+  slot_of None = empty_slot
+  slot_of (Some x) = record_slot x
+
   -- n slots: "Records stand first, empty slots after."
   abbrev pub slots : ℕ → List Record → List Field
   slots zero rs = []
@@ -134,7 +140,11 @@ padded xs = xs ++ replicate (12 - length xs) 0
 unfoldable pub in_memory : List Record → Page
 in_memory rs = record { count = length rs; keys = padded (map key rs); values = padded (map value rs); runs = padded (map run rs) }
 
--- a page as it was judged: of a good one its keys and their homes, of a broken one nothing
-unfoldable pub judged : (ℕ → ℕ) → Option (List Record) → Judged
-judged h none = record { good = false; count = 0; keys = padded []; homes = padded [] }
-judged h (some rs) = record { good = true; count = length rs; keys = padded (map key rs); homes = padded (map (home_for h) rs) }
+-- of a good page its keys and their homes
+unfoldable pub judged_page : (ℕ → ℕ) → List Record → Judged
+judged_page h rs = record { count = length rs; keys = padded (map key rs); homes = padded (map (home_for h) rs) }
+
+-- a page as it was judged: of a broken one nothing
+abbrev pub judged : (ℕ → ℕ) → Option (List Record) → Optional Judged
+judged h none = None
+judged h (some rs) = Some (judged_page h rs)

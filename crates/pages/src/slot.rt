@@ -4,66 +4,78 @@ ghost use Rattle.std.specs.Prelude.{◌≡◌, cond, ◌+◌, ◌≤◌, length}
 ghost use Rattle.numbers.specs.Fields.{encode, matches};
 ghost use Rattle.numbers.specs.Little.{written};
 ghost use Rattle.layouts.specs.Layout.{width_of};
-ghost use Rattle.pages.specs.Page.{run_at, run_field, slot, record_slot, empty_slot, record_in};
+ghost use Rattle.pages.specs.Page.{run_at, run_field, slot, slot_of, record_slot, empty_slot, record_in};
 
 use crate::Record;
-use layouts::TWELVE;
+use layouts::Layout;
 
 // The run of the slot at an offset, or 0 where slots have none.
-pub fn get_run(part: &[u8], at: usize, layout: u8) -> u64
-    requires { at + width_of layout ≤ length part.now }
-    ensures { result ≡ run_at layout part.now (at + 20) }
+pub fn get_run<L: Layout>(part: &[u8], at: usize) -> u64
+    requires { at + width_of L.layout ≤ length part.now }
+    ensures { result ≡ run_at L.layout part.now (at + 20) }
 {
-    if layout == TWELVE {
+    if !L::HAS_RUN {
         return 0;
     }
-    numbers::get_u32(part, at + 20) as u64
+    numbers::get::<u32>(part, at + 20) as u64
 }
 
 // What stands at the places of a record in the slot at an offset.
-pub fn get(part: &[u8], at: usize, layout: u8) -> Record
-    requires { (at + 20 ≤ length part.now) × (at + width_of layout ≤ length part.now) }
-    ensures { result ≡ record_in layout part.now at }
+pub fn get<L: Layout>(part: &[u8], at: usize) -> Record
+    requires { (at + 20 ≤ length part.now) × (at + width_of L.layout ≤ length part.now) }
+    ensures { result ≡ record_in L.layout part.now at }
 {
-    let key = numbers::get_u64(part, at + 4);
-    let value = numbers::get_u64(part, at + 12);
-    let run = get_run(part, at, layout);
+    let key = numbers::get(part, at + 4);
+    let value = numbers::get(part, at + 12);
+    let run = get_run::<L>(part, at);
     Record { key, value, run }
 }
 
 // Whether a slot is a record's, or an empty one. A record may be any numbers.
-pub fn formed(part: &[u8], at: usize, layout: u8, used: bool) -> bool
-    requires { (at + 20 ≤ length part.now) × (at + width_of layout ≤ length part.now) }
-    ensures { result ≡ matches part.now at (cond used (record_slot layout (record_in layout part.now at)) (empty_slot layout)) }
+pub fn formed<L: Layout>(part: &[u8], at: usize, used: bool) -> bool
+    requires { (at + 20 ≤ length part.now) × (at + width_of L.layout ≤ length part.now) }
+    ensures { result ≡ matches part.now at (cond used (record_slot L.layout (record_in L.layout part.now at)) (empty_slot L.layout)) }
 {
-    let length = numbers::get_u16(part, at) == layouts::width(layout);
-    let kind = numbers::get_u16(part, at + 2);
+    let length = numbers::get::<u16>(part, at) as usize == L::WIDTH;
+    let kind: u16 = numbers::get(part, at + 2);
     if used {
         return length & (kind == 1);
     }
-    let x = get(part, at, layout);
+    let x = get::<L>(part, at);
     length & ((kind == 0) & ((x.key == 0) & ((x.value == 0) & (x.run == 0))))
 }
 
 // The run to its place in the slot at an offset, where slots have one.
-pub fn put_run(part: &mut [u8], at: usize, layout: u8, run: u64)
-    requires { at + width_of layout ≤ length part.old }
-    ensures { part.new ≡ written part.old (at + 20) (encode (run_field layout run)) }
+#[tactic(auto, using(crate::proofs::Write::run_written, crate::proofs::Write::no_run_written))]
+pub fn put_run<L: Layout>(part: &mut [u8], at: usize, run: u64)
+    requires { at + width_of L.layout ≤ length part.old }
+    ensures { part.new ≡ written part.old (at + 20) (encode (run_field L.layout run)) }
 {
-    if layout == TWELVE {
+    if !L::HAS_RUN {
         return;
     }
-    numbers::put(part, at + 20, 4, run);
+    numbers::put_bytes(part, at + 20, 4, run);
 }
 
-// A slot of either kind to an offset.
-pub fn put(part: &mut [u8], at: usize, layout: u8, kind: u16, x: Record)
-    requires { (at + 20 ≤ length part.old) × (at + width_of layout ≤ length part.old) }
-    ensures { part.new ≡ written part.old at (encode (slot layout kind x)) }
+// A slot of any kind, with any numbers, to an offset. Records and empty slots are written by `put`.
+pub fn put_kind<L: Layout>(part: &mut [u8], at: usize, kind: u16, x: Record)
+    requires { (at + 20 ≤ length part.old) × (at + width_of L.layout ≤ length part.old) }
+    ensures { part.new ≡ written part.old at (encode (slot L.layout kind x)) }
 {
-    numbers::put_u16(part, at, layouts::width(layout));
-    numbers::put_u16(part, at + 2, kind);
-    numbers::put_u64(part, at + 4, x.key);
-    numbers::put_u64(part, at + 12, x.value);
-    put_run(part, at, layout, x.run);
+    numbers::put(part, at, L::WIDTH as u16);
+    numbers::put(part, at + 2, kind);
+    numbers::put(part, at + 4, x.key);
+    numbers::put(part, at + 12, x.value);
+    put_run::<L>(part, at, x.run);
+}
+
+// A record's slot, or an empty one, to an offset.
+pub fn put<L: Layout>(part: &mut [u8], at: usize, x: Option<Record>)
+    requires { (at + 20 ≤ length part.old) × (at + width_of L.layout ≤ length part.old) }
+    ensures { part.new ≡ written part.old at (encode (slot_of L.layout x)) }
+{
+    match x {
+        Some(x) => put_kind::<L>(part, at, 1, x),
+        None => put_kind::<L>(part, at, 0, Record::default()),
+    }
 }

@@ -2,7 +2,7 @@
 use mathlib.Core.Path.{◌≡◌, refl, sym, ◌∙◌}
 use mathlib.Core.Bool.{Bool, true, false, ◌&&◌}
 use mathlib.Core.List.{List}
-use Prim.Native.Nat.{ℕ, suc, ◌+◌, ◌-◌, ◌*◌, ◌/◌, ◌≤◌, ◌<◌}
+use Prim.Native.Nat.{ℕ, suc, ◌+◌, ◌-◌, ◌*◌, ◌≤◌, ◌<◌}
 use native.Mathlib.Omega.{arith}
 use lib.Dec.{eqb}
 use lib.ListN.{length, drop, length-drop}
@@ -54,13 +54,3 @@ module _ {l : List ℕ} {count i : ℕ} (w : Looking l count i) where
           go : (u : Bool) → eqb n m ≡ u → u ≡ eqb (n - m) 0
           go true e = let d : n ≡ m = eqb-true n m e in sym (eq-eqb (n - m) 0 (omega arith))
           go false e = sym (ne_eqb (n - m) 0 (λ z. eqb-false n m e (omega arith)))
-
--- whole replies, as many as there are items, are 28 bytes an item
-pub right_room : (room n : ℕ) → (eqb (room / 28) n && eqb room (28 * (room / 28))) ≡ eqb room (28 * n)
-right_room room n = go (eqb room (28 * n)) (eqb (room / 28) n) refl refl
-  where
-    go : (u v : Bool) → eqb room (28 * n) ≡ u → eqb (room / 28) n ≡ v → (v && eqb room (28 * (room / 28))) ≡ u
-    go true true e f = let d : room ≡ 28 * n = eqb-true room (28 * n) e in eq-eqb room (28 * (room / 28)) (omega arith)
-    go true false e f = let d : room ≡ 28 * n = eqb-true room (28 * n) e in absurd (eqb-false (room / 28) n f (omega arith))
-    go false true e f = let d : room / 28 ≡ n = eqb-true (room / 28) n f in rw d e
-    go false false e f = refl

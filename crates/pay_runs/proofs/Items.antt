@@ -10,12 +10,9 @@ use Rattle.numbers.proofs.Laws.{written_front}
 use Rattle.numbers.proofs.Records.{length-encode}
 use Rattle.layouts.specs.Layout.{in_use}
 use Rattle.state.specs.declared.State.{State}
-use Rattle.state.specs.declared.Done.{Done}
 use Rattle.pages.specs.Page.{Record}
-use Rattle.register.specs.Calls.{stored}
 use Rattle.register.specs.Files.{Call, put, File, file_of, Left, left, after, numbers_of}
-use Rattle.records.specs.declared.Told.{Told}
-use Rattle.records.specs.Records.{record_in, tells, reply_of, bytes_of_all}
+use Rattle.records.specs.Records.{record_in, reply_of, bytes_of_all}
 use Rattle.records.proofs.Lent.{from, from-drop, placed, placed-written}
 use Rattle.pay_runs.specs.PayRun.{puts_in, replies_to}
 
@@ -26,12 +23,6 @@ reply_to o = reply_of (numbers_of o.said) o.file.state
 -- what the code gives back of an item: the state, the area, and the bytes of its reply
 abbrev pub Put : Left → State → (area part : List ℕ) → Type 0
 Put o s area part = (s ≡ o.file.state) × ((area ≡ o.file.area) × (part ≡ encode (reply_to o)))
-
--- the register's put and its reply are the item
-pub one_put : (s : State) (area l : List ℕ) (x : Record) → x ≡ record_in l → (d : Done) (area' : List ℕ) → (d ≡ (stored in_use s area x).done) × (area' ≡ (stored in_use s area x).area)
-    → (t : Told) → t ≡ tells d → (part : List ℕ) → part ≡ encode (reply_of t.numbers t.state) → Put (left (file_of s area) (put (record_in l))) t.state area' part
-unfolding left
-one_put s area l x e d area' h t told part r = rw (← e, ← h.0) (rw told, (h.1, r ∙ rw told))
 
 -- a put leaves a file of the layout in use where it was one
 file-put : (g : File) (x : Record) (s : State) (area : List ℕ) → g.layout ≡ in_use → s ≡ (left g (put x)).file.state → area ≡ (left g (put x)).file.area → file_of s area ≡ (left g (put x)).file

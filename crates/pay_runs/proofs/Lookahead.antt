@@ -64,11 +64,7 @@ module _ {l : List ℕ} {lanes : ℕ} {keys : List ℕ} {k : ℕ} (w : Reading l
       let at : get_or (map f keys) j 0 ≡ f (get_or keys j 0) = rw append-nil at (row_at f keys [] j 0 (omega (arith, w.long))) in
       rw (e, at, w.read j (omega arith))
 
--- a state isn't out of range and in range
-pub not_both : (s : State) → in_range in_use s ≡ false → in_range in_use s ≡ true → ⊥
-not_both s e h = let n : ◌≡◌ {A = ℕ} 0 1 = cc in omega arith
-
--- one in range has the homes of its shape
+-- a state in range has the homes of its shape
 pub shape_homes : (s : State) (l row : List ℕ) (shape : Shape) → shape ≡ shape_of s.params s.p → Ahead (home_in shape) l row → Ahead (homes s) l row
 shape_homes s l row shape is a = rw is at a
 

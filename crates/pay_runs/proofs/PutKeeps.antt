@@ -9,6 +9,7 @@ use native.Mathlib.Omega.{arith}
 use lib.Dec.{eqb, ltb}
 use lib.ListN.{length, take, get_or}
 use borrow.Author.Tests.{eqb-true, eqb-false}
+use Rattle.std.specs.Prelude.{Ok, Err}
 use Rattle.layouts.specs.Layout.{Layout, slots_of, slots_on}
 use Rattle.placing.specs.Image.{All}
 use Rattle.placing.specs.Lay.{rank_in, ins}
@@ -16,14 +17,12 @@ use Rattle.pages.specs.Page.{Record, key, read_page}
 use Rattle.pages.specs.Area.{part_at, pages_from}
 use Rattle.pages.proofs.Areas.{with_length}
 use Rattle.state.specs.declared.State.{State}
-use Rattle.state.specs.declared.Answer.TheVariants.{OutOfRange, WrongArea}
+use Rattle.state.specs.declared.Refusal.TheVariants.{OutOfRange, WrongArea}
 use Rattle.state.specs.State.{in_range, homes, one_more}
 use Rattle.state.proofs.Ranges.{ranged, more_range}
-use Rattle.walks.specs.declared.Met.{Met}
 use Rattle.walks.specs.declared.Met.TheVariants as met
-use Rattle.walks.specs.Walks.{Pages, Walked, went, stopped, and_page, carry, walk, put_met, put_walk, writes}
-use Rattle.gates.specs.declared.Gate.TheVariants.{Open, Shut}
-use Rattle.gates.specs.Gates.{on_gate, gate_of}
+use Rattle.walks.specs.Walks.{Walks, Pages, Walked, went, stopped, and_page, carry, walk, put_met, put_walk, writes}
+use Rattle.gates.specs.Gates.{opens, on_gate, gate_of}
 use Rattle.changes.specs.Changes.{refused, settled, put_open}
 use Rattle.register.specs.Files.{put, File, left}
 
@@ -65,11 +64,11 @@ put_low : (form : Layout) (h : ℕ → ℕ) (area : List ℕ) (cap : ℕ) (x : R
 unfolding put_walk
 put_low form h area cap x = on_met (walk form h area cap (key x))
   where
-    on_met : (w : Met) → Low cap (put_met form h area cap x w)
-    on_met (met.Found a i c v n) = tt
-    on_met (met.Broken a n) = tt
-    on_met (met.Ends a i c n) = carry_low form h area cap (cap - a) a (n - 1) 0 x refl
-    on_met (met.AtEnd n) = tt
+    on_met : (w : Walks) → Low cap (put_met form h area cap x w)
+    on_met (Ok (met.Found a i c v n)) = tt
+    on_met (Ok (met.Ends a i c n)) = carry_low form h area cap (cap - a) a (n - 1) 0 x refl
+    on_met (Ok (met.AtEnd n)) = tt
+    on_met (Err why) = tt
 
 -- pages written below the lent size leave as many bytes
 writes-length : (form : Layout) (cap : ℕ) (ws : Pages) (area : List ℕ) → Below cap ws → length area ≡ 256 * cap → length (writes form area ws) ≡ length area
@@ -115,7 +114,7 @@ put_keeps f x = go (in_range f.layout f.state) (eqb (length f.area) (256 * f.sta
     form = f.layout
 
     go : (u v : Bool) → in_range form s ≡ u → eqb (length area) (256 * s.cap) ≡ v
-        → let o = on_gate (cond u (cond v Open (Shut WrongArea)) (Shut OutOfRange)) (refused s area) (put_open form s area x) in Keeps form s area o.done.state o.area
+        → let o = on_gate (cond u (cond v opens (Err WrongArea)) (Err OutOfRange)) (refused s area) (put_open form s area x) in Keeps form s area o.done.state o.area
     go false v r e = same_keeps form s area
     go true false r e = same_keeps form s area
     go true true r e =

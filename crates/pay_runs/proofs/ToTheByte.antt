@@ -13,10 +13,9 @@ use Rattle.numbers.proofs.Laws.{bytes_drop, number_bound}
 use Rattle.numbers.proofs.Records.{length-encode, and_left, and_right}
 use Rattle.pages.specs.Page.{Record}
 use Rattle.records.specs.declared.Command.TheVariants.{Put}
-use Rattle.records.specs.declared.Item.TheVariants.{Asks}
-use Rattle.records.specs.Records.{first_of, is_put, record_in, layout_of}
+use Rattle.records.specs.Records.{asks, first_of, is_put, record_in, layout_of}
 use Rattle.records.specs.Promises.{Sized}
-use Rattle.records.proofs.ToTheByte.{put_first}
+use Rattle.records.proofs.ToTheByte.{command_or, put_first}
 use Rattle.records.proofs.Promises.{record_promises}
 use Rattle.pay_runs.specs.PayRun.{items, end_to_end, puts_in}
 use Rattle.pay_runs.specs.Promises.{records_of, puts_of, AllSized}
@@ -37,7 +36,7 @@ records_items xs = omega (arith, records_length xs)
 
 module _ (x : Record) (s : Sized (Put x)) (rest : List ℕ) where
   -- a put's bytes begin with its put
-  begins : first_of (put_bytes x ++ rest) ≡ Asks (Put x) 20
+  begins : first_of (put_bytes x ++ rest) ≡ asks (Put x) 20
   begins = record_promises.reads (Put x) (layout_of (Put x)) rest s (s.2, refl)
 
   is_put_lem : is_put (first_of (put_bytes x ++ rest)) ≡ true
@@ -46,7 +45,8 @@ module _ (x : Record) (s : Sized (Put x)) (rest : List ℕ) where
   -- and its record is read from them
   read_back : record_in (put_bytes x ++ rest) ≡ x
   read_back =
-      let e : Asks (Put (record_in (put_bytes x ++ rest))) 20 ≡ Asks (Put x) 20 = sym (put_first (put_bytes x ++ rest) is_put_lem).0 ∙ begins in cc
+      let e : asks (Put (record_in (put_bytes x ++ rest))) 20 ≡ asks (Put x) 20 = sym (put_first (put_bytes x ++ rest) is_put_lem).0 ∙ begins in
+      let p : Put (record_in (put_bytes x ++ rest)) ≡ Put x = ap (command_or (Put x)) e in cc
 
   -- those behind it are left
   behind : drop 20 (put_bytes x ++ rest) ≡ rest

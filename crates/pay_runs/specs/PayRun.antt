@@ -2,9 +2,9 @@
 -- says so.
 use Rattle.std.specs.Prelude.{ℕ, zero, suc, ◌*◌, ◌/◌, Bool, cond, ◌&&◌, List, [], ◌∷◌, length, drop, eqb}
 use Rattle.numbers.specs.Fields.{Field}
+use Rattle.state.specs.declared.Done.{Done}
 use Rattle.state.specs.declared.Numbers.{Numbers}
 use Rattle.register.specs.Files.{Call, put, File, left, after, numbers_of}
-use Rattle.records.specs.declared.Told.{Told}
 use Rattle.records.specs.Records.{first_of, is_put, record_in, reply_of, bytes_of_all, refused_by}
 
 -- a put record is 20 bytes, so bytes have room for so many items
@@ -55,5 +55,5 @@ abbrev pub made_by : (l room : List ℕ) → List Call
 made_by l room = cond (eqb (run_refusal l room) 0) (puts_in (items l) l) []
 
 -- what the code gives back of it
-abbrev pub told_of : PayRun → Told
-told_of o = record { state = o.file.state; numbers = o.numbers }
+abbrev pub told_of : PayRun → Done Numbers
+told_of o = record { state = o.file.state; answer = o.numbers }

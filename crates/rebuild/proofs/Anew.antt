@@ -1,13 +1,15 @@
 -- The way of a rebuild: entries packed at the top end, sorted there, and laid on the pages.
-use mathlib.Core.Path.{◌≡◌, ap}
+use mathlib.Core.Path.{◌≡◌, refl, ap}
 use mathlib.Core.List.{List, [], ◌++◌, map}
 use Prim.Native.Nat.{ℕ, ◌+◌, ◌-◌, ◌*◌, ◌/◌, ◌^◌, ◌≤◌, ◌<◌}
 use native.Mathlib.Omega.{arith}
-use mir.Syntax.{w8}
-use mir.Val as val
-use lib.ListN.{length, take, drop, get_or, length-append}
+use lib.ListN.{length, take, drop, length-append}
 use lib.Seq.{drop_at, length-take-le}
+use Rattle.numbers.specs.Little.{Bytes}
 use Rattle.layouts.specs.Layout.{in_use}
+use Rattle.homes.specs.declared.new_homes.NewHomes.{NewHomes}
+use Rattle.homes.specs.Homes.{Ready}
+use Rattle.homes.specs.Steps.NewHomes.{new_home}
 use Rattle.placing.specs.Image.{All, cat, Distinct, RecordSet}
 use Rattle.placing.specs.Lay.{sort, lay, taken}
 use Rattle.placing.specs.Rows.{strayed}
@@ -19,7 +21,7 @@ use Rattle.entries.proofs.Entries.{SizedEntry}
 use Rattle.entries.proofs.Rows.{row_length, entries_row}
 use Rattle.rebuild.specs.Relaid.{relaid}
 use Rattle.rebuild.specs.Steps.Rebuild.{slots, packed, record_in, hops_from}
-use Rattle.rebuild.proofs.Tags.{entries_few}
+use Rattle.rebuild.proofs.Tags.{entries_few, home_small}
 use Rattle.rebuild.proofs.Fitting.{held_fit}
 use Rattle.rebuild.proofs.Commuting.{pages_relaid, pages_distinct, pages_room}
 use Rattle.rebuild.proofs.Moved.{pages_moved}
@@ -29,10 +31,24 @@ pub record Gathered (h : ℕ → ℕ) (cap : ℕ) (l : List ℕ) (base : ℕ) (m
   pub small : cap ≤ 4096
   pub whole : length l ≡ 256 * cap
   pub low : (k : ℕ) → h k < 2 ^ 16
-  pub fit : (k : ℕ) → val.Fits w8 (get_or l k 0)
+  pub fit : Bytes l
   pub set : RecordSet key (cat (held_from in_use l cap 0) [])
   pub base_is : base ≡ 256 * cap - size * length (packed h cap l)
   pub bytes : m ≡ take base l ++ row_bytes (packed h cap l)
+
+-- as they are where the homes are those of a shape in range
+pub gathered : (new : NewHomes) (cap : ℕ) (l : List ℕ) (base : ℕ) (m : List ℕ) → cap ≤ 4096 → length l ≡ 256 * cap → Ready new.shape
+    → Bytes l → RecordSet key (cat (held_from in_use l cap 0) []) → base ≡ 256 * cap - size * length (packed (new_home new) cap l)
+    → m ≡ take base l ++ row_bytes (packed (new_home new) cap l) → Gathered (new_home new) cap l base m
+gathered new cap l base m s w r f k b e = record {
+  small = s;
+  whole = w;
+  low = λ k. home_small new.shape k _ r refl;
+  fit = f;
+  set = k;
+  base_is = b;
+  bytes = e;
+}
 
 module _ (h : ℕ → ℕ) (cap : ℕ) (l : List ℕ) (base : ℕ) (m : List ℕ) (g : Gathered h cap l base m) where
   pub begins : base + size * length (packed h cap l) ≡ 256 * cap
@@ -44,7 +60,7 @@ module _ (h : ℕ → ℕ) (cap : ℕ) (l : List ℕ) (base : ℕ) (m : List ℕ
 
   es_fit : All SizedEntry (packed h cap l)
   unfolding packed
-  es_fit = held_fit h l cap 0 g.low (λ k i. omega (arith, g.fit k)) (omega (arith, g.whole)) (omega (arith, g.small))
+  es_fit = held_fit h l cap 0 g.low g.fit (omega (arith, g.whole)) (omega (arith, g.small))
 
   front : length (take base l) ≡ base
   front = length-take-le base l (omega (arith, begins, g.whole))

@@ -3,12 +3,12 @@
 use mathlib.Core.Path.{◌≡◌, refl, sym, ap, ◌∙◌}
 use mathlib.Core.List.{List, [], ◌∷◌, ◌++◌, append_assoc, append-nil}
 use Prim.Native.Nat.{ℕ, zero, suc, ◌+◌, ◌-◌, ◌*◌, ◌≤◌, ◌<◌}
-use native.Mathlib.Nat.{add_assoc, zero-add, sub_self, sub-zero}
+use native.Mathlib.Nat.{zero-add, sub_self, sub-zero}
 use native.Mathlib.Omega.{arith}
 use lib.ListN.{length, take, drop, get_or, length-append, length-take, length-drop, take-append-drop, drop_of_length-le}
 use lib.Seq.{take-take, drop_at, take-append-le, drop-append-le, length-take-le}
 use Rattle.numbers.specs.Little.{written}
-use Rattle.numbers.proofs.Laws.{written-nil}
+use Rattle.numbers.proofs.Laws.{written-written}
 use Rattle.layouts.specs.Layout.{in_use}
 use Rattle.homes.specs.declared.new_homes.NewHomes.{NewHomes}
 use Rattle.pages.specs.declared.Page.{Page}
@@ -22,21 +22,6 @@ use Rattle.entries.specs.Steps.Entries.{size, entry_bytes, row_bytes}
 use Rattle.entries.proofs.Rows.{row_length, row_append}
 use Rattle.rebuild.specs.Steps.Rebuild.{slots, tagged, tagged_from, packed}
 use Rattle.rebuild.proofs.Tags.{tagged-append, tagged-length}
-
--- two writes, the second where it ends at the first, are one
-written_before : (l : List ℕ) (at : ℕ) (v w : List ℕ) → at + length v ≤ length l
-    → written (written l (at + length v) w) at v ≡ written l at (v ++ w)
-unfolding written
-written_before l at v w h =
-    let n : length (take (at + length v) l) ≡ at + length v = length-take-le (at + length v) l h in
-    rw (
-      take-append-le at (take (at + length v) l) (w ++ drop (at + length v + length w) l) (omega arith),
-      take-take at (at + length v) l (omega arith),
-      drop_at (take (at + length v) l) (w ++ drop (at + length v + length w) l) (at + length v) n,
-      length-append,
-      add_assoc,
-      append_assoc,
-    )
 
 -- the bytes of the entries of the first n records of a page's rows
 abbrev pub rows : (ℕ → ℕ) → (a n : ℕ) → (ks vs us : List ℕ) → List ℕ
@@ -53,23 +38,20 @@ rows_last h a n ks vs us =
     ap (λ (s : List Record). row_bytes (tagged h a s)) (paired_last n ks vs us)
     ∙ rw (tagged-append h a (paired n ks vs us) (x ∷ []), row_append (tagged h a (paired n ks vs us)) (tagged h a (x ∷ [])), append-nil)
 
--- a turn puts the last entry of what is left to write
-pub page_turn : (l m : List ℕ) (h : ℕ → ℕ) (a b i at home : ℕ) (ks vs us : List ℕ) → 0 < i → b + size * i ≤ length l
-    → at ≡ b + size * (i - 1) → home ≡ h (get_or ks (i - 1) 0)
-    → m ≡ written l at (entry_bytes (record { home = home; from = a; held = record_with (get_or ks (i - 1) 0) (get_or vs (i - 1) 0) (get_or us (i - 1) 0) }))
-    → written m b (rows h a (i - 1) ks vs us) ≡ written l b (rows h a i ks vs us)
-page_turn l m h a b i at home ks vs us z n p q e =
-    let s : suc (i - 1) ≡ i = omega arith in
-    let len : length (rows h a (i - 1) ks vs us) ≡ size * (i - 1) = rows-length h a (i - 1) ks vs us in
-    rw (e, p, q, ← len)
-    (written_before l b (rows h a (i - 1) ks vs us) (entry_bytes (record { home = h (get_or ks (i - 1) 0); from = a; held = record_with (get_or ks (i - 1) 0) (get_or vs (i - 1) 0) (get_or us (i - 1) 0) })) (omega arith)
-    ∙ ap (λ (v : List ℕ). written l b v) (sym (rows_last h a (i - 1) ks vs us) ∙ ap (λ (n : ℕ). rows h a n ks vs us) s))
+-- a turn writes one entry more
+pub page_turn : (l m k : List ℕ) (h : ℕ → ℕ) (a b i home : ℕ) (ks vs us : List ℕ) → b ≤ length l → m ≡ written l b (rows h a i ks vs us)
+    → home ≡ h (get_or ks i 0)
+    → k ≡ written m (b + size * i) (entry_bytes (record { home = home; from = a; held = record_with (get_or ks i 0) (get_or vs i 0) (get_or us i 0) }))
+    → k ≡ written l b (rows h a (i + 1) ks vs us)
+page_turn l m k h a b i home ks vs us n p q e =
+    let s : i + 1 ≡ suc i = omega arith in
+    let x : Entry = record { home = h (get_or ks i 0); from = a; held = record_with (get_or ks i 0) (get_or vs i 0) (get_or us i 0) } in
+    let len : length (rows h a i ks vs us) ≡ size * i = rows-length h a i ks vs us in
+    rw (e, p, q, ← len, s, rows_last h a i ks vs us) (written-written l b (rows h a i ks vs us) (entry_bytes x) n)
 
--- after the last turn nothing is left to write
-pub page_done : (l m : List ℕ) (h : ℕ → ℕ) (a b i : ℕ) (ks vs us : List ℕ) → i ≤ 0 → written l b (rows h a i ks vs us) ≡ m → l ≡ m
-page_done l m h a b i ks vs us z e =
-    let y : i ≡ 0 = omega arith in
-    sym (written-nil l b) ∙ ap (λ (n : ℕ). written l b (rows h a n ks vs us)) (sym y) ∙ e
+-- after the last turn all are written, from where they begin
+pub page_done : (l m : List ℕ) (h : ℕ → ℕ) (a b i n at : ℕ) (ks vs us : List ℕ) → b ≡ at → i ≡ n → m ≡ written l b (rows h a i ks vs us) → m ≡ written l at (rows h a n ks vs us)
+page_done l m h a b i n at ks vs us p q e = rw (← p, ← q) e
 
 -- n pages from address a on, of which page i holds `part i`
 abbrev pub parts_from : {R : Type 0} → (ℕ → List R) → (n a : ℕ) → List (List R)

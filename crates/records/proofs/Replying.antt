@@ -1,9 +1,11 @@
 -- A reply's fields, stored one after the other over all its bytes.
-use mathlib.Core.Path.{◌≡◌, ◌∙◌}
+use mathlib.Core.Path.{◌≡◌, refl, ◌∙◌}
+use mathlib.Core.Bool.{Bool, true, false}
 use mathlib.Core.List.{List}
 use Prim.Native.Nat.{ℕ}
 use native.Mathlib.Omega.{arith}
 use lib.ListN.{length}
+use mir.Val.{bool_byte}
 use Rattle.numbers.specs.Little.{bytes_of, written}
 use Rattle.numbers.specs.Fields.{encode}
 use Rattle.numbers.proofs.Laws.{written_all}
@@ -13,6 +15,11 @@ use Rattle.state.specs.declared.State.{State}
 use Rattle.state.specs.declared.Numbers.{Numbers}
 use Rattle.state.specs.State.{is_due}
 use Rattle.records.specs.Records.{bit, reply_of}
+
+-- the byte of a Boolean is its bit
+pub byte_bit : (u : Bool) → bool_byte u ≡ bit u
+byte_bit true = refl
+byte_bit false = refl
 
 module _ (n : Numbers) (s : State) (l : List ℕ) (h : length l ≡ 28) where
   -- stored over as many bytes as they take, the fields leave their bytes and no others

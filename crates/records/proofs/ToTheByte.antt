@@ -8,6 +8,7 @@ use native.Mathlib.Omega.{arith}
 use lib.Dec.{eqb, ltb}
 use lib.ListN.{length, take, length-append}
 use borrow.Author.Tests.{eq-eqb, eqb-true, ltb-false}
+use Rattle.std.specs.Prelude.{Option, Some, None, Result, Ok, Err}
 use Rattle.numbers.specs.Little.{Bytes, number_at}
 use Rattle.numbers.specs.Fields.{Field, width, encode, matches}
 use Rattle.numbers.proofs.Records.{Fit, length-encode, match_first, match_rest, matches_sound, matches_complete}
@@ -16,13 +17,13 @@ use Rattle.pages.specs.Page.{key, value, record_with}
 use Rattle.records.specs.declared.Kind.{Kind}
 use Rattle.records.specs.declared.Kind.TheVariants as kind
 use Rattle.records.specs.declared.Form.{Form}
-use Rattle.records.specs.declared.Form.TheVariants as form
 use Rattle.records.specs.declared.Command.{Command}
 use Rattle.records.specs.declared.Command.TheVariants.{Format, Put, Find, Remove, Grow, Check, Shrink}
-use Rattle.records.specs.declared.Item.{Item}
-use Rattle.records.specs.declared.Item.TheVariants.{Asks, Unknown, Cut}
-use Rattle.records.specs.Records.{length_of, form_of, record_in, command_of, formed, first_of, asks_put, is_put, layout_of, short_of, IsRecord}
-use Rattle.records.proofs.Reading.{number_of, head_low, chosen, known_form, Of, of_number, whole}
+use Rattle.records.specs.declared.Asked.{Asked}
+use Rattle.records.specs.declared.Unread.{Unread}
+use Rattle.records.specs.declared.Unread.TheVariants.{UnknownKind, CutOff}
+use Rattle.records.specs.Records.{length_of, form_of, record_in, command_of, asks, formed, first_of, asks_put, is_put, layout_of, short_of, IsRecord}
+use Rattle.records.proofs.Reading.{number_of, Of, of_number, whole}
 
 -- the numbers from an offset on are those of the fields
 abbrev Says : List ℕ → ℕ → List Field → Type 0
@@ -131,41 +132,50 @@ kind_width kind.Check l = refl
 kind_width kind.Shrink l = refl
 
 -- a command's record at the start of an input is read as the command
-pub reads : (c : Command) (w : List Field) (rest : List ℕ) → Fit w → IsRecord c w → first_of (encode w ++ rest) ≡ Asks c (width w)
+pub reads : (c : Command) (w : List Field) (rest : List ℕ) → Fit w → IsRecord c w → first_of (encode w ++ rest) ≡ asks c (width w)
 reads c w rest fit is =
     let l : List ℕ = encode w ++ rest in
     let told = tells l c w is (says w l 0 (matches_complete w [] rest 0 refl fit)) in
     let t : Tells l c = told.0 in
     let n : length l ≡ width w + length rest = rw (length-append, length-encode) in
-    let f : form_of (number_at 2 l 0) (number_at 2 l 2) ≡ form.Known t.what (length_of t.what) = sym (known_form t.what (number_at 2 l 0) (number_at 2 l 2) t.second (chosen t.what (number_at 2 l 0) t.first)) in
-    rw told.1 (sym (whole l (omega (arith, head_low t.what, told.1)) refl refl refl f t.first (omega (arith, told.1)) c t.body))
+    rw told.1 (whole t.what l (omega (arith, told.1)) t.first t.second ∙ ap (λ (d : Command). asks d (length_of t.what)) (sym t.body))
+
+-- what is asked for, where something is
+abbrev pub command_or : Command → Result Asked Unread → Command
+command_or c (Ok a) = a.command
+command_or c (Err why) = c
+
+abbrev length_or : ℕ → Result Asked Unread → ℕ
+length_or n (Ok a) = a.length
+length_or n (Err why) = n
 
 module _ (c : Command) (n : ℕ) where
   -- an input that asks for a command is not cut off
-  not_cut : (t : Bool) (i : Item) → cond t Cut i ≡ Asks c n → (t ≡ false) × (i ≡ Asks c n)
+  not_cut : (t : Bool) (i : Result Asked Unread) → cond t (Err CutOff) i ≡ asks c n → (t ≡ false) × (i ≡ asks c n)
   not_cut true i e = (cc, cc)
   not_cut false i e = (refl, e)
 
   -- nor is its kind unknown, or its length wrong
-  not_unknown : (t : Bool) (i : Item) → cond t i Unknown ≡ Asks c n → (t ≡ true) × (i ≡ Asks c n)
+  not_unknown : (t : Bool) (i : Result Asked Unread) → cond t i (Err UnknownKind) ≡ asks c n → (t ≡ true) × (i ≡ asks c n)
   not_unknown true i e = (refl, e)
   not_unknown false i e = (cc, cc)
 
   -- so it tells the command, and its record lies within the input
-  asks_told : (l : List ℕ) (f : Form) → Of (number_at 2 l 2) f → formed l f ≡ Asks c n → (t : Tells l c) × (n ≡ length_of t.what) × (n ≤ length l)
-  asks_told l form.Unknown h e = let z : ◌≡◌ {A = ℕ} 0 1 = cc in absurd (omega arith)
-  asks_told l (form.Known k m) h e =
-      let u = not_unknown (eqb (number_at 2 l 0) m) _ e in
-      let v = not_cut (ltb (length l) m) _ u.1 in
-      let w = h k m refl in
-      let d : m ≡ n = cc in (
-        record { what = k; first = eqb-true (number_at 2 l 0) m u.0 ∙ w.1; second = w.0; body = cc },
-        sym d ∙ w.1,
-        omega (arith, ltb-false (length l) m v.0),
+  asks_told : (l : List ℕ) (f : Option Form) → Of (number_at 2 l 2) f → formed l f ≡ asks c n → (t : Tells l c) × (n ≡ length_of t.what) × (n ≤ length l)
+  asks_told l None h e = let z : ◌≡◌ {A = ℕ} 0 1 = cc in absurd (omega arith)
+  asks_told l (Some g) h e =
+      let u = not_unknown (eqb (number_at 2 l 0) g.length) _ e in
+      let v = not_cut (ltb (length l) g.length) _ u.1 in
+      let w = h g refl in
+      let m : g.length ≡ length_of g.kind = ap Form.length w.1 in
+      let d : g.length ≡ n = ap (length_or n) v.1 in (
+        record { what = g.kind; first = eqb-true (number_at 2 l 0) g.length u.0 ∙ m; second = w.0; body = sym (ap (command_or c) v.1) },
+        sym d ∙ m,
+        omega (arith, ltb-false (length l) g.length v.0),
       )
 
 -- what is read as a command are the bytes of one of its records
-pub read_only : (l : List ℕ) (c : Command) (n : ℕ) → Bytes l → first_of l ≡ Asks c n → (w : List Field) × IsRecord c w × (n ≡ width w) × (take n l ≡ encode w)
+pub read_only : (l : List ℕ) (c : Command) (n : ℕ) → Bytes l → first_of l ≡ asks c n → (w : List Field) × IsRecord c w × (n ≡ width w) × (take n l ≡ encode w)
 unfolding first_of
 read_only l c n b e =
     let told = asks_told c n l (form_of (number_at 2 l 0) (number_at 2 l 2)) (of_number (number_at 2 l 0) (number_at 2 l 2)) (not_cut c n (ltb (length l) 4) _ e).1 in
@@ -190,14 +200,15 @@ put_told l c kind.Check e u = absurd (false-true (rw e at u))
 put_told l c kind.Shrink e u = absurd (false-true (rw e at u))
 
 -- an input that begins with a whole put record asks for its put
-pub put_first : (l : List ℕ) → is_put (first_of l) ≡ true → (first_of l ≡ Asks (Put (record_in l)) 20) × (20 ≤ length l)
+pub put_first : (l : List ℕ) → is_put (first_of l) ≡ true → (first_of l ≡ asks (Put (record_in l)) 20) × (20 ≤ length l)
 unfolding first_of
 put_first l u = go (first_of l) refl u
   where
-    go : (i : Item) → first_of l ≡ i → is_put i ≡ true → (i ≡ Asks (Put (record_in l)) 20) × (20 ≤ length l)
-    go Unknown e u = absurd (false-true u)
-    go Cut e u = absurd (false-true u)
-    go (Asks c n) e u =
+    go : (i : Result Asked Unread) → first_of l ≡ i → is_put i ≡ true → (i ≡ asks (Put (record_in l)) 20) × (20 ≤ length l)
+    go (Err why) e u = absurd (false-true u)
+    go (Ok a) e u =
+        let c = a.command in
+        let n = a.length in
         let w = asks_told c n l (form_of (number_at 2 l 0) (number_at 2 l 2)) (of_number (number_at 2 l 0) (number_at 2 l 2)) (not_cut c n (ltb (length l) 4) _ e).1 in
         let t : Tells l c = w.0 in
         let p = put_told l c t.what t.body u in

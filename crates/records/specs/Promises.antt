@@ -7,8 +7,7 @@ use Rattle.layouts.specs.Layout.{in_use}
 use Rattle.pages.specs.Small.{Small}
 use Rattle.records.specs.declared.Command.{Command}
 use Rattle.records.specs.declared.Command.TheVariants.{Format, Put, Find, Remove, Grow, Check, Shrink}
-use Rattle.records.specs.declared.Item.TheVariants.{Asks}
-use Rattle.records.specs.Records.{first_of, IsRecord}
+use Rattle.records.specs.Records.{asks, first_of, IsRecord}
 
 -- the numbers of a command are of the width that they have in its record: "n0, N, s, cap (2 bytes
 -- each)", the edition "a last two-byte number" (02, request 4), and a record that the layout in use takes
@@ -28,7 +27,7 @@ pub record RecordPromises : Type 0 where
   -- behind them, are read as that command. "Length covers the whole record." 02, request 4: "a
   -- format command of length 14 carries" the edition "as a last two-byte number, and length 12
   -- still means edition 1"; request 5: "command kind 263, length 4"
-  pub reads : (c : Command) (w : List Field) (rest : List ℕ) → Sized c → IsRecord c w → first_of (encode w ++ rest) ≡ Asks c (width w)
+  pub reads : (c : Command) (w : List Field) (rest : List ℕ) → Sized c → IsRecord c w → first_of (encode w ++ rest) ≡ asks c (width w)
   -- "all others are unknown": what is read as a command are the bytes of one of its records, and no
   -- others
-  pub read_only : (l : List ℕ) (c : Command) (n : ℕ) → Bytes l → first_of l ≡ Asks c n → (w : List Field) × IsRecord c w × (n ≡ width w) × (take n l ≡ encode w)
+  pub read_only : (l : List ℕ) (c : Command) (n : ℕ) → Bytes l → first_of l ≡ asks c n → (w : List Field) × IsRecord c w × (n ≡ width w) × (take n l ≡ encode w)

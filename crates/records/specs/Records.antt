@@ -1,7 +1,7 @@
 -- The log's records to the byte (01, 'The log program'; 02, request 4: a format with its edition;
 -- request 5: shrink).
 -- What is quoted is 01's, or 02's where that is said.
-use Rattle.std.specs.Prelude.{ℕ, ◌≡◌, Bool, true, false, cond, ◌⊎◌, List, [], ◌∷◌, ◌++◌, length, eqb, ltb}
+use Rattle.std.specs.Prelude.{ℕ, ◌≡◌, Bool, true, false, cond, ◌⊎◌, List, [], ◌∷◌, ◌++◌, length, eqb, ltb, Option, Some, None, Result, Ok, Err}
 use Rattle.numbers.specs.Little.{number_at}
 use Rattle.numbers.specs.Fields.{Field, encode}
 use Rattle.layouts.specs.Layout.{in_use}
@@ -12,16 +12,15 @@ use Rattle.state.specs.declared.State.{State}
 use Rattle.state.specs.declared.Done.{Done}
 use Rattle.state.specs.declared.Numbers.{Numbers}
 use Rattle.state.specs.State.{is_due}
-use Rattle.state.specs.Answer.{told, numbers}
+use Rattle.state.specs.Answer.{Answer, told, numbers}
 use Rattle.records.specs.declared.Kind.{Kind}
 use Rattle.records.specs.declared.Kind.TheVariants as kind
 use Rattle.records.specs.declared.Form.{Form}
-use Rattle.records.specs.declared.Form.TheVariants as form
 use Rattle.records.specs.declared.Command.{Command}
 use Rattle.records.specs.declared.Command.TheVariants.{Format, Put, Find, Remove, Grow, Check, Shrink}
-use Rattle.records.specs.declared.Item.{Item}
-use Rattle.records.specs.declared.Item.TheVariants.{Asks, Unknown, Cut}
-use Rattle.records.specs.declared.Told.{Told}
+use Rattle.records.specs.declared.Asked.{Asked}
+use Rattle.records.specs.declared.Unread.{Unread}
+use Rattle.records.specs.declared.Unread.TheVariants.{UnknownKind, CutOff}
 
 -- "257 format: n0, N, s, cap (2 bytes each), length 12. 258 put: key, value, length 20. 259 find
 -- and 260 remove: key, length 12. 261 grow and 262 check: length 4." 02, request 4: "a format command
@@ -36,8 +35,11 @@ length_of kind.Grow = 4
 length_of kind.Check = 4
 length_of kind.Shrink = 4
 
-abbrev pub known : Kind → Form
-known k = form.Known k (length_of k)
+abbrev pub form_for : Kind → Form
+form_for k = record { kind = k; length = length_of k }
+
+abbrev pub known : Kind → Option Form
+known k = Some (form_for k)
 
 -- which of a format's two records one of this length is
 abbrev pub format_for : (length : ℕ) → Kind
@@ -45,7 +47,7 @@ format_for n = cond (eqb n 14) kind.FormatEdition kind.Format
 
 -- "Kinds 257 to 262 are commands, 513 is a reply, all others are unknown; a reply is unknown as
 -- input.", with 263 (02, request 5). What a kind stands for, in a record that tells this length.
-unfoldable pub form_of : (length kind : ℕ) → Form
+unfoldable pub form_of : (length kind : ℕ) → Option Form
 form_of n k =
     cond (eqb k 257) (known (format_for n))
     (cond (eqb k 258) (known kind.Put)
@@ -53,7 +55,7 @@ form_of n k =
     (cond (eqb k 260) (known kind.Remove)
     (cond (eqb k 261) (known kind.Grow)
     (cond (eqb k 262) (known kind.Check)
-    (cond (eqb k 263) (known kind.Shrink) form.Unknown))))))
+    (cond (eqb k 263) (known kind.Shrink) None))))))
 
 -- the request and the commit of a put record, whose body follows four bytes of length and kind; it
 -- names no run
@@ -76,15 +78,25 @@ command_of kind.Grow l = Grow
 command_of kind.Check l = Check
 command_of kind.Shrink l = Shrink
 
--- "then 10, then the body (11)": 10 is "unknown kind, or length wrong for it"
-abbrev pub formed : List ℕ → Form → Item
-formed l form.Unknown = Unknown
-formed l (form.Known k n) = cond (eqb (number_at 2 l 0) n) (cond (ltb (length l) n) Cut (Asks (command_of k l) n)) Unknown
+-- the number of a refusal: 10 is "unknown kind, or length wrong for it", 11 "input ends within a
+-- record"
+abbrev pub refusal_of : Unread → ℕ
+refusal_of UnknownKind = 10
+refusal_of CutOff = 11
+
+-- the first record of an input is that of a command, and takes so many bytes
+abbrev pub asks : Command → (length : ℕ) → Result Asked Unread
+asks c n = Ok (record { command = c; length = n })
+
+-- "then 10, then the body (11)"
+abbrev pub formed : List ℕ → Option Form → Result Asked Unread
+formed l None = Err UnknownKind
+formed l (Some f) = cond (eqb (number_at 2 l 0) f.length) (cond (ltb (length l) f.length) (Err CutOff) (asks (command_of f.kind l) f.length)) (Err UnknownKind)
 
 -- the first record of an input: "the four head bytes (11 if fewer)", then what they ask for.
 -- "Length covers the whole record."
-unfoldable pub first_of : List ℕ → Item
-first_of l = cond (ltb (length l) 4) Cut (formed l (form_of (number_at 2 l 0) (number_at 2 l 2)))
+unfoldable pub first_of : List ℕ → Result Asked Unread
+first_of l = cond (ltb (length l) 4) (Err CutOff) (formed l (form_of (number_at 2 l 0) (number_at 2 l 2)))
 
 -- whether an input begins with a whole put record
 abbrev pub asks_put : Command → Bool
@@ -96,10 +108,9 @@ asks_put Grow = false
 asks_put Check = false
 asks_put Shrink = false
 
-abbrev pub is_put : Item → Bool
-is_put (Asks c n) = asks_put c
-is_put Unknown = false
-is_put Cut = false
+abbrev pub is_put : Result Asked Unread → Bool
+is_put (Ok a) = asks_put a.command
+is_put (Err u) = false
 
 -- a format's record: length and kind, "length first", then its numbers, and what more there is
 abbrev format_with : (length : ℕ) → Params → (cap : ℕ) → List Field → List Field
@@ -150,5 +161,5 @@ abbrev pub refused_by : ℕ → Numbers
 refused_by n = told n 0 0 0 0
 
 -- what the code gives back of a call
-abbrev pub tells : Done → Told
-tells d = record { state = d.state; numbers = numbers d.answer }
+abbrev pub tells : Done Answer → Done Numbers
+tells d = record { state = d.state; answer = numbers d.answer }

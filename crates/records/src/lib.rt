@@ -4,17 +4,17 @@
 
 ghost use Rattle.std.specs.Prelude.{◌≡◌, ◌≤◌, length};
 ghost use Rattle.numbers.specs.Fields.{encode};
-ghost use Rattle.records.specs.Records.{length_of, known, format_for, form_of, record_in, format_in, command_of, first_of, asks_put, is_put, refused_by, tells, reply_of};
+ghost use Rattle.records.specs.Records.{length_of, form_for, format_for, form_of, record_in, format_in, command_of, refusal_of, first_of, is_put, tells, reply_of};
 ghost use Rattle.records.specs.Steps.Within.{Formed, Lies};
 
 use homes::Params;
-use layouts::IN_USE;
+use layouts::{InUse, Layout};
 use pages::Record;
-use state::{Done, Numbers, State};
+use state::{Answer, Done, Numbers, State};
 
 // What a kind stands for. A format's record has two lengths, of which the longer one names the
 // edition.
-#[derive(Clone, Copy)]
+#[derive(Clone, Copy, Debug, PartialEq, Eq)]
 pub enum Kind {
     Format,
     FormatEdition,
@@ -27,10 +27,10 @@ pub enum Kind {
 }
 
 // A kind's command, and the length of its record.
-#[derive(Clone, Copy)]
-pub enum Form {
-    Known { kind: Kind, length: u16 },
-    Unknown,
+#[derive(Clone, Copy, Debug, PartialEq, Eq)]
+pub struct Form {
+    pub kind: Kind,
+    pub length: u16,
 }
 
 // A command with its numbers.
@@ -45,71 +45,100 @@ pub enum Command {
     Shrink,
 }
 
-// The first record of an input: a command and how many bytes it takes, no command, or cut off.
+// A command that an input begins with, and how many bytes its record takes.
 #[derive(Clone, Copy)]
-pub enum Item {
-    Asks { command: Command, length: usize },
-    Unknown,
-    Cut,
+pub struct Asked {
+    pub command: Command,
+    pub length: usize,
 }
 
-// The state after a call, and the numbers that it is answered with.
-#[derive(Clone, Copy)]
-pub struct Told {
-    pub state: State,
-    pub numbers: Numbers,
+// Why no command was read: a kind that is unknown or a length that is wrong for it, or a record
+// that the input ends within.
+#[derive(Clone, Copy, Debug, PartialEq, Eq)]
+pub enum Unread {
+    UnknownKind,
+    CutOff,
+}
+
+impl Unread {
+    // The number of the refusal.
+    pub fn number(self) -> u16
+        ensures { result ≡ refusal_of self }
+    {
+        match self {
+            Unread::UnknownKind => 10,
+            Unread::CutOff => 11,
+        }
+    }
+}
+
+impl From<Unread> for Numbers {
+    ghost use Rattle.std.specs.Prelude.{◌≡◌};
+    ghost use Rattle.records.specs.Records.{refusal_of, refused_by};
+
+    ghost from_gives = { λ why told. told ≡ refused_by (refusal_of why) };
+
+    fn from(why: Unread) -> Numbers {
+        Numbers {
+            refusal: why.number(),
+            ..Numbers::default()
+        }
+    }
 }
 
 // Which of a format's two records one of this length is.
 fn format_form(told: u16) -> Form
-    ensures { result ≡ known (format_for told) }
+    ensures { result ≡ form_for (format_for told) }
 {
     if told == 14 {
-        return Form::Known {
+        return Form {
             kind: Kind::FormatEdition,
             length: 14,
         };
     }
-    Form::Known {
+    Form {
         kind: Kind::Format,
         length: 12,
     }
 }
 
-// The command that a kind stands for, and the length of its record, where this one is told.
-fn form_of(told: u16, kind: u16) -> Form
+// The command that a kind stands for, and the length of its record, where this one is told. No
+// catch-all: each kind is in an arm of its own or in one of the two ranges.
+#[tactic(auto, unfolding(crate::specs::Records::form_of))]
+fn form_of(told: u16, kind: u16) -> Option<Form>
     ensures value { result ≡ form_of told kind }
     ensures within { Formed result }
 {
-    match kind {
-        0..=256 => Form::Unknown,
+    let form = match kind {
+        0..=256 => return None,
         257 => format_form(told),
-        258 => Form::Known {
+        258 => Form {
             kind: Kind::Put,
             length: 20,
         },
-        259 => Form::Known {
+        259 => Form {
             kind: Kind::Find,
             length: 12,
         },
-        260 => Form::Known {
+        260 => Form {
             kind: Kind::Remove,
             length: 12,
         },
-        261 => Form::Known {
+        261 => Form {
             kind: Kind::Grow,
             length: 4,
         },
-        262 => Form::Known {
+        262 => Form {
             kind: Kind::Check,
             length: 4,
         },
-        263 => Form::Known {
+        263 => Form {
             kind: Kind::Shrink,
             length: 4,
         },
-        264..=65535 => Form::Unknown,
-    }
+        264..=65535 => return None,
+    };
+    Some(form)
 }
 
 // The request and the commit of a put record. It names no run.
@@ -118,8 +147,8 @@ pub fn record_in(input: &[u8]) -> Record
     ensures { result ≡ record_in input.now }
 {
     Record {
-        key: numbers::get_u64(input, 4),
-        value: numbers::get_u64(input, 12),
+        key: numbers::get::<u64>(input, 4),
+        value: numbers::get::<u64>(input, 12),
         run: 0,
     }
 }
@@ -130,14 +159,14 @@ fn format_in(input: &[u8], edition: u16) -> Command
     ensures { result ≡ format_in input.now edition }
 {
     let params = Params {
-        n0: numbers::get_u16(input, 4),
-        n: numbers::get_u16(input, 6),
-        s: numbers::get_u16(input, 8),
+        n0: numbers::get::<u16>(input, 4),
+        n: numbers::get::<u16>(input, 6),
+        s: numbers::get::<u16>(input, 8),
         edition,
     };
     Command::Format {
         params,
-        cap: numbers::get_u16(input, 10),
+        cap: numbers::get::<u16>(input, 10),
     }
 }
 
@@ -148,15 +177,15 @@ fn command_of(kind: Kind, input: &[u8]) -> Command
 {
     match kind {
         Kind::Format => format_in(input, 1),
-        Kind::FormatEdition => format_in(input, numbers::get_u16(input, 12)),
+        Kind::FormatEdition => format_in(input, numbers::get::<u16>(input, 12)),
         Kind::Put => Command::Put {
             new: record_in(input),
         },
         Kind::Find => Command::Find {
-            key: numbers::get_u64(input, 4),
+            key: numbers::get::<u64>(input, 4),
         },
         Kind::Remove => Command::Remove {
-            key: numbers::get_u64(input, 4),
+            key: numbers::get::<u64>(input, 4),
         },
         Kind::Grow => Command::Grow,
         Kind::Check => Command::Check,
@@ -165,80 +194,49 @@ fn command_of(kind: Kind, input: &[u8]) -> Command
 }
 
 // The first record of an input.
-pub fn first(input: &[u8]) -> Item
+#[tactic(auto, unfolding(crate::specs::Records::first_of))]
+pub fn first(input: &[u8]) -> Result<Asked, Unread>
     ensures value { result ≡ first_of input.now }
     ensures within { Lies (length input.now) result }
 {
     if input.len() < 4 {
-        return Item::Cut;
+        return Err(Unread::CutOff);
     }
-    let told = numbers::get_u16(input, 0);
-    let form = form_of(told, numbers::get_u16(input, 2));
-    match form {
-        Form::Unknown => Item::Unknown,
-        Form::Known { kind, length } => {
-            if told != length {
-                return Item::Unknown;
-            }
-            if input.len() < length as usize {
-                return Item::Cut;
-            }
-            Item::Asks {
-                command: command_of(kind, input),
-                length: length as usize,
-            }
-        }
+    let told = numbers::get::<u16>(input, 0);
+    let Some(form) = form_of(told, numbers::get::<u16>(input, 2)) else {
+        return Err(Unread::UnknownKind);
+    };
+    if told != form.length {
+        return Err(Unread::UnknownKind);
     }
-}
-
-// Whether a command is a put.
-fn asks_put(command: Command) -> bool
-    ensures { result ≡ asks_put command }
-{
-    match command {
-        Command::Format { params, cap } => false,
-        Command::Put { new } => true,
-        Command::Find { key } => false,
-        Command::Remove { key } => false,
-        Command::Grow => false,
-        Command::Check => false,
-        Command::Shrink => false,
+    let length = form.length as usize;
+    if input.len() < length {
+        return Err(Unread::CutOff);
     }
+    Ok(Asked {
+        command: command_of(form.kind, input),
+        length,
+    })
 }
 
 // Whether an input begins with a whole put record.
 pub fn is_put(input: &[u8]) -> bool
     ensures { result ≡ is_put (first_of input.now) }
 {
-    let item = first(input);
-    match item {
-        Item::Asks { command, length } => asks_put(command),
-        Item::Unknown => false,
-        Item::Cut => false,
-    }
-}
-
-// The numbers of an answer that has none but its refusal, or 0.
-pub fn refused(refusal: u16) -> Numbers
-    ensures { result ≡ refused_by refusal }
-{
-    Numbers {
-        refusal,
-        page: 0,
-        value: 0,
-        read: 0,
-        moved: 0,
+    match first(input) {
+        Ok(asked) => matches!(asked.command, Command::Put { .. }),
+        Err(_) => false,
     }
 }
 
 // What one of the register's calls came to, in numbers.
-pub fn tell(done: Done) -> Told
+pub fn tell(done: Done<Answer>) -> Done<Numbers>
     ensures { result ≡ tells done }
 {
-    let state = done.state;
-    let answer = done.answer;
-    let numbers = answer.numbers();
-    Told { state, numbers }
+    Done {
+        state: done.state,
+        answer: done.answer.into(),
+    }
 }
 
 // A reply, with P and due of the state after the command.
@@ -246,14 +244,14 @@ pub fn reply(part: &mut [u8], told: Numbers, state: State)
     requires { length part.old ≡ 28 }
     ensures { part.new ≡ encode (reply_of told state) }
 {
-    let due = if state.due(IN_USE) { 1 } else { 0 };
-    numbers::put_u16(part, 0, 28);
-    numbers::put_u16(part, 2, 513);
-    numbers::put_u16(part, 4, told.refusal);
-    numbers::put_u16(part, 6, told.page);
-    numbers::put_u64(part, 8, told.value);
-    numbers::put_u32(part, 16, told.read);
-    numbers::put_u32(part, 20, told.moved);
-    numbers::put_u16(part, 24, state.p);
-    numbers::put_u16(part, 26, due);
+    let due = u16::from(state.due(InUse::NUMBER));
+    numbers::put::<u16>(part, 0, 28);
+    numbers::put::<u16>(part, 2, 513);
+    numbers::put(part, 4, told.refusal);
+    numbers::put(part, 6, told.page);
+    numbers::put(part, 8, told.value);
+    numbers::put(part, 16, told.read);
+    numbers::put(part, 20, told.moved);
+    numbers::put(part, 24, state.p);
+    numbers::put(part, 26, due);
 }

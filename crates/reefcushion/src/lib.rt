@@ -3,7 +3,7 @@
 // lengths and any bytes, and returns the number of its refusal.
 #![tactic(auto)]
 
-ghost use Rattle.std.specs.Prelude.{◌≡◌, length};
+ghost use Rattle.std.specs.Prelude.{◌≡◌, length, MatchOption};
 ghost use Rattle.numbers.specs.Fields.{encode};
 ghost use Rattle.homes.specs.Homes.{params};
 ghost use Rattle.pages.specs.Page.{record_with};
@@ -13,10 +13,10 @@ ghost use Rattle.reefcushion.specs.Slip.{renumbered, state_in, slip_of, slip_abo
 
 use comparisons::ComparedNumbers;
 use homes::Params;
-use layouts::IN_USE;
+use layouts::{InUse, Layout};
+use merges::MergedNumbers;
 use pages::Record;
-use records::Told;
-use state::{Done, State};
+use state::{Answer, Done, Numbers, State};
 
 // The bytes of a slip.
 const SLIP: usize = 40;
@@ -32,55 +32,47 @@ const NO_SLIP: u32 = 100;
 fn renumbered(state: State, by: u16) -> State
     ensures { result ≡ renumbered by state }
 {
-    let edition = state.params.edition as u32 + by as u32;
     let params = Params {
-        n0: state.params.n0,
-        n: state.params.n,
-        s: state.params.s,
-        edition: (edition % 65536) as u16,
+        edition: state.params.edition.wrapping_add(by),
+        ..state.params
     };
-    State {
-        params,
-        p: state.p,
-        cap: state.cap,
-        r: state.r,
-    }
+    State { params, ..state }
 }
 
-// The state that a slip brings.
-fn state_in(slip: &[u8]) -> State
-    requires { length slip.now ≡ 40 }
-    ensures { result ≡ state_in slip.now }
+// The state that a slip brings, if it has a slip's length.
+fn state_in(slip: &[u8]) -> Option<State>
+    ensures { MatchOption result (length slip.now ≡ 40 → ⊥) (λ state. (length slip.now ≡ 40) × (state ≡ state_in slip.now)) }
 {
-    renumbered(slips::get_state(slip, 0), 1)
+    if slip.len() != SLIP {
+        return None;
+    }
+    Some(renumbered(slips::get_state(slip, 0), 1))
 }
 
 // What a call came to, over all of the slip, with the file that a refusal is about, or 0. It brings the next
 // call the state that this one left.
-fn hand_back(slip: &mut [u8], told: Told, file: u16) -> u32
+fn hand_back(slip: &mut [u8], told: Done<Numbers>, file: u16) -> u32
     requires { length slip.old ≡ 40 }
-    ensures value { result ≡ told.numbers.refusal }
-    ensures slip_after { slip.new ≡ slip_about told.state told.numbers file }
+    ensures value { result ≡ told.answer.refusal }
+    ensures slip_after { slip.new ≡ slip_about told.state told.answer file }
     ensures again { state_in slip.new ≡ told.state }
 {
-    let state = told.state;
-    let numbers = told.numbers;
-    slips::put_state(slip, 0, renumbered(state, 65535));
-    slips::put_answer(slip, 16, numbers, file);
-    numbers.refusal as u32
+    slips::put_state(slip, 0, renumbered(told.state, 65535));
+    slips::put_answer(slip, 16, told.answer, file);
+    u32::from(told.answer.refusal)
 }
 
-fn tell(slip: &mut [u8], done: Done) -> u32
+fn tell(slip: &mut [u8], done: Done<Answer>) -> u32
     requires { length slip.old ≡ 40 }
     ensures value { result ≡ (numbers done.answer).refusal }
     ensures slip_after { slip.new ≡ slip_of done.state (numbers done.answer) }
     ensures again { state_in slip.new ≡ done.state }
 {
-    let told = records::tell(done);
-    hand_back(slip, told, 0)
+    hand_back(slip, records::tell(done), 0)
 }
 
 // A file of the edition that is asked for.
+#[tactic(auto, unfolding(crate::specs::Slip::served, register::specs::Files::left))]
 #[unsafe(no_mangle)]
 pub extern "C" fn reefcushion_format_edition(
     slip: &mut [u8],
@@ -93,13 +85,11 @@ pub extern "C" fn reefcushion_format_edition(
 ) -> u32
     ensures { let o = served slip.old area.old (format (params n0 n s edition) cap) in (result ≡ o.returned) × ((slip.new ≡ o.slip) × ((area.new ≡ o.file.area) × (state_in slip.new ≡ o.file.state))) }
 {
-    if slip.len() != SLIP {
+    let Some(state) = state_in(slip) else {
         return NO_SLIP;
-    }
-    let state = state_in(&slip[..]);
+    };
     let params = Params { n0, n, s, edition };
-    let done = register::format(state, params, cap, area);
-    tell(slip, done)
+    tell(slip, register::format(state, params, cap, area))
 }
 
 // A file of edition 1, which a format makes that names none.
@@ -117,79 +107,77 @@ pub extern "C" fn reefcushion_format(
     reefcushion_format_edition(slip, area, n0, n, s, cap, 1)
 }
 
+#[tactic(auto, unfolding(crate::specs::Slip::served, register::specs::Files::left))]
 #[unsafe(no_mangle)]
 pub extern "C" fn reefcushion_find(slip: &mut [u8], area: &[u8], key: u64) -> u32
     ensures { let o = served slip.old area.now (find key) in (result ≡ o.returned) × ((slip.new ≡ o.slip) × (state_in slip.new ≡ o.file.state)) }
 {
-    if slip.len() != SLIP {
+    let Some(state) = state_in(slip) else {
         return NO_SLIP;
-    }
-    let state = state_in(&slip[..]);
-    let done = register::find(state, area, key);
-    tell(slip, done)
+    };
+    tell(slip, register::find(state, area, key))
 }
 
+#[tactic(auto, unfolding(crate::specs::Slip::served, register::specs::Files::left))]
 #[unsafe(no_mangle)]
 pub extern "C" fn reefcushion_put(slip: &mut [u8], area: &mut [u8], key: u64, value: u64) -> u32
     ensures { let o = served slip.old area.old (put (record_with key value 0)) in (result ≡ o.returned) × ((slip.new ≡ o.slip) × ((area.new ≡ o.file.area) × (state_in slip.new ≡ o.file.state))) }
 {
-    if slip.len() != SLIP {
+    let Some(state) = state_in(slip) else {
         return NO_SLIP;
-    }
-    let state = state_in(&slip[..]);
-    let done = register::put(state, area, Record { key, value, run: 0 });
-    tell(slip, done)
+    };
+    tell(
+        slip,
+        register::put(state, area, Record { key, value, run: 0 }),
+    )
 }
 
+#[tactic(auto, unfolding(crate::specs::Slip::served, register::specs::Files::left))]
 #[unsafe(no_mangle)]
 pub extern "C" fn reefcushion_remove(slip: &mut [u8], area: &mut [u8], key: u64) -> u32
     ensures { let o = served slip.old area.old (remove key) in (result ≡ o.returned) × ((slip.new ≡ o.slip) × ((area.new ≡ o.file.area) × (state_in slip.new ≡ o.file.state))) }
 {
-    if slip.len() != SLIP {
+    let Some(state) = state_in(slip) else {
         return NO_SLIP;
-    }
-    let state = state_in(&slip[..]);
-    let done = register::remove(state, area, key);
-    tell(slip, done)
+    };
+    tell(slip, register::remove(state, area, key))
 }
 
+#[tactic(auto, unfolding(crate::specs::Slip::served, crate::specs::Slip::served_row, register::specs::Files::left))]
 #[unsafe(no_mangle)]
 pub extern "C" fn reefcushion_grow(slip: &mut [u8], area: &mut [u8], row: &mut [u32]) -> u32
     ensures { let o = served slip.old area.old (grow row.old) in (result ≡ o.returned) × ((slip.new ≡ o.slip) × ((area.new ≡ o.file.area) × ((row.new ≡ served_row slip.old area.old row.old) × (state_in slip.new ≡ o.file.state)))) }
 {
-    if slip.len() != SLIP {
+    let Some(state) = state_in(slip) else {
         return NO_SLIP;
-    }
-    let state = state_in(&slip[..]);
-    let done = register::grow(state, area, row);
-    tell(slip, done)
+    };
+    tell(slip, register::grow(state, area, row))
 }
 
+#[tactic(auto, unfolding(crate::specs::Slip::served, register::specs::Files::left))]
 #[unsafe(no_mangle)]
 pub extern "C" fn reefcushion_shrink(slip: &mut [u8], area: &mut [u8]) -> u32
     ensures { let o = served slip.old area.old shrink in (result ≡ o.returned) × ((slip.new ≡ o.slip) × ((area.new ≡ o.file.area) × (state_in slip.new ≡ o.file.state))) }
 {
-    if slip.len() != SLIP {
+    let Some(state) = state_in(slip) else {
         return NO_SLIP;
-    }
-    let state = state_in(&slip[..]);
-    let done = register::shrink(state, area);
-    tell(slip, done)
+    };
+    tell(slip, register::shrink(state, area))
 }
 
+#[tactic(auto, unfolding(crate::specs::Slip::served, register::specs::Files::left))]
 #[unsafe(no_mangle)]
 pub extern "C" fn reefcushion_check(slip: &mut [u8], area: &[u8]) -> u32
     ensures { let o = served slip.old area.now check in (result ≡ o.returned) × ((slip.new ≡ o.slip) × (state_in slip.new ≡ o.file.state)) }
 {
-    if slip.len() != SLIP {
+    let Some(state) = state_in(slip) else {
         return NO_SLIP;
-    }
-    let state = state_in(&slip[..]);
-    let done = register::check(state, area);
-    tell(slip, done)
+    };
+    tell(slip, register::check(state, area))
 }
 
 // A pay run: put records end to end, and a reply of 28 bytes for each.
+#[tactic(auto, unfolding(crate::specs::Slip::served_run, crate::specs::Slip::served_room))]
 #[unsafe(no_mangle)]
 pub extern "C" fn reefcushion_put_run(
     slip: &mut [u8],
@@ -199,12 +187,10 @@ pub extern "C" fn reefcushion_put_run(
 ) -> u32
     ensures { let o = served_run slip.old area.old input.now replies.old in (result ≡ o.returned) × ((slip.new ≡ o.slip) × ((area.new ≡ o.file.area) × ((replies.new ≡ served_room slip.old area.old input.now replies.old) × (state_in slip.new ≡ o.file.state)))) }
 {
-    if slip.len() != SLIP {
+    let Some(state) = state_in(slip) else {
         return NO_SLIP;
-    }
-    let state = state_in(&slip[..]);
-    let told = pay_runs::put_run(state, area, input, replies);
-    hand_back(slip, told, 0)
+    };
+    hand_back(slip, pay_runs::put_run(state, area, input, replies), 0)
 }
 
 // What a comparison came to, over all of the bytes that it is told in.
@@ -212,17 +198,17 @@ fn put_comparison(told: &mut [u8], n: ComparedNumbers)
     requires { length told.old ≡ 20 }
     ensures { told.new ≡ encode (comparison_fields n) }
 {
-    let numbers = n.numbers;
-    numbers::put_u16(told, 0, numbers.refusal);
-    numbers::put_u16(told, 2, n.file);
-    numbers::put_u16(told, 4, numbers.page);
-    numbers::put_u16(told, 6, 0);
-    numbers::put_u32(told, 8, numbers.read);
-    numbers::put_u32(told, 12, n.taken);
-    numbers::put_u32(told, 16, n.wanted);
+    numbers::put(told, 0, n.numbers.refusal);
+    numbers::put(told, 2, n.file);
+    numbers::put(told, 4, n.numbers.page);
+    numbers::put::<u16>(told, 6, 0);
+    numbers::put(told, 8, n.numbers.read);
+    numbers::put(told, 12, n.taken);
+    numbers::put(told, 16, n.wanted);
 }
 
 // What differs between two files, in lent room. It writes neither file, nor its slip.
+#[tactic(auto, unfolding(crate::specs::Slip::served_compare))]
 #[unsafe(no_mangle)]
 pub extern "C" fn reefcushion_compare(
     slip: &[u8],
@@ -234,25 +220,24 @@ pub extern "C" fn reefcushion_compare(
 ) -> u32
     ensures { let o = served_compare slip.now area.now other_slip.now other_area.now list.old told.old in (result ≡ o.returned) × ((list.new ≡ o.list) × (told.new ≡ o.comparison)) }
 {
-    if slip.len() != SLIP {
+    let Some(first) = state_in(slip) else {
         return NO_SLIP;
-    }
-    if other_slip.len() != SLIP {
+    };
+    let Some(second) = state_in(other_slip) else {
         return NO_SLIP;
-    }
+    };
     if told.len() != COMPARISON {
         return NO_SLIP;
     }
-    let first = state_in(slip);
-    let second = state_in(other_slip);
-    let compared = comparisons::compare(first, area, second, other_area, list);
-    let n = compared.numbers();
-    put_comparison(told, n);
-    let numbers = n.numbers;
-    numbers.refusal as u32
+    let compared: ComparedNumbers = comparisons::compare(
+        first, area, second, other_area, list,
+    ).into();
+    put_comparison(told, compared);
+    u32::from(compared.numbers.refusal)
 }
 
 // The other file's records into the living one. It writes neither the other file nor its slip.
+#[tactic(auto, unfolding(crate::specs::Slip::served_merge))]
 #[unsafe(no_mangle)]
 pub extern "C" fn reefcushion_merge(
     slip: &mut [u8],
@@ -263,31 +248,29 @@ pub extern "C" fn reefcushion_merge(
 ) -> u32
     ensures { let o = served_merge slip.old area.old other_slip.now other_area.now row.old in (result ≡ o.served.returned) × ((slip.new ≡ o.served.slip) × ((area.new ≡ o.served.file.area) × ((row.new ≡ o.row) × (state_in slip.new ≡ o.served.file.state)))) }
 {
-    if slip.len() != SLIP {
+    let Some(state) = state_in(slip) else {
         return NO_SLIP;
-    }
-    if other_slip.len() != SLIP {
+    };
+    let Some(second) = state_in(other_slip) else {
         return NO_SLIP;
-    }
-    let state = state_in(&slip[..]);
-    let second = state_in(other_slip);
+    };
     let done = merges::merge(state, area, second, other_area, row);
-    let answer = done.answer;
-    let n = answer.numbers();
-    let state = done.state;
-    let numbers = n.numbers;
-    let told = Told { state, numbers };
-    hand_back(slip, told, n.file)
+    let merged: MergedNumbers = done.answer.into();
+    let told = Done {
+        state: done.state,
+        answer: merged.numbers,
+    };
+    hand_back(slip, told, merged.file)
 }
 
 // Whether growth is due, 1 or 0. It leaves the slip as it is.
+#[tactic(auto, unfolding(crate::specs::Slip::due_on))]
 #[unsafe(no_mangle)]
 pub extern "C" fn reefcushion_due(slip: &[u8]) -> u32
     ensures { result ≡ due_on slip.now }
 {
-    if slip.len() != SLIP {
+    let Some(state) = state_in(slip) else {
         return 0;
-    }
-    let state = state_in(slip);
-    if state.due(IN_USE) { 1 } else { 0 }
+    };
+    u32::from(state.due(InUse::NUMBER))
 }

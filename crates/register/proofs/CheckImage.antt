@@ -9,6 +9,7 @@ use Prim.Native.Nat.{ℕ, ◌*◌}
 use native.Mathlib.Omega.{arith}
 use lib.Dec.{eqb}
 use lib.ListN.{length}
+use Rattle.std.proofs.Common.{Ok, Err}
 use Rattle.numbers.specs.Little.{Bytes}
 use Rattle.layouts.specs.Layout.{Layout, slots_of}
 use Rattle.placing.specs.Image.{cat, Image}
@@ -16,18 +17,16 @@ use Rattle.placing.proofs.Perms.{perm-length}
 use Rattle.pages.proofs.Areas.{area_pages, held_length}
 use Rattle.pages.specs.Page.{Record, key}
 use Rattle.pages.specs.Area.{pages_from, held_from}
-use Rattle.survey.specs.declared.Verdict.{Verdict}
-use Rattle.survey.specs.declared.Verdict.TheVariants.{Whole}
-use Rattle.survey.specs.declared.Verdict.TheVariants as verdicts
-use Rattle.survey.specs.Survey.{lowest_broken, surveyed}
+use Rattle.survey.specs.Survey.{Verdict, lowest_broken, surveyed}
 use Rattle.survey.proofs.ImageTest.{GoodFrom, image_test, none_broken, good_pages, all_pass}
 use Rattle.state.specs.declared.State.{State}
-use Rattle.state.specs.declared.Answer.TheVariants.{Accepted, NotImage}
+use Rattle.state.specs.declared.Refusal.TheVariants.{NotImage}
+use Rattle.state.specs.declared.Done.{Done}
+use Rattle.state.specs.Answer.{Answer, accepted}
+use Rattle.state.specs.Done.{done}
 use Rattle.state.specs.State.{in_range, homes}
-use Rattle.gates.specs.declared.Gate.TheVariants.{Open, Shut}
-use Rattle.gates.specs.Gates.{on_gate, gate_of, image_of, image_gate, check_gate}
+use Rattle.gates.specs.Gates.{Gate, opens, on_gate, gate_of, image_of, image_gate, check_gate}
 use Rattle.register.specs.OneImage.{AreaImage, ImageOfR}
-use Rattle.changes.specs.Changes.{done}
 use Rattle.register.specs.Calls.{checked}
 use Rattle.gates.proofs.Gating.{gate_open, check_pages}
 use Rattle.gates.proofs.Judging.{GoodFile, open_good, good_open, held_set, held_image}
@@ -38,19 +37,22 @@ of_own {ps = ps} i =
     let a = i.arranged in
     record { arranged = record { many = a.many; slots = a.slots; lies = a.lies; holds = Permᴰ.refl (cat ps []) }; full = i.full; rising = i.rising }
 
+-- what a check comes to past its gate, or at it
+abbrev checks : State → Gate → Done Answer
+checks s g = on_gate g (λ why. done s (Err why)) (done s (Ok (accepted 0 s.cap 0)))
+
 -- a gate that is shut says why not
-only_open : (form : Layout) (s : State) (area : List ℕ) → (on_gate (image_gate form s area) (done s) (done s (Accepted 0 s.cap 0))).answer ≡ Accepted 0 s.cap 0 → image_gate form s area ≡ Open
+only_open : (form : Layout) (s : State) (area : List ℕ) → (checks s (image_gate form s area)).answer ≡ Ok (accepted 0 s.cap 0) → image_gate form s area ≡ opens
 unfolding image_gate
 only_open form s area e = go (surveyed form (homes s) area s.cap) e
   where
-    tests : (u : Bool) → (on_gate (cond u Open (Shut (NotImage s.cap))) (done s) (done s (Accepted 0 s.cap 0))).answer ≡ Accepted 0 s.cap 0
-        → cond u Open (Shut (NotImage s.cap)) ≡ Open
+    tests : (u : Bool) → (checks s (cond u opens (Err (NotImage s.cap)))).answer ≡ Ok (accepted 0 s.cap 0) → cond u opens (Err (NotImage s.cap)) ≡ opens
     tests true k = refl
     tests false k = absurd (let z : ◌≡◌ {A = ℕ} 0 1 = cc in omega arith)
 
-    go : (v : Verdict) → (on_gate (image_of s v) (done s) (done s (Accepted 0 s.cap 0))).answer ≡ Accepted 0 s.cap 0 → image_of s v ≡ Open
-    go (verdicts.Broken a) k = absurd (let z : ◌≡◌ {A = ℕ} 0 1 = cc in omega arith)
-    go (Whole image records) k = tests (image && eqb records s.r) k
+    go : (v : Verdict) → (checks s (image_of s v)).answer ≡ Ok (accepted 0 s.cap 0) → image_of s v ≡ opens
+    go (Err a) k = absurd (let z : ◌≡◌ {A = ℕ} 0 1 = cc in omega arith)
+    go (Ok w) k = tests (w.image && eqb w.records s.r) k
 
 module _ (form : Layout) (s : State) (area : List ℕ) (b : Bytes area) (l : length area ≡ 256 * s.cap) where
   good : lowest_broken 0 (pages_from form (homes s) area s.cap 0) ≡ none → GoodFrom form (homes s) 0 (held_from form area s.cap 0)
@@ -85,17 +87,17 @@ module _ (form : Layout) (s : State) (area : List ℕ) (b : Bytes area) (l : len
       }
 
   -- "Check says yes exactly when the area is the image of r records."
-  pub check_image : in_range form s ≡ true → ((checked form s area).answer ≡ Accepted 0 s.cap 0) ↔ ImageOfR form s area
+  pub check_image : in_range form s ≡ true → ((checked form s area).answer ≡ Ok (accepted 0 s.cap 0)) ↔ ImageOfR form s area
   check_image r = (λ e. good_image (open_good form s area (yes e)), λ w. says (good_open form s area (image_good w)))
     where
-      gate : Open ≡ gate_of form s (length area)
+      gate : opens ≡ gate_of form s (length area)
       gate = gate_open form s (length area) r l
 
       pages : image_gate form s area ≡ check_gate form s area
-      pages = check_pages form s area Open gate refl (image_gate form s area) refl
+      pages = check_pages form s area opens gate refl (image_gate form s area) refl
 
-      says : image_gate form s area ≡ Open → (checked form s area).answer ≡ Accepted 0 s.cap 0
+      says : image_gate form s area ≡ opens → (checked form s area).answer ≡ Ok (accepted 0 s.cap 0)
       says e = rw (← pages, e)
 
-      yes : (checked form s area).answer ≡ Accepted 0 s.cap 0 → image_gate form s area ≡ Open
+      yes : (checked form s area).answer ≡ Ok (accepted 0 s.cap 0) → image_gate form s area ≡ opens
       yes e = only_open form s area (rw (← pages) at e)

@@ -1,11 +1,10 @@
 -- A file made empty, page by page.
-use mathlib.Core.Path.{◌≡◌, sym, ap, ◌∙◌}
-use mathlib.Core.List.{List, [], ◌++◌, append_assoc, append-nil}
+use mathlib.Core.Path.{◌≡◌, ap, ◌∙◌}
+use mathlib.Core.List.{List, [], ◌++◌, append_assoc}
 use Prim.Native.Nat.{ℕ, suc, ◌+◌, ◌-◌, ◌*◌, ◌≤◌, ◌<◌}
 use native.Mathlib.Numerals.{add-one}
 use native.Mathlib.Omega.{arith}
 use lib.ListN.{length, take, replicate}
-use lib.Seq.{take_all}
 use Rattle.numbers.proofs.Laws.{written_front}
 use Rattle.layouts.specs.Layout.{in_use}
 use Rattle.pages.specs.declared.Page.{Page}
@@ -22,11 +21,6 @@ pub record Cleared (cap : ℕ) (area : List ℕ) (a : ℕ) : Type 0 where
   pub long : length area ≡ 256 * cap
   pub empty : take (256 * a) area ++ area_from in_use a (replicate (cap - a) []) ≡ area_from in_use 0 (replicate cap [])
 
-pub clear_starts : (cap : ℕ) (area : List ℕ) → length area ≡ 256 * cap → Cleared cap area 0
-clear_starts cap area l =
-    let z : cap - 0 ≡ cap = omega arith in
-    record { low = omega arith; long = l; empty = rw z }
-
 -- a page more
 pub clear_goes_on : {cap : ℕ} {area : List ℕ} {a : ℕ} → Cleared cap area a → a < cap → (p : Page) → p ≡ in_memory [] → (new : List ℕ) → new ≡ with_page in_use area a (records_of p)
     → Cleared cap new (a + 1)
@@ -40,8 +34,3 @@ clear_goes_on {cap} {area} {a} c l p blank new e =
       long = rw m (with_length in_use area a [] (omega (arith, c.long)) ∙ c.long);
       empty = rw (m, f, append_assoc, add-one) (rw (left, add-one) at c.empty);
     }
-
-pub clear_ends : {cap : ℕ} {area : List ℕ} {a : ℕ} → Cleared cap area a → cap ≤ a → area ≡ area_from in_use 0 (replicate cap [])
-clear_ends {cap} {area} {a} c l =
-    let z : cap - a ≡ 0 = omega arith in
-    sym (take_all (256 * a) area (omega (arith, c.long))) ∙ (rw (z, append-nil) at c.empty)

@@ -7,6 +7,7 @@ use Prim.Native.Nat.{ℕ, suc, ◌*◌, ◌^◌, ◌≤◌, ◌<◌}
 use native.Mathlib.Decide.{ℕ_discrete}
 use native.Mathlib.Omega.{arith}
 use lib.ListN.{length, length-append}
+use Rattle.std.proofs.Common.{Ok, Err}
 use borrow.Author.Tests.{ne_eqb}
 use Rattle.layouts.specs.Layout.{Layout, slots_on, slots_of}
 use Rattle.pages.specs.Small.{Small}
@@ -22,10 +23,11 @@ use Rattle.placing.proofs.Changes.{put_image, put_room, remove_image}
 use Rattle.pages.specs.Page.{Record, key, value}
 use Rattle.pages.specs.Area.{area_from}
 use Rattle.state.specs.declared.State.{State}
-use Rattle.state.specs.declared.Answer.{Answer}
-use Rattle.state.specs.declared.Answer.TheVariants.{Accepted, Absent, NoRoom}
+use Rattle.state.specs.declared.Refusal.{Refusal}
+use Rattle.state.specs.declared.Refusal.TheVariants.{Absent, NoRoom}
 use Rattle.state.specs.State.{homes, one_more, one_less}
-use Rattle.state.specs.Answer.{again}
+use Rattle.state.specs.Answer.{Answer, accepted, again}
+use Rattle.state.specs.Done.{done}
 use Rattle.state.proofs.Ranges.{more_range, less_range}
 use Rattle.walks.specs.Walks.{stopped, walk, find_answer, put_walk, remove_walk}
 use Rattle.walks.proofs.Clean.{Others}
@@ -33,7 +35,6 @@ use Rattle.walks.proofs.Went.{Went}
 use Rattle.walks.proofs.FindWalk.{FindGoes, find_clean}
 use Rattle.walks.proofs.PutWalk.{Poured, PutGoes, put_clean}
 use Rattle.walks.proofs.RemoveWalk.{RemoveGoes, remove_clean}
-use Rattle.changes.specs.Changes.{done}
 use Rattle.register.specs.Files.{find, put, remove, leaves, file_in, left}
 use Rattle.register.proofs.OnImage.{OnImage, on_clean, on_gate, on_order, home_low, Refused, Accepts}
 
@@ -67,11 +68,11 @@ module _ {form : Layout} {s : State} {rs : List Record} {ps : List (List Record)
   find-leaves k a e = rw (← on_gate w) (ap (λ (x : Answer). leaves form (done s x) area []) e)
 
   -- a walk that stopped is a refusal
-  put-stopped : (x : Record) (why : Answer) → put_walk form h area s.cap x ≡ stopped why → Refused form s ps (put x) why []
+  put-stopped : (x : Record) (why : Refusal) → put_walk form h area s.cap x ≡ stopped why → Refused form s ps (put x) why []
   unfolding left
   put-stopped x why e = rw (← on_gate w, e)
 
-  remove-stopped : (k : ℕ) (why : Answer) → remove_walk form h area s.cap k ≡ stopped why → Refused form s ps (remove k) why []
+  remove-stopped : (k : ℕ) (why : Refusal) → remove_walk form h area s.cap k ≡ stopped why → Refused form s ps (remove k) why []
   unfolding left
   remove-stopped k why e = rw (← on_gate w, e)
 
@@ -103,12 +104,12 @@ module _ {form : Layout} {s : State} {rs : List Record} {ps : List (List Record)
     pub find_held : (x : Record) → seek key k rs ≡ some x → Accepts form s ps (find k) (value x) [] s rs (λ qs. 0)
     find_held x e =
         let t : FindGoes (some x) (find_answer (walk form h area s.cap k)) = rw e at goes in
-        record { read = t.0; moved = 0; pages = ps; left = find-leaves k (Accepted (value x) t.0 0) t.1; stands = w; moves = refl }
+        record { read = t.0; moved = 0; pages = ps; left = find-leaves k (Ok (accepted (value x) t.0 0)) t.1; stands = w; moves = refl }
 
     pub find_absent : seek key k rs ≡ none → (n : ℕ) × Refused form s ps (find k) (Absent n) []
     find_absent e =
         let t : FindGoes none (find_answer (walk form h area s.cap k)) = rw e at goes in
-        (t.0, find-leaves k (Absent t.0) t.1)
+        (t.0, find-leaves k (Err (Absent t.0)) t.1)
 
     -- remove leaves the image without the key, or answers 5
     pub remove_absent : seek key k rs ≡ none → (n : ℕ) × Refused form s ps (remove k) (Absent n) []

@@ -1,7 +1,6 @@
 pub mod After
 pub mod Clearing
 pub mod Answers
-pub mod Settling
 pub mod MadeAnew
 pub mod Parting
 pub mod CheckImage

@@ -9,6 +9,7 @@ use native.Mathlib.Omega.{arith}
 use lib.Dec.{eqb}
 use lib.ListN.{length, take, replicate, length-replicate}
 use lib.Seq.{length-take-le}
+use Rattle.std.proofs.Common.{Ok, Err}
 use borrow.Author.Tests.{eqb-true, eq-eqb}
 use Rattle.numbers.specs.Little.{Bytes}
 use Rattle.layouts.specs.Layout.{Layout, in_use, slots_of}
@@ -27,27 +28,23 @@ use Rattle.pages.specs.Page.{Record, key, home_for}
 use Rattle.pages.specs.Area.{held_from, area_from}
 use Rattle.pages.specs.Steps.Known.{KnownAt}
 use Rattle.rebuild.specs.Relaid.{relaid}
-use Rattle.survey.specs.declared.Count.TheVariants.{Homes}
-use Rattle.survey.specs.declared.Verdict.{Verdict}
-use Rattle.survey.specs.Steps.Counts.{Counts, Countable}
+use Rattle.survey.specs.Survey.{Verdict}
+use Rattle.survey.specs.Steps.Counts.{Counts}
 use Rattle.survey.proofs.ImageTest.{good_pages}
 use Rattle.survey.proofs.Knowing.{image_known}
 use Rattle.state.specs.declared.State.{State}
-use Rattle.state.specs.declared.Done.{Done}
-use Rattle.state.specs.declared.Answer.TheVariants.{Accepted}
+use Rattle.state.specs.declared.Accepted.{Accepted}
+use Rattle.state.specs.Answer.{accepted}
+use Rattle.state.specs.Done.{done}
 use Rattle.state.specs.State.{in_range, homes, grown, shrunk}
 use Rattle.state.proofs.Ranges.{ranged, in_shape, grown_range, shrunk_range}
-use Rattle.gates.specs.declared.Gate.{Gate}
-use Rattle.gates.specs.declared.Gate.TheVariants.{Open, Shut}
-use Rattle.gates.specs.Gates.{image_of, image_gate}
+use Rattle.gates.specs.Gates.{Gate, opens, image_of, image_gate}
 use Rattle.gates.proofs.Judging.{open_counted, GoodFile, open_good, held_set}
-use Rattle.changes.specs.Changes.{done}
-use Rattle.changes.proofs.Settling.{Comes}
 use Rattle.register.specs.Steps.Past.{besides, Rehomes, CountedIf}
 use Rattle.register.specs.Calls.{grown_counts, has_room, remade}
 
 -- the records of an area that is an image are a set
-pub open_set : (form : Layout) (s : State) (area : List ℕ) → Bytes area → length area ≡ 256 * s.cap → image_gate form s area ≡ Open
+pub open_set : (form : Layout) (s : State) (area : List ℕ) → Bytes area → length area ≡ 256 * s.cap → image_gate form s area ≡ opens
     → RecordSet key (cat (held_from form area s.cap 0) [])
 open_set form s area b l e = held_set form s area b l (open_good form s area e)
 
@@ -86,15 +83,11 @@ module _ (s next : State) (e : next ≡ shrunk s) (range : in_range in_use s ≡
       let a : s.p - 1 + 1 ≡ s.p = omega arith in
       record { usable = u; follows = rw b (rw e, rw a, inr (omega arith, omega arith)); low = rw b (omega (arith, (ranged in_use s range).p_high)) }
 
--- the homes of a file's records may be counted in a row of all pages
-pub countable : (s : State) → in_range in_use s ≡ true → (shape : Shape) → shape ≡ shape_of s.params s.p → (n : ℕ) → n ≡ s.cap → Countable Homes shape.p n
-countable s range shape f n l = (rw f (omega (arith, (ranged in_use s range).p_high)), omega (arith, (ranged in_use s range).cap_high))
-
--- and past the gate of the pages they are counted
+-- past the gate of the pages the homes of a file's records are counted
 pub counted_if : (s : State) (shape : Shape) → shape ≡ shape_of s.params s.p → (area row : List ℕ) (n : ℕ) → n ≡ s.cap → (v : Verdict) (g : Gate) → g ≡ image_of s v
-    → Counts v Homes (home_in shape) (cat (held_from in_use area s.cap 0) []) n row → CountedIf g s area row
-counted_if s shape f area row n l v Open e k = rw (f, l) at (open_counted s v (home_in shape) (cat (held_from in_use area s.cap 0) []) n row (sym e) k)
-counted_if s shape f area row n l v (Shut why) e k = tt
+    → Counts v (home_in shape) (cat (held_from in_use area s.cap 0) []) n row → CountedIf g s area row
+counted_if s shape f area row n l v (Ok u) e k = rw (f, l) at (open_counted s v (home_in shape) (cat (held_from in_use area s.cap 0) []) n row (sym e) k)
+counted_if s shape f area row n l v (Err why) e k = tt
 
 -- new homes of a file's records
 module _ (s : State) (range : in_range in_use s ≡ true) {new : NewHomes} (m : Rehomes s new) where
@@ -102,13 +95,13 @@ module _ (s : State) (range : in_range in_use s ≡ true) {new : NewHomes} (m : 
   same_page = agrees (shape_of s.params s.p) new (in_shape in_use s range) m.usable.ready m.follows
 
   -- what is known of the homes on its pages, if they are an image
-  pub rehomed_known : (area : List ℕ) → Bytes area → length area ≡ 256 * s.cap → image_gate in_use s area ≡ Open → (a : ℕ) → a < s.cap → KnownAt in_use new area a
+  pub rehomed_known : (area : List ℕ) → Bytes area → length area ≡ 256 * s.cap → image_gate in_use s area ≡ opens → (a : ℕ) → a < s.cap → KnownAt in_use new area a
   rehomed_known area b l e =
       let k : GoodFile in_use s area = open_good in_use s area e in
       image_known in_use (homes s) area new same_page s.cap (good_pages in_use (homes s) area b s.cap 0 (omega arith) k.whole) k.image
 
 -- past an open gate the homes are counted
-pub counted_open : (s : State) (area row : List ℕ) (g : Gate) → CountedIf g s area row → g ≡ Open → row ≡ counts (home_for (homes s)) (cat (held_from in_use area s.cap 0) []) s.cap 0
+pub counted_open : (s : State) (area row : List ℕ) (g : Gate) → CountedIf g s area row → g ≡ opens → row ≡ counts (home_for (homes s)) (cat (held_from in_use area s.cap 0) []) s.cap 0
 counted_open s area row g k e = rw e at k
 
 -- the row of a file that may grow
@@ -151,6 +144,6 @@ module _ (form : Layout) (s next : State) (area : List ℕ) (new : NewHomes) (of
   -- and makes the file anew
   pub remake_done : (moved : ℕ) → moved ≡ strayed key (held_from form area s.cap 0) (relaid (slots_of form) (new_home new) s.cap (held_from form area s.cap 0))
       → (made : List ℕ) → made ≡ area_from form 0 (relaid (slots_of form) (new_home new) s.cap (held_from form area s.cap 0))
-      → (d : Done) → d ≡ done next (Accepted 0 s.cap moved) → Comes d made (remade form s next area)
+      → (a : Accepted) → a ≡ accepted 0 s.cap moved → let o = remade form s next area in (done next (Ok a) ≡ o.done) × (made ≡ o.area)
   unfolding remade
-  remake_done moved k made n d e = (e ∙ rw (k, same_homes), n ∙ rw same_homes)
+  remake_done moved k made n a e = (rw (e, k, same_homes), n ∙ rw same_homes)

@@ -5,6 +5,7 @@ use mathlib.Core.List.{List}
 use Prim.Native.Nat.{ℕ, ◌*◌, ◌≤◌}
 use native.Mathlib.Omega.{arith}
 use lib.ListN.{length}
+use Rattle.std.proofs.Common.{Ok, Err}
 use Rattle.layouts.specs.Layout.{Layout, slots_of}
 use Rattle.pages.specs.Small.{Small}
 use Rattle.homes.proofs.Homes.{home_below}
@@ -13,14 +14,13 @@ use Rattle.pages.specs.Page.{Record, key}
 use Rattle.pages.specs.Area.{area_from}
 use Rattle.pages.proofs.Areas.{area_length}
 use Rattle.state.specs.declared.State.{State}
-use Rattle.state.specs.declared.Answer.{Answer}
-use Rattle.state.specs.declared.Answer.TheVariants.{Accepted}
+use Rattle.state.specs.declared.Refusal.{Refusal}
+use Rattle.state.specs.Answer.{accepted}
+use Rattle.state.specs.Done.{done}
 use Rattle.state.specs.State.{in_range, homes}
 use Rattle.state.proofs.Ranges.{ranged, in_shape}
-use Rattle.gates.specs.declared.Gate.TheVariants.{Open}
-use Rattle.gates.specs.Gates.{gate_of}
+use Rattle.gates.specs.Gates.{opens, gate_of}
 use Rattle.gates.proofs.Gating.{gate_open}
-use Rattle.changes.specs.Changes.{done}
 use Rattle.walks.proofs.Clean.{Clean, InOrder, image_order, image_clean}
 use Rattle.register.specs.Files.{Call, leaves, file_in, left}
 
@@ -42,7 +42,7 @@ module _ {form : Layout} {s : State} {rs : List Record} {ps : List (List Record)
   on_length = area_length form 0 ps ∙ ap (λ (n : ℕ). 256 * n) on_clean.many
 
   -- so no call refuses it before it looks at a page
-  pub on_gate : Open ≡ gate_of form s (length (area_from form 0 ps))
+  pub on_gate : opens ≡ gate_of form s (length (area_from form 0 ps))
   on_gate = gate_open form s (length (area_from form 0 ps)) w.range on_length
 
   -- and a home is one of its pages
@@ -54,8 +54,8 @@ module _ {form : Layout} {s : State} {rs : List Record} {ps : List (List Record)
   on_order = image_order w.set w.image
 
 -- a call is refused and leaves the file, with some row
-abbrev pub Refused : Layout → State → List (List Record) → Call → Answer → (row : List ℕ) → Type 0
-Refused form s ps c why row = left (file_in form s (area_from form 0 ps)) c ≡ leaves form (done s why) (area_from form 0 ps) row
+abbrev pub Refused : Layout → State → List (List Record) → Call → Refusal → (row : List ℕ) → Type 0
+Refused form s ps c why row = left (file_in form s (area_from form 0 ps)) c ≡ leaves form (done s (Err why)) (area_from form 0 ps) row
 
 -- a call is accepted with this value, and leaves a file that is the image of the records rs; `far`
 -- tells how many of a file's records lie on another page than before
@@ -63,6 +63,6 @@ pub record Accepts (form : Layout) (s : State) (ps : List (List Record)) (c : Ca
   pub read : ℕ
   pub moved : ℕ
   pub pages : List (List Record)
-  pub left : left (file_in form s (area_from form 0 ps)) c ≡ leaves form (done new (Accepted v read moved)) (area_from form 0 pages) row
+  pub left : left (file_in form s (area_from form 0 ps)) c ≡ leaves form (done new (Ok (accepted v read moved))) (area_from form 0 pages) row
   pub stands : OnImage form new rs pages
   pub moves : moved ≡ far pages

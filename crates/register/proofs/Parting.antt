@@ -6,11 +6,12 @@ use Prim.Native.Nat.{ℕ, ◌+◌, ◌-◌, ◌*◌, ◌/◌, ◌≤◌, ◌<◌
 use native.Mathlib.Omega.{arith}
 use lib.ListN.{length, take, length-take}
 use lib.Seq.{take_all}
+use Rattle.std.proofs.Common.{Ok}
 use Rattle.numbers.specs.Little.{Bytes, written}
 use Rattle.numbers.proofs.Laws.{written-length, written_front}
 use Rattle.layouts.specs.Layout.{in_use}
 use Rattle.homes.specs.declared.Shape.{Shape}
-use Rattle.homes.specs.Homes.{Ready, first_pages, shape_of, home_in}
+use Rattle.homes.specs.Homes.{first_pages, shape_of, home_in}
 use Rattle.placing.specs.Image.{cat}
 use Rattle.placing.specs.Rows.{counts, strayed}
 use Rattle.placing.proofs.Tidy.{Tidy, image_tidy}
@@ -26,15 +27,13 @@ use Rattle.leaving.specs.Steps.Leaving.{leavers}
 use Rattle.sliding.specs.Steps.Closing.{WasImage}
 use Rattle.survey.proofs.ImageTest.{none_broken}
 use Rattle.state.specs.declared.State.{State}
-use Rattle.state.specs.declared.Done.{Done}
-use Rattle.state.specs.declared.Answer.TheVariants.{Accepted}
+use Rattle.state.specs.declared.Accepted.{Accepted}
+use Rattle.state.specs.Answer.{accepted}
+use Rattle.state.specs.Done.{done}
 use Rattle.state.specs.State.{in_range, homes, grown}
-use Rattle.state.proofs.Ranges.{ranged, in_shape, grown_range}
-use Rattle.gates.specs.declared.Gate.TheVariants.{Open}
-use Rattle.gates.specs.Gates.{image_gate}
+use Rattle.state.proofs.Ranges.{ranged}
+use Rattle.gates.specs.Gates.{opens, image_gate}
 use Rattle.gates.proofs.Judging.{GoodFile, open_good, held_set, held_image}
-use Rattle.changes.specs.Changes.{done}
-use Rattle.changes.proofs.Settling.{Comes}
 use Rattle.register.specs.Steps.Past.{goers, Parted}
 use Rattle.register.specs.Calls.{grown_counts, remade}
 
@@ -50,14 +49,14 @@ module _ (s : State) (range : in_range in_use s ≡ true) (low : s.p < s.cap) (n
   new_homes = rw (of, e)
 
   -- what leaving and sliding ask of the numbers
-  pub part_ready : (s.cap ≤ 4096) × Ready shape × (first_pages shape.params < shape.p) × (shape.p ≤ s.cap)
+  pub part_ready : (s.cap ≤ 4096) × (first_pages shape.params < shape.p) × (shape.p ≤ s.cap)
   part_ready =
       let r = ranged in_use s range in
-      (r.cap_high, rw (of, e) (in_shape in_use (grown s) (grown_range in_use s range low)), rw (of, e) (omega (arith, r.p_low)), rw (of, e) (omega arith))
+      (r.cap_high, rw (of, e) (omega (arith, r.p_low)), rw (of, e) (omega arith))
 
-  module _ (area : List ℕ) (bytes : Bytes area) (long : length area ≡ 256 * s.cap) (opens : image_gate in_use s area ≡ Open) where
+  module _ (area : List ℕ) (bytes : Bytes area) (long : length area ≡ 256 * s.cap) (is_open : image_gate in_use s area ≡ opens) where
     good : GoodFile in_use s area
-    good = open_good in_use s area opens
+    good = open_good in_use s area is_open
 
     tidy : Tidy key (homes s) slots s.cap (cat (held_from in_use area s.cap 0) []) (held_from in_use area s.cap 0)
     tidy = image_tidy key (homes s) slots (held_set in_use s area bytes long good) (held_image in_use s area bytes long good)
@@ -121,6 +120,6 @@ module _ (s : State) (range : in_range in_use s ≡ true) (low : s.p < s.cap) (n
   -- and then the file is made anew
   pub slid_done : (area : List ℕ) (moved : ℕ) → moved ≡ strayed key (held_from in_use area s.cap 0) (relaid slots (home_in shape) s.cap (held_from in_use area s.cap 0))
       → (made : List ℕ) → made ≡ area_from in_use 0 (relaid slots (home_in shape) s.cap (held_from in_use area s.cap 0))
-      → (d : Done) → d ≡ done next (Accepted 0 s.cap moved) → Comes d made (remade in_use s (grown s) area)
+      → (a : Accepted) → a ≡ accepted 0 s.cap moved → let o = remade in_use s (grown s) area in (done next (Ok a) ≡ o.done) × (made ≡ o.area)
   unfolding remade
-  slid_done area moved k made n d c = (c ∙ rw (k, new_homes, e), n ∙ rw new_homes)
+  slid_done area moved k made n a c = (rw (c, k, new_homes, e), n ∙ rw new_homes)

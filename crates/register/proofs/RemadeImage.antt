@@ -6,6 +6,7 @@ use mathlib.Core.List.{List, [], ◌∷◌}
 use Prim.Native.Nat.{ℕ, suc, ◌+◌, ◌-◌, ◌<◌}
 use native.Mathlib.Omega.{arith}
 use lib.ListN.{length}
+use Rattle.std.proofs.Common.{Ok}
 use Rattle.numbers.specs.Little.{Bytes}
 use Rattle.numbers.proofs.Laws.{bytes_append}
 use Rattle.layouts.specs.Layout.{Layout, slots_of}
@@ -22,12 +23,13 @@ use Rattle.pages.specs.Area.{area_from}
 use Rattle.pages.proofs.Write.{page_bytes_lem}
 use Rattle.rebuild.specs.Relaid.{relaid}
 use Rattle.state.specs.declared.State.{State}
-use Rattle.state.specs.declared.Answer.TheVariants.{Accepted, WrongRow, NoRoom, AtCap, AtStart}
+use Rattle.state.specs.declared.Refusal.TheVariants.{WrongRow, NoRoom, AtCap, AtStart}
+use Rattle.state.specs.Answer.{accepted}
+use Rattle.state.specs.Done.{done}
 use Rattle.state.specs.State.{in_range, homes, grown, shrunk}
 use Rattle.state.proofs.Ranges.{grown_range, shrunk_range}
-use Rattle.gates.specs.declared.Gate.TheVariants.{Open}
-use Rattle.gates.specs.Gates.{image_gate, check_gate}
-use Rattle.changes.specs.Changes.{done, refused}
+use Rattle.gates.specs.Gates.{opens, image_gate, check_gate}
+use Rattle.changes.specs.Changes.{refused}
 use Rattle.register.specs.OneImage.{ImageOfR}
 use Rattle.register.specs.Calls.{grown_counts, has_room, remade, grow_open, with_row}
 use Rattle.register.specs.Files.{Call, grow, shrink, check, file_in, of_outcome, of_growth, leaves, left}
@@ -61,12 +63,12 @@ module _ {form : Layout} {s : State} {rs : List Record} {ps : List (List Record)
   image_of = record { records = rs; set = w.set; count = w.count; is = record { pages = ps; bytes = refl; pass = clean_pass (on_clean w); image = w.image } }
 
   -- so the pages pass
-  pub image_open : image_gate form s (area_from form 0 ps) ≡ Open
+  pub image_open : image_gate form s (area_from form 0 ps) ≡ opens
   image_open = good_open form s (area_from form 0 ps) (image_good form s (area_from form 0 ps) (area_bytes form 0 ps) (on_length w) image_of)
 
   -- and check says yes
-  pub check_open : check_gate form s (area_from form 0 ps) ≡ Open
-  check_open = sym (check_pages form s (area_from form 0 ps) Open (on_gate w) refl Open (sym image_open))
+  pub check_open : check_gate form s (area_from form 0 ps) ≡ opens
+  check_open = sym (check_pages form s (area_from form 0 ps) opens (on_gate w) refl opens (sym image_open))
 
   pub check_yes : Accepts form s ps check 0 [] s rs (λ qs. 0)
   unfolding left
@@ -83,7 +85,7 @@ module _ {form : Layout} {s : State} {rs : List Record} {ps : List (List Record)
         (set_sorted key h (cat ps []) (set_perm key (Permᴰ.symm w.image.arranged.holds) w.set))
 
     -- and are made
-    remade_on : remade form s next (area_from form 0 ps) ≡ record { done = done next (Accepted 0 s.cap (strayed key ps (remade_pages form s next ps))); area = area_from form 0 (remade_pages form s next ps) }
+    remade_on : remade form s next (area_from form 0 ps) ≡ record { done = done next (Ok (accepted 0 s.cap (strayed key ps (remade_pages form s next ps)))); area = area_from form 0 (remade_pages form s next ps) }
     unfolding remade
     remade_on = rw (clean_held (on_clean w))
 
@@ -122,19 +124,19 @@ module _ {form : Layout} {s : State} {rs : List Record} {ps : List (List Record)
     -- growth is refused with a row of another length
     pub grow_other_row : (length row ≡ s.cap → ⊥) → Refused form s ps (grow row) WrongRow row
     unfolding left
-    grow_other_row f = rw (← (row_shut form) s (area_from form 0 ps) (length row) Open (on_gate w) refl f)
+    grow_other_row f = rw (← (row_shut form) s (area_from form 0 ps) (length row) opens (on_gate w) refl f)
 
     module _ (fits : length row ≡ s.cap) where
       -- and with no page to grow to
       pub grow_no_page : s.p ≡ s.cap → Refused form s ps (grow row) AtCap row
       unfolding left
-      grow_no_page m = rw (← (cap_shut form) s (area_from form 0 ps) (length row) Open (on_gate w) refl fits m)
+      grow_no_page m = rw (← (cap_shut form) s (area_from form 0 ps) (length row) opens (on_gate w) refl fits m)
 
       module _ (low : s.p < s.cap) where
         -- else the records decide
         grows : left (file_in form s (area_from form 0 ps)) (grow row) ≡ of_growth form (with_row (grow_open form s (area_from form 0 ps)) (grown_row s rs))
         unfolding left
-        grows = rw (← (pages_decide form) s (area_from form 0 ps) (length row) Open (on_gate w) refl Open (sym image_open) fits (λ e. omega arith), row_told)
+        grows = rw (← (pages_decide form) s (area_from form 0 ps) (length row) opens (on_gate w) refl opens (sym image_open) fits (λ e. omega arith), row_told)
 
         pub grow_with_room : Room key (homes (grown s)) (slots_of form) s.cap rs → Accepts form s ps (grow row) 0 (grown_row s rs) (grown s) rs (λ qs. strayed key ps qs)
         grow_with_room r = anew (s.p + 1) (grow row) (grown_row s rs) (rw (grows, with_room r)) (grown_range form s w.range low) r
@@ -145,13 +147,13 @@ module _ {form : Layout} {s : State} {rs : List Record} {ps : List (List Record)
   -- a shrinking is refused with no page to give up
   pub shrink_no_page : s.p ≡ first_pages s.params → Refused form s ps shrink AtStart []
   unfolding left
-  shrink_no_page m = rw (← (start_shut form) s (area_from form 0 ps) Open (on_gate w) refl m)
+  shrink_no_page m = rw (← (start_shut form) s (area_from form 0 ps) opens (on_gate w) refl m)
 
   module _ (more : first_pages s.params < s.p) where
     -- else it is accepted
     shrinks : left (file_in form s (area_from form 0 ps)) shrink ≡ of_outcome form (remade form s (shrunk s) (area_from form 0 ps))
     unfolding left
-    shrinks = rw (← (pages_decide_shrink form) s (area_from form 0 ps) Open (on_gate w) refl Open (sym image_open) (λ e. omega arith))
+    shrinks = rw (← (pages_decide_shrink form) s (area_from form 0 ps) opens (on_gate w) refl opens (sym image_open) (λ e. omega arith))
 
     pub shrink_yes : Accepts form s ps shrink 0 [] (shrunk s) rs (λ qs. strayed key ps qs)
     shrink_yes = anew (s.p - 1) shrink [] shrinks (shrunk_range form s w.range more) (room_to_shrink form s w.range more (area_from form 0 ps) image_of)

@@ -22,8 +22,7 @@ use Rattle.walks.proofs.Clean.{read_held}
 use Rattle.state.specs.declared.State.{State}
 use Rattle.state.specs.State.{in_range, homes, shrunk}
 use Rattle.state.proofs.Ranges.{in_shape, shrunk_range}
-use Rattle.gates.specs.declared.Gate.TheVariants.{Open}
-use Rattle.gates.specs.Gates.{image_gate}
+use Rattle.gates.specs.Gates.{opens, image_gate}
 use Rattle.gates.proofs.Judging.{open_good}
 use Rattle.register.specs.OneImage.{ImageOfR}
 use Rattle.register.specs.Calls.{has_room}
@@ -53,7 +52,7 @@ module _ (form : Layout) (s : State) (range : in_range form s ≡ true) (more : 
   room_to_shrink area w = room_lower key (homes (shrunk s)) (homes s) (slots_of form) s.cap w.records homes_sink (w.is.pages, w.is.image.arranged)
 
   -- which is what a shrinking relies on past its gate
-  pub open_room : (next : State) → next ≡ shrunk s → (area : List ℕ) → Bytes area → length area ≡ 256 * s.cap → image_gate form s area ≡ Open → has_room form s next area ≡ true
+  pub open_room : (next : State) → next ≡ shrunk s → (area : List ℕ) → Bytes area → length area ≡ 256 * s.cap → image_gate form s area ≡ opens → has_room form s next area ≡ true
   open_room next e area b l o =
       let w : ImageOfR form s area = good_image form s area b l (open_good form s area o) in
       rw e ((room_of form s (shrunk s) area w).1 (room_to_shrink area w))

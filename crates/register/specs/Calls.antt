@@ -1,6 +1,6 @@
 -- The calls of the register: what each answers, and the state, the area and the row that it leaves,
 -- for any page layout, any numbers and any bytes. What is quoted is 01's, or 02's where that is said.
-use Rattle.std.specs.Prelude.{ℕ, Bool, cond, List, [], length, replicate, eqb}
+use Rattle.std.specs.Prelude.{ℕ, Bool, cond, List, [], length, replicate, eqb, Ok, Err}
 use Rattle.layouts.specs.Layout.{Layout, slots_of}
 use Rattle.homes.specs.declared.Params.{Params}
 use Rattle.placing.specs.Image.{cat}
@@ -12,9 +12,11 @@ use Rattle.rebuild.specs.Relaid.{relaid}
 use Rattle.state.specs.declared.State.{State}
 use Rattle.state.specs.State.{homes, fresh, grown, shrunk}
 use Rattle.state.specs.declared.Done.{Done}
-use Rattle.state.specs.declared.Answer.TheVariants.{Accepted, NoRoom}
+use Rattle.state.specs.declared.Refusal.TheVariants.{NoRoom}
+use Rattle.state.specs.Answer.{Answer, accepted}
+use Rattle.state.specs.Done.{done}
 use Rattle.walks.specs.Walks.{walk, find_answer}
-use Rattle.changes.specs.Changes.{done, Outcome, refused, put_open, remove_open}
+use Rattle.changes.specs.Changes.{Outcome, refused, put_open, remove_open}
 use Rattle.gates.specs.Gates.{on_gate, gate_of, check_gate, grow_gate, shrink_gate}
 
 -- Format: "empty file, P = n0 x N, r = 0"; "judged on the numbers it is asked for, not on the state
@@ -22,11 +24,11 @@ use Rattle.gates.specs.Gates.{on_gate, gate_of, check_gate, grow_gate, shrink_ga
 abbrev pub formatted : Layout → State → Params → (cap : ℕ) → List ℕ → Outcome
 formatted f old q cap area =
     on_gate (gate_of f (fresh q cap) (length area)) (refused old area)
-    (record { done = done (fresh q cap) (Accepted 0 0 0); area = area_from f 0 (replicate cap []) })
+    (record { done = done (fresh q cap) (Ok (accepted 0 0 0)); area = area_from f 0 (replicate cap []) })
 
 -- "Find 1, 2, then the walk."
-abbrev pub found : Layout → State → List ℕ → (k : ℕ) → Done
-found f s area k = on_gate (gate_of f s (length area)) (done s) (done s (find_answer (walk f (homes s) area s.cap k)))
+abbrev pub found : Layout → State → List ℕ → (k : ℕ) → Done Answer
+found f s area k = on_gate (gate_of f s (length area)) (λ why. done s (Err why)) (done s (find_answer (walk f (homes s) area s.cap k)))
 
 abbrev pub stored : Layout → State → List ℕ → Record → Outcome
 stored f s area x = on_gate (gate_of f s (length area)) (refused s area) (put_open f s area x)
@@ -35,8 +37,8 @@ abbrev pub removed : Layout → State → List ℕ → (k : ℕ) → Outcome
 removed f s area k = on_gate (gate_of f s (length area)) (refused s area) (remove_open f s area k)
 
 -- Check: its gate is all there is to it
-abbrev pub checked : Layout → State → List ℕ → Done
-checked f s area = on_gate (check_gate f s area) (done s) (done s (Accepted 0 s.cap 0))
+abbrev pub checked : Layout → State → List ℕ → Done Answer
+checked f s area = on_gate (check_gate f s area) (λ why. done s (Err why)) (done s (Ok (accepted 0 s.cap 0)))
 
 -- whether the lent pages can take all records, each at its home in the file `next` or higher
 unfoldable pub has_room : Layout → (s next : State) → List ℕ → Bool
@@ -50,7 +52,7 @@ unfoldable pub remade : Layout → (s next : State) → List ℕ → Outcome
 remade f s next area =
     let old = held_from f area s.cap 0 in
     let new = relaid (slots_of f) (homes next) s.cap old in
-    record { done = done next (Accepted 0 s.cap (strayed key old new)); area = area_from f 0 new }
+    record { done = done next (Ok (accepted 0 s.cap (strayed key old new))); area = area_from f 0 new }
 
 -- a growth past its gate: it "makes the image for P + 1", or there is no room (7)
 unfoldable pub grow_open : Layout → State → List ℕ → Outcome
@@ -58,7 +60,7 @@ grow_open f s area = cond (has_room f s (grown s) area) (remade f s (grown s) ar
 
 -- what a growth comes to
 pub record Growth : Type 0 where
-  pub done : Done
+  pub done : Done Answer
   pub area : List ℕ
   pub row : List ℕ
 

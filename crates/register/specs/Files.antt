@@ -6,10 +6,9 @@ use Rattle.homes.specs.declared.Params.{Params}
 use Rattle.pages.specs.Page.{Record}
 use Rattle.state.specs.declared.State.{State}
 use Rattle.state.specs.declared.Done.{Done}
-use Rattle.state.specs.declared.Answer.{Answer}
 use Rattle.state.specs.declared.Numbers.{Numbers}
 use Rattle.state.specs.State.{is_due}
-use Rattle.state.specs.Answer.{numbers}
+use Rattle.state.specs.Answer.{Answer, numbers}
 use Rattle.changes.specs.Changes.{Outcome}
 use Rattle.register.specs.Calls.{Growth, formatted, found, stored, removed, checked, grew, shrank}
 
@@ -51,7 +50,7 @@ pub record Left : Type 0 where
   pub row : List ℕ
 
 -- where the area is left as `area`, in the layout f
-abbrev pub leaves : Layout → Done → (area row : List ℕ) → Left
+abbrev pub leaves : Layout → Done Answer → (area row : List ℕ) → Left
 leaves f d area row = record { said = answers d.answer; file = file_in f d.state area; row = row }
 
 abbrev pub of_outcome : Layout → Outcome → Left

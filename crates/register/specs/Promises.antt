@@ -1,6 +1,6 @@
 -- What is promised of the calls on any bytes, beside what the definitions of the calls say. What is
 -- quoted is 01's.
-use Rattle.std.specs.Prelude.{ℕ, ◌*◌, ◌<◌, ◌≡◌, true, ◌↔◌, length}
+use Rattle.std.specs.Prelude.{ℕ, ◌*◌, ◌<◌, ◌≡◌, true, ◌↔◌, length, Ok}
 use mathlib.Core.List.{List, [], Permᴰ}
 use Rattle.numbers.specs.Little.{Bytes}
 use Rattle.layouts.specs.Layout.{Layout, slots_of}
@@ -10,7 +10,7 @@ use Rattle.pages.specs.Page.{Record, key}
 use Rattle.pages.specs.Area.{held_from}
 use Rattle.state.specs.declared.State.{State}
 use Rattle.state.specs.State.{in_range, homes, grown}
-use Rattle.state.specs.declared.Answer.TheVariants.{Accepted}
+use Rattle.state.specs.Answer.{accepted}
 use Rattle.register.specs.Calls.{checked, grown_counts}
 use Rattle.register.specs.OneImage.{AreaImage, ImageOfR}
 
@@ -19,7 +19,7 @@ pub record RegisterPromises : Type 0 where
   -- "Check says yes exactly when the area is the image of r records.": of a state in range and an
   -- area of its length, and else it is refused with 1 or 2
   pub check_yes : (f : Layout) (s : State) (area : List ℕ) → Bytes area → length area ≡ 256 * s.cap → in_range f s ≡ true
-      → ((checked f s area).answer ≡ Accepted 0 s.cap 0) ↔ ImageOfR f s area
+      → ((checked f s area).answer ≡ Ok (accepted 0 s.cap 0)) ↔ ImageOfR f s area
   -- "At most one image exists.": to the byte, whatever order the records are told in
   pub one_image : (f : Layout) (s : State) (a b : List ℕ) (rs ts : List Record) → RecordSet key rs → Permᴰ rs ts → AreaImage f s a rs → AreaImage f s b ts → a ≡ b
   -- A "row of 32-bit counts .. used to decide whether growth has room": of a file that may grow,

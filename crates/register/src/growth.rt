@@ -8,60 +8,58 @@ ghost use Rattle.placing.specs.Rows.{counts};
 ghost use Rattle.pages.specs.Page.{home_for};
 ghost use Rattle.pages.specs.Area.{held_from};
 ghost use Rattle.state.specs.State.{homes, grown};
-ghost use Rattle.gates.specs.declared.Gate.TheVariants.{Open};
-ghost use Rattle.gates.specs.Gates.{image_gate};
+ghost use Rattle.state.specs.Done.{done_of};
+ghost use Rattle.gates.specs.Gates.{opens, image_gate};
 ghost use Rattle.gates.specs.Steps.Past.{OpenImage, EnteredToGrow};
 ghost use Rattle.register.specs.Steps.Past.{Judgeable, CountedIf, Parted, grew_entered};
 ghost use Rattle.register.specs.Calls.{grown_counts, grow_open, has_room, remade};
 
 use crate::remaking;
-use gates::Gate;
-use layouts::IN_USE;
-use state::{Answer, Done, State};
-use survey::Count;
+use layouts::InUse;
+use pages::view::Pages;
+use state::{Outcome, Refusal, State};
 
 // Whether the area is the image of the state's records; their homes are counted meanwhile.
-fn judge(state: State, area: &[u8], counts: &mut [u32]) -> Gate
+fn judge(state: State, area: &[u8], counts: &mut [u32]) -> Result<(), Refusal>
     requires { Judgeable state (length area.now) (length counts.old) }
     ensures value { result ≡ image_gate in_use state area.now }
     ensures counted { CountedIf result state area.now counts.new }
 {
-    let cap = state.cap as usize;
+    let pages = Pages::new(area, state.cap as usize);
     let shape = state.shape();
-    let verdict = survey::survey(area, cap, IN_USE, shape, Count::Homes, counts);
+    let verdict = survey::survey::<InUse>(pages, shape, counts);
     gates::image_of(state, verdict)
 }
 
 // The file with a page more, where its records have room. Those that go to that page stand in the room
 // behind each other, as far as it has bytes; where it hasn't enough all records are laid anew.
-fn grow_roomy(state: State, area: &mut [u8], row: &[u32], room: &mut [u8], end: usize) -> Done
+// The end stands beside the room, since it may lie past it: no slice says how many bytes are wanted.
+fn grow_roomy(state: State, area: &mut [u8], row: &[u32], room: &mut [u8], end: usize) -> Outcome
     requires open_image { OpenImage in_use state area.old × (state.p < state.cap) × (row.now ≡ grown_counts in_use state area.old) × (has_room in_use state (grown state) area.old ≡ true) }
     requires parted { Parted state area.old room.old end }
-    ensures { let o = remade in_use state (grown state) area.old in (result ≡ o.done) × (area.new ≡ o.area) }
+    ensures { let o = remade in_use state (grown state) area.old in (done_of state result ≡ o.done) × (area.new ≡ o.area) }
 {
     let next = state.grown();
     if room.len() < end {
         let new = remaking::beside(next, next);
-        return remaking::remake(state, next, new, area);
+        return Ok(remaking::remake(state, next, new, area));
     }
     let cap = state.cap as usize;
     let shape = next.shape();
     let moved = sliding::slide(area, cap, shape, row, &mut room[..end]);
-    remaking::made(next, cap as u32, moved)
+    Ok((next, remaking::made(cap as u32, moved)))
 }
 
 // A growth of a file that is an image, with the row filled: it decides whether there is room.
-fn grow_filled(state: State, area: &mut [u8], row: &[u32], room: &mut [u8], end: usize) -> Done
+fn grow_filled(state: State, area: &mut [u8], row: &[u32], room: &mut [u8], end: usize) -> Outcome
     requires open_image { OpenImage in_use state area.old × (state.p < state.cap) × (row.now ≡ grown_counts in_use state area.old) }
     requires parted { Parted state area.old room.old end }
-    ensures { let o = grow_open in_use state area.old in (result ≡ o.done) × (area.new ≡ o.area) }
+    ensures { let o = grow_open in_use state area.old in (done_of state result ≡ o.done) × (area.new ≡ o.area) }
 {
-    if !survey::has_room(row, IN_USE) {
-        let read = state.cap as u32;
-        return Done {
-            state,
-            answer: Answer::NoRoom { read },
-        };
+    if !survey::has_room::<InUse>(row) {
+        return Err(Refusal::NoRoom {
+            read: state.cap as u32,
+        });
     }
     grow_roomy(state, area, row, room, end)
 }
@@ -74,10 +72,10 @@ fn grow_parted(
     row: &mut [u32],
     held: &mut [u32],
     room: &mut [u8],
-) -> Done
+) -> Outcome
     requires open_image { OpenImage in_use state area.old × (state.p < state.cap) × (length row.old ≡ state.cap) × (length room.old ≤ 65536) }
     requires held_value { held.old ≡ counts (home_for (homes state)) (cat (held_from in_use area.old state.cap 0) []) state.cap 0 }
-    ensures fact { let o = grow_open in_use state area.old in (result ≡ o.done) × (area.new ≡ o.area) }
+    ensures fact { let o = grow_open in_use state area.old in (done_of state result ≡ o.done) × (area.new ≡ o.area) }
     ensures row_after { row.new ≡ grown_counts in_use state area.old }
 {
     let cap = state.cap as usize;
@@ -95,21 +93,18 @@ fn grow_counting(
     row: &mut [u32],
     counts: &mut [u32],
     room: &mut [u8],
-) -> Done
-    requires { EnteredToGrow in_use state (length area.old) (length row.old) Open × (length counts.old ≡ state.cap) × (length room.old ≤ 65536) }
-    ensures { let o = grew_entered state area.old row.old in (result ≡ o.done) × ((area.new ≡ o.area) × (row.new ≡ o.row)) }
+) -> Outcome
+    requires { EnteredToGrow in_use state (length area.old) (length row.old) opens × (length counts.old ≡ state.cap) × (length room.old ≤ 65536) }
+    ensures { let o = grew_entered state area.old row.old in (done_of state result ≡ o.done) × ((area.new ≡ o.area) × (row.new ≡ o.row)) }
 {
-    let gate = judge(state, &area[..], counts);
-    match gate {
-        Gate::Shut { why } => Done { state, answer: why },
-        Gate::Open => grow_parted(state, area, row, counts, room),
-    }
+    judge(state, &area[..], counts)?;
+    grow_parted(state, area, row, counts, room)
 }
 
 // The counts have memory of their own: the row stays as it is until all pages are judged.
-pub(crate) fn grow_entered(state: State, area: &mut [u8], row: &mut [u32]) -> Done
-    requires { EnteredToGrow in_use state (length area.old) (length row.old) Open }
-    ensures { let o = grew_entered state area.old row.old in (result ≡ o.done) × ((area.new ≡ o.area) × (row.new ≡ o.row)) }
+pub(crate) fn grow_entered(state: State, area: &mut [u8], row: &mut [u32]) -> Outcome
+    requires { EnteredToGrow in_use state (length area.old) (length row.old) opens }
+    ensures { let o = grew_entered state area.old row.old in (done_of state result ≡ o.done) × ((area.new ≡ o.area) × (row.new ≡ o.row)) }
 {
     let cap = state.cap as usize;
     let mut counts = [0; 4096];

@@ -1,7 +1,7 @@
 // The log program: commands on standard input, replies on standard output, at most 128 pages.
 #![tactic(auto)]
 
-ghost use Rattle.std.specs.Prelude.{◌≡◌, ◌-◌, ◌≤◌, IfOk, OnOk, length, take, drop, not};
+ghost use Rattle.std.specs.Prelude.{◌≡◌, ◌≤◌, IfOk, OnOk, length, take, not};
 ghost use Rattle.std.specs.Io.KnownBytes.{Appends, ReadConsumes};
 
 use commands::Ran;
@@ -9,21 +9,6 @@ use homes::Params;
 use state::State;
 use std::io;
 use std::io::{Read, Write};
-
-// What was not taken goes to the front; answered is how many bytes that is.
-fn keep(input: &mut [u8], taken: usize, have: usize) -> usize
-    requires { (taken ≤ have) × (have ≤ length input.old) }
-    ensures value { result ≡ have - taken }
-    ensures input_after { take result input.new ≡ take result (drop taken input.old) }
-{
-    let kept = have - taken;
-    let mut i = 0;
-    while i < kept {
-        input[i] = input[taken + i];
-        i += 1;
-    }
-    kept
-}
 
 // One read into the free end of the input: how many bytes came, none where the input ends. A read
 // that fails takes nothing from it.
@@ -45,16 +30,17 @@ fn send<W: Write>(to: &mut W, replies: &[u8], ran: Ran) -> io::Result<bool>
 }
 
 // A turn answers what is there, or else reads more: so every reply is out before the program waits.
-// A proved loop has to end, and nothing says that an input does: it counts its turns down, from a
-// number that no run uses up. A read that fails ends the input too: what is there is still answered,
-// and only then does the program end with the error.
+// A proved loop has to end, and nothing says that an input does: it has more turns than any run uses
+// up. A read that fails ends the input too: what is there is still answered, and only then does the
+// program end with the error.
 fn main(rt: HostRuntime) -> io::Result<()> {
     let mut from = rt.stdin();
     let mut to = rt.stdout();
     let mut space = [0u8; 32768];
     let mut row = [0u32; 128];
-    let mut input = [0u8; 65536];
     let mut replies = [0u8; 65536];
+    let mut free = [0u8; 65536];
+    let mut input = Vec::new(rt.alloc());
     let zeros = Params {
         n0: 0,
         n: 0,
@@ -62,41 +48,32 @@ fn main(rt: HostRuntime) -> io::Result<()> {
         edition: 0,
     };
     let mut state = State::new(zeros, 0);
-    let mut have = 0;
-    let mut last = false;
-    let mut ended = Ok(());
-    let mut turns = u64::MAX;
-    while turns > 0 {
-        turns -= 1;
+    let mut ended = None;
+    for _ in 0..u64::MAX {
         let ran = commands::log(
             state,
             &mut space[..],
             &mut row[..],
-            &input[..have],
-            last,
+            &input[..],
+            ended.is_some(),
             &mut replies[..],
         );
         state = ran.state;
-        have = keep(&mut input[..], ran.taken, have);
+        input.drain(..ran.taken);
         if ran.given > 0 {
             if !send(&mut to, &replies[..], ran)? {
-                return ended;
+                break;
             }
+        } else if ended.is_some() {
+            break;
         } else {
-            if last {
-                return ended;
-            }
-            match read_more(&mut from, &mut input[have..]) {
-                Ok(came) => {
-                    have += came;
-                    last = came == 0;
-                }
-                Err(error) => {
-                    ended = Err(error);
-                    last = true;
-                }
+            let room = 65536 - input.len();
+            match read_more(&mut from, &mut free[..room]) {
+                Ok(0) => ended = Some(Ok(())),
+                Ok(came) => input.extend_from_slice(&free[..came])?,
+                Err(error) => ended = Some(Err(error)),
             }
         }
     }
-    ended
+    ended.unwrap_or(Ok(()))
 }

@@ -10,6 +10,6 @@ run_answers =
       put_run = record {
         asks_nothing = λ κs a. tt;
         one = λ κs a y z v w p q. (p.0 ∙⁻¹ q.0, λ i. (tt, ((p.1.0 ∙⁻¹ q.1.0) i, (tt, ((p.1.1 ∙⁻¹ q.1.1) i, tt)))));
-        does = λ κs a y v p i. record { numbers = (p.0 i).numbers; file = record { layout = sym (run_layout (file_of a.0 a.1.0.now) a.1.1.0.now a.1.1.1.0.now) i; state = (p.0 i).state; area = p.1.0 i }; room = p.1.1 i };
+        does = λ κs a y v p i. record { numbers = (p.0 i).answer; file = record { layout = sym (run_layout (file_of a.0 a.1.0.now) a.1.1.0.now a.1.1.1.0.now) i; state = (p.0 i).state; area = p.1.0 i }; room = p.1.1 i };
       };
     }

@@ -11,4 +11,4 @@ use Rattle.pay_runs.specs.PayRun.{ran}
 pub record RunAnswers : Type 0 where
   pub put_run : Settled PutRunContract.ended PutRun.Reads.Asked PutRun.Reads.Learnt
       (λ κs a. ran (file_of a.0 a.1.0.now) a.1.1.0.now a.1.1.1.0.now)
-      (λ κs a y v. record { numbers = y.numbers; file = file_of y.state v.1.0; room = v.1.1.1.0 })
+      (λ κs a y v. record { numbers = y.answer; file = file_of y.state v.1.0; room = v.1.1.1.0 })

@@ -1,3 +1,2 @@
 pub mod Known
-pub mod Reading
 pub mod Same

@@ -1,2 +1,4 @@
 pub mod Held
+pub mod Site
 pub mod Steps
+pub mod Told

@@ -126,9 +126,11 @@ module _ {h : ℕ → ℕ} {P cap : ℕ} {first counts row area : List ℕ} {pla
   abbrev pub k : ℕ
   k = many rank home home_first slots a L c.sorted
 
-  module _ (own waiting want : ℕ) (o : own ≡ own_at counts P a) (w : waiting ≡ over + own) (m : want ≡ min slots waiting) where
+  module _ (own waiting want : ℕ) (o : own ≡ own_at counts P a) (w : waiting ≡ over + own) (m : want ≡ min waiting slots) where
     pub want_is : want ≡ k
-    want_is = m ∙ rw (w, o, own_is) (sym (many_waiting rank home home_first slots a L c.sorted over c.waits))
+    want_is =
+        let e : want ≡ min slots waiting = omega (arith, m) in
+        e ∙ rw (w, o, own_is) (sym (many_waiting rank home home_first slots a L c.sorted over c.waits))
 
     pub over_next : waiting - want ≡ below home (drop k L) (a + 1)
     over_next = rw (add-one, want_is, w, o, own_is) (waits_on rank home home_first slots a L c.sorted over c.waits)

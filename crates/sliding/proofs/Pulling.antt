@@ -1,15 +1,13 @@
 -- The turns of filling a page with records that stay.
 use mathlib.Core.Path.{◌≡◌, refl, ap, ◌∙◌}
-use mathlib.Core.Bool.{Bool, true, false, cond, not, ◌&&◌}
+use mathlib.Core.Bool.{Bool, true, false, cond, not}
 use mathlib.Core.Logic.{◌⊎◌, inl, inr}
 use mathlib.Core.List.{List, [], ◌∷◌, map}
-use Prim.Native.Nat.{ℕ, zero, suc, ◌+◌, ◌-◌, ◌*◌, ◌^◌, ◌≤◌, ◌<◌}
+use Prim.Native.Nat.{ℕ, zero, suc, ◌+◌, ◌-◌, ◌*◌, ◌≤◌, ◌<◌}
 use native.Mathlib.Omega.{arith}
 use native.Mathlib.Decide.{dec_le}
-use lib.Dec.{eqb, ltb}
+use lib.Dec.{eqb}
 use lib.ListN.{length, get_or, set, replicate}
-use borrow.Author.Tests.{ltb-true, ltb-false}
-use Rattle.numbers.proofs.Records.{and_left, and_right}
 use Rattle.layouts.specs.Layout.{in_use}
 use Rattle.placing.specs.Lay.{one}
 use Rattle.pages.specs.Page.{Record, vacant, in_memory}
@@ -22,7 +20,7 @@ use Rattle.rebuild.specs.Steps.Rebuild.{record_in, hops}
 use Rattle.rebuild.proofs.Take.{filled, in_hand, filled-cons, filled_none, filled_start}
 use Rattle.sliding.specs.declared.Place.{Place}
 use Rattle.sliding.specs.declared.Pulled.{Pulled}
-use Rattle.sliding.specs.Steps.Reading.{held, rest, left, is_next, behind, stayed, after, unread, unmet, Stands, Stays, Passes, Pulls}
+use Rattle.sliding.specs.Steps.Reading.{held, rest, left, is_next, behind, stayed, after, unread, unmet, Stays, Passes, Pulls}
 use Rattle.sliding.proofs.Places.{entry_on, rest_first, rest_end}
 
 -- nothing changes by passing over those that leave first
@@ -80,43 +78,10 @@ pub record Pulling (area : List ℕ) (cap : ℕ) (row : List ℕ) (want a : ℕ)
   pub read : (h : ℕ → ℕ) → unread (want - n) (left row p.next) (rest h area cap p.page p.slot) ≡ unread want (left row p₀.next) (rest h area cap p₀.page p₀.slot)
   pub met : (h : ℕ → ℕ) → unmet (want - n) (left row p.next) (rest h area cap p.page p.slot) ≡ unmet want (left row p₀.next) (rest h area cap p₀.page p₀.slot)
 
-pub pulling_start : (area : List ℕ) (cap : ℕ) (row : List ℕ) (want a : ℕ) (from p : Place) → Stays area cap row from p
-    → Pulling area cap row want a p (replicate 12 0) (replicate 12 0) (replicate 12 0) 0 0 p
-pulling_start area cap row want a from p s =
-    let z : want - 0 ≡ want = omega arith in
-    record {
-      stays = record { stands = s.stands; onward = omega arith; here = s.here; next = s.next };
-      few = omega arith;
-      moves = omega arith;
-      near = λ e. omega arith;
-      full = λ h. rw z;
-      read = λ h. rw z;
-      met = λ h. rw z;
-    }
-
 module _ {area : List ℕ} {cap : ℕ} {row : List ℕ} {want a : ℕ} {p₀ : Place} {ks vs us : List ℕ} {n m : ℕ} {p : Place} (g : Pulling area cap row want a p₀ ks vs us n m p) where
-  module _ (t : (ltb n want && ltb p.page cap) ≡ true) where
-    pub wanted : n < want
-    wanted = ltb-true n want (and_left (ltb n want) (ltb p.page cap) t)
-
-    pub page_left : p.page < cap
-    page_left = ltb-true p.page cap (and_right (ltb n want) (ltb p.page cap) t)
-
+  module _ (wanted : n < want) (page_left : p.page < cap) where
     pub slot_low : p.slot < 12
     slot_low = omega (arith, g.stays.here page_left, held_twelve in_use (part_at area p.page))
-
-    -- the place behind the record in hand
-    pub after_stands : Stands area cap row (record { page = p.page; slot = p.slot + 1; next = p.next })
-    after_stands = record {
-      within = g.stays.stands.within;
-      slot = λ l. omega (arith, g.stays.here page_left);
-      end = λ q. absurd (omega (arith, page_left));
-      inside = g.stays.stands.inside;
-      whole = g.stays.stands.whole;
-    }
-
-    pub moves_fit : (f : ℕ) (from : ℕ) → f ≡ one (not (eqb from a)) → want ≤ 12 → m + f < 2 ^ 32
-    moves_fit f from e l = omega (arith, g.moves, g.few, one_few (not (eqb from a)))
 
     step : want - n ≡ suc (want - (n + 1))
     step = omega (arith, wanted)
@@ -152,12 +117,9 @@ module _ {area : List ℕ} {cap : ℕ} {row : List ℕ} {want a : ℕ} {p₀ : P
               (filled-cons a ks vs us n (size * n) m (entry_on h p.page x) (stayed (want - (n + 1)) (left row p.next) (rest h area cap p.page (p.slot + 1))))
 
   -- nothing more is taken
-  none_more : (ltb n want && ltb p.page cap) ≡ false → (h : ℕ → ℕ) → (want - n ≡ 0) ⊎ (rest h area cap p.page p.slot ≡ [])
-  none_more t h = go (ltb n want) refl t
-    where
-      go : (u : Bool) → ltb n want ≡ u → (u && ltb p.page cap) ≡ false → (want - n ≡ 0) ⊎ (rest h area cap p.page p.slot ≡ [])
-      go true e f = inr (rest_end h area cap p.page p.slot (ltb-false p.page cap f))
-      go false e f = inl (omega (arith, ltb-false n want e))
+  none_more : (want ≤ n) ⊎ (cap ≤ p.page) → (h : ℕ → ℕ) → (want - n ≡ 0) ⊎ (rest h area cap p.page p.slot ≡ [])
+  none_more (inl l) h = inl (omega arith)
+  none_more (inr l) h = inr (rest_end h area cap p.page p.slot l)
 
   end_stayed : (h : ℕ → ℕ) → (want - n ≡ 0) ⊎ (rest h area cap p.page p.slot ≡ []) → still_from h area cap row (want - n) p ≡ []
   end_stayed h (inl z) = rw z
@@ -177,7 +139,7 @@ module _ {area : List ℕ} {cap : ℕ} {row : List ℕ} {want a : ℕ} {p₀ : P
       go (no l) = let k : p.page < cap = omega arith in rw (rest_first h area cap p.page p.slot k (g.stays.here k), g.stays.next k)
 
   -- so the page is filled
-  module _ (t : (ltb n want && ltb p.page cap) ≡ false) (few : want ≤ 12) (from : Place) (s : Stays area cap row from p₀) (w : (h : ℕ → ℕ) → Passes h area cap row from p₀) where
+  module _ (t : (want ≤ n) ⊎ (cap ≤ p.page)) (few : want ≤ 12) (from : Place) (s : Stays area cap row from p₀) (w : (h : ℕ → ℕ) → Passes h area cap row from p₀) where
     abbrev made : Pulled
     made = record { page = record { count = n; keys = ks; values = vs; runs = us }; place = p; moved = m }
 
@@ -201,6 +163,3 @@ module _ {area : List ℕ} {cap : ℕ} {row : List ℕ} {want a : ℕ} {p₀ : P
       met = end_after (λ e x. e) h (none_more t h) ∙ g.met h ∙ rw ((w h).met, (w h).read) (after_passes (λ e x. e) want (left row from.next) (rest h area cap from.page from.slot));
       near = λ e. omega (arith, ap length (taken_all h), long h, (w h).near (omega (arith, g.stays.onward, s.onward)), g.near (omega (arith, g.stays.onward, s.onward)));
     }
-
-    pub pulled_stays : Stays area cap row from p
-    pulled_stays = record { stands = g.stays.stands; onward = omega (arith, g.stays.onward, s.onward); here = g.stays.here; next = g.stays.next }

@@ -1,18 +1,18 @@
 -- The turns of putting records behind what stands on the pages: one more on a page, or the next page.
 use mathlib.Core.Path.{◌≡◌, refl, sym, ap, ◌∙◌}
-use mathlib.Core.Bool.{Bool, true, false, not, ◌&&◌}
+use mathlib.Core.Bool.{Bool, true, false, not}
+use mathlib.Core.Logic.{◌⊎◌, inl, inr}
 use mathlib.Core.List.{List, [], ◌∷◌, ◌++◌, append_assoc, append-nil}
-use Prim.Native.Nat.{ℕ, zero, suc, ◌+◌, ◌-◌, ◌*◌, ◌^◌, ◌≤◌, ◌<◌}
+use Prim.Native.Nat.{ℕ, zero, suc, ◌+◌, ◌-◌, ◌*◌, ◌≤◌, ◌<◌}
 use native.Mathlib.Numerals.{add-one}
 use native.Mathlib.Nat.{zero-add}
 use native.Mathlib.Omega.{arith}
 use native.Mathlib.Decide.{dec_lt}
-use lib.Dec.{eqb, ltb}
+use lib.Dec.{eqb}
 use lib.ListN.{length, take, drop, get_or, set, length-append, length-set, get_or-eq_default}
 use lib.Seq.{take-nil, take-length, drop-length, take_all, get_or-set_same, get_or-set_other}
-use borrow.Author.Tests.{ltb-true, ltb-false, eqb-true, eqb-false}
+use borrow.Author.Tests.{eqb-true, eqb-false}
 use Rattle.numbers.specs.Little.{Bytes}
-use Rattle.numbers.proofs.Records.{and_left, and_right}
 use Rattle.layouts.specs.Layout.{in_use}
 use Rattle.placing.specs.Image.{All}
 use Rattle.placing.specs.Lay.{one}
@@ -140,12 +140,9 @@ module _ {ps₀ : List (List Record)} {cap added : ℕ} {row area : List ℕ} {a
   pub long : length area ≡ 256 * cap
   long = ap length g.is ∙ area_length in_use 0 g.ps ∙ rw g.many
 
-  module _ (t : (ltb a cap && ltb at (length row)) ≡ true) (c : cap ≤ 4096) where
-    pub page_more : a < cap
-    page_more = ltb-true a cap (and_left (ltb a cap) (ltb at (length row)) t)
-
+  module _ (page_more : a < cap) (more : at < length row) (c : cap ≤ 4096) where
     pub entry_more : at + size ≤ length row
-    entry_more = omega (arith, g.whole, ltb-true at (length row) (and_right (ltb a cap) (ltb at (length row)) t))
+    entry_more = omega (arith, g.whole)
 
     part_is : part_at area a ≡ page_bytes in_use a p
     part_is = ap (λ (l : List ℕ). part_at l a) g.is ∙ part_area in_use a g.ps (omega (arith, g.many, page_more))
@@ -158,9 +155,6 @@ module _ {ps₀ : List (List Record)} {cap added : ℕ} {row area : List ℕ} {a
 
     pub formed_here : well_formed in_use a (part_at area a) ≡ true
     formed_here = rw part_is (page_formed in_use a p (g.few a) (g.small a) (omega (arith, page_more)))
-
-    pub moved_fits : (f from : ℕ) → f ≡ one (not (eqb from a)) → length row ≤ 65536 → moved + f < 2 ^ 32
-    moved_fits f from e l = omega (arith, g.low, g.inside, one_few (not (eqb from a)))
 
     module _ (count : ℕ) (has : count ≡ length (records_in in_use (part_at area a))) where
       count_is : count ≡ length p
@@ -218,14 +212,10 @@ module _ {ps₀ : List (List Record)} {cap added : ℕ} {row area : List ℕ} {a
         within = omega (arith, page_more);
       }
 
-  pub topped_end : (ltb a cap && ltb at (length row)) ≡ false → (moved ≡ topped_hops added 0 ps₀ (entries_in row)) × (area ≡ area_from in_use 0 (topped added ps₀ (entries_in row)))
-  topped_end t = go (ltb a cap) refl t
-    where
-      go : (u : Bool) → ltb a cap ≡ u → (u && ltb at (length row)) ≡ false
-          → (moved ≡ topped_hops added 0 ps₀ (entries_in row)) × (area ≡ area_from in_use 0 (topped added ps₀ (entries_in row)))
-      go true e f =
-          let z = left_none row at (ltb-false at (length row) f) in
-          (omega (arith, rw (z, hops_none a 0 g.ps) at g.hopped), g.is ∙ rw (← g.rest, z, topped_none a g.ps))
-      go false e f =
-          let k : length g.ps ≤ a = omega (arith, g.many, ltb-false a cap e) in
-          (omega (arith, rw (hops_past a 0 g.ps (left row at) k) at g.hopped), g.is ∙ rw (← g.rest, topped_past a g.ps (left row at) k))
+  pub topped_end : (cap ≤ a) ⊎ (length row ≤ at) → (moved ≡ topped_hops added 0 ps₀ (entries_in row)) × (area ≡ area_from in_use 0 (topped added ps₀ (entries_in row)))
+  topped_end (inl l) =
+      let k : length g.ps ≤ a = omega (arith, g.many) in
+      (omega (arith, rw (hops_past a 0 g.ps (left row at) k) at g.hopped), g.is ∙ rw (← g.rest, topped_past a g.ps (left row at) k))
+  topped_end (inr l) =
+      let z = left_none row at l in
+      (omega (arith, rw (z, hops_none a 0 g.ps) at g.hopped), g.is ∙ rw (← g.rest, z, topped_none a g.ps))

@@ -5,7 +5,7 @@
 
 ghost use Rattle.std.specs.Prelude.{◌≡◌, [], ℕ, ◌-◌, ◌*◌, ◌≤◌, ◌<◌, min, length, get_or};
 ghost use Rattle.layouts.specs.Layout.{in_use};
-ghost use Rattle.homes.specs.Homes.{Ready, first_pages, shape_of, home_in};
+ghost use Rattle.homes.specs.Homes.{first_pages, shape_of, home_in};
 ghost use Rattle.placing.specs.Image.{cat};
 ghost use Rattle.placing.specs.Rows.{counts, strayed};
 ghost use Rattle.pages.specs.Page.{key, home_for};
@@ -18,13 +18,14 @@ ghost use Rattle.sliding.specs.Steps.Reading.{left, is_next, Whole, Stands, Stay
 ghost use Rattle.sliding.specs.Steps.Topping.{topped, topped_hops};
 ghost use Rattle.sliding.specs.Steps.Closing.{is_from, calm_at, past, own_at, closed, bytes_of, Leaving, WasImage};
 
+use entries::Disorder;
 use homes::Shape;
-use layouts::{IN_USE, SLOTS, WIDTH};
+use layouts::{InUse, Layout};
 use pages::Page;
 
 // Where reading stands: the next record of the area, and the next of those that leave, as an offset
 // into their row.
-#[derive(Clone, Copy)]
+#[derive(Clone, Copy, Debug, PartialEq, Eq)]
 pub struct Place {
     pub page: usize,
     pub slot: usize,
@@ -33,7 +34,7 @@ pub struct Place {
 
 // A page filled with records that stay, where reading stands then, and how many came from another
 // page.
-#[derive(Clone, Copy)]
+#[derive(Clone, Copy, Debug, PartialEq, Eq)]
 pub struct Pulled {
     pub page: Page,
     pub place: Place,
@@ -41,14 +42,12 @@ pub struct Pulled {
 }
 
 // Whether a key is that of the next one that leaves.
+#[tactic(auto, using(crate::proofs::Places::next_none, crate::proofs::Places::next_key))]
 fn leaves(row: &[u8], at: usize, key: u64) -> bool
     requires { Whole at row.now }
     ensures { result ≡ is_next (left row.now at) key }
 {
-    if row.len() <= at {
-        return false;
-    }
-    key == numbers::get_u64(row, at + 4)
+    at < row.len() && key == numbers::get::<u64>(row, at + 4)
 }
 
 // From a place on to the next record that stays, past those that leave.
@@ -60,13 +59,14 @@ fn to_stayer(area: &[u8], cap: usize, row: &[u8], from: Place) -> Place
     let mut page = from.page;
     let mut slot = from.slot;
     let mut next = from.next;
+    // A page ends where its records do, so page and slot step together.
     while page < cap {
-        if slot < pages::count_at(area, page, IN_USE) {
-            let x = slots::record_at(area, page, IN_USE, slot);
+        if slot < pages::count_at::<InUse>(area, page) {
+            let x = slots::record_at::<InUse>(area, page, slot);
             if !leaves(row, next, x.key) {
                 break;
             }
-            next += WIDTH;
+            next += InUse::WIDTH;
             slot += 1;
         } else {
             page += 1;
@@ -89,20 +89,17 @@ fn pull(area: &[u8], cap: usize, row: &[u8], from: Place, want: usize, a: usize)
     let mut count = 0;
     let mut moved: u32 = 0;
     let mut place = to_stayer(area, cap, row, from);
-    while (count < want) & (place.page < cap) {
-        let page = place.page;
-        let slot = place.slot;
-        let next = place.next;
-        let x = slots::record_at(area, page, IN_USE, slot);
+    // The counter is the answer: how many there are to take isn't known before.
+    while count < want && place.page < cap {
+        let x = slots::record_at::<InUse>(area, place.page, place.slot);
         keys[count] = x.key;
         values[count] = x.value;
         runs[count] = x.run;
-        moved += rebuild::strange(page as u16, a);
+        moved += rebuild::strange(place.page as u16, a);
         count += 1;
         let after = Place {
-            page,
-            slot: slot + 1,
-            next,
+            slot: place.slot + 1,
+            ..place
         };
         place = to_stayer(area, cap, row, after);
     }
@@ -116,14 +113,12 @@ fn pull(area: &[u8], cap: usize, row: &[u8], from: Place, want: usize, a: usize)
 }
 
 // Whether the next one that leaves comes from page a.
+#[tactic(auto, using(crate::proofs::Places::from_none, crate::proofs::Places::from_there))]
 fn comes_from(row: &[u8], at: usize, a: usize) -> bool
     requires { Whole at row.now }
     ensures { result ≡ is_from (left row.now at) a }
 {
-    if row.len() <= at {
-        return false;
-    }
-    numbers::get_u16(row, at + 2) as usize == a
+    at < row.len() && numbers::get::<u16>(row, at + 2) as usize == a
 }
 
 // Whether page a may stay as it is, which has some records and is to have so many.
@@ -131,9 +126,8 @@ fn calm(row: &[u8], place: Place, a: usize, count: usize, want: usize) -> bool
     requires { Whole place.next row.now }
     ensures { result ≡ calm_at row.now place a count want }
 {
-    let here = comes_from(row, place.next, a);
-    let own = (place.page == a) & ((place.slot == 0) & !here);
-    (count == want) & ((count == 0) | own)
+    let own = place.page == a && place.slot == 0 && !comes_from(row, place.next, a);
+    count == want && (count == 0 || own)
 }
 
 // A place with page a behind it, where reading has not passed that page yet.
@@ -145,7 +139,7 @@ fn past(place: Place, a: usize) -> Place
         return Place {
             page: a + 1,
             slot: 0,
-            next: place.next,
+            ..place
         };
     }
     place
@@ -159,12 +153,6 @@ fn own(counts: &[u32], added: usize, a: usize) -> usize
     if a < added { counts[a] as usize } else { 0 }
 }
 
-fn at_most(waiting: usize) -> usize
-    ensures { result ≡ min slots waiting }
-{
-    if waiting < SLOTS { waiting } else { SLOTS }
-}
-
 // The records that stay, sunk to where those that leave make room, from page 0 upward; the answer is
 // how many change their page. How many come to lie on a page the counts alone say, and a page that
 // neither loses nor gets a record is not written.
@@ -173,7 +161,7 @@ fn close_up(area: &mut [u8], cap: usize, shape: Shape, counts: &[u32], row: &[u8
     requires leaving { Leaving (home_in shape) (shape.p - 1) cap area.old counts.now row.now }
     ensures { let ps = closed (home_in shape) (shape.p - 1) cap area.old in (result ≡ hops_from 0 ps) × (area.new ≡ bytes_of ps) }
 {
-    let added = (shape.p - 1) as usize;
+    let added = (shape.pages() - 1) as usize;
     let mut place = Place {
         page: 0,
         slot: 0,
@@ -181,22 +169,19 @@ fn close_up(area: &mut [u8], cap: usize, shape: Shape, counts: &[u32], row: &[u8
     };
     let mut over = 0;
     let mut moved = 0;
-    let mut a = 0;
-    while a < cap {
+    for a in 0..cap {
         let waiting = over + own(counts, added, a);
-        let want = at_most(waiting);
-        let count = pages::count_at(&area[..], a, IN_USE);
+        let want = waiting.min(InUse::SLOTS);
+        let count = pages::count_at::<InUse>(&area[..], a);
         if calm(row, place, a, count, want) {
             place = past(place, a);
         } else {
-            let t = pull(&area[..], cap, row, place, want, a);
-            let page = t.page;
-            pages::store_at(area, a, IN_USE, page);
-            place = t.place;
-            moved += t.moved;
+            let pulled = pull(&area[..], cap, row, place, want, a);
+            pages::store_at::<InUse>(area, a, pulled.page);
+            place = pulled.place;
+            moved += pulled.moved;
         }
         over = waiting - want;
-        a += 1;
     }
     moved
 }
@@ -211,13 +196,14 @@ fn top_up(area: &mut [u8], cap: usize, added: usize, row: &[u8]) -> u32
     let mut at = 0;
     let mut moved = 0;
     let mut a = added;
-    while (a < cap) & (at < row.len()) {
-        let count = pages::count_at(&area[..], a, IN_USE);
-        if count < SLOTS {
+    // Either the page steps or the row does: a for over one of them would be no plainer.
+    while a < cap && at < row.len() {
+        let count = pages::count_at::<InUse>(&area[..], a);
+        if count < InUse::SLOTS {
             let e = entries::get_entry(row, at);
-            slots::insert_at(area, a, IN_USE, count, e.held);
+            slots::insert_at::<InUse>(area, a, count, e.held);
             moved += rebuild::strange(e.from, a);
-            at += WIDTH;
+            at += InUse::WIDTH;
         } else {
             a += 1;
         }
@@ -229,14 +215,14 @@ fn top_up(area: &mut [u8], cap: usize, added: usize, row: &[u8]) -> u32
 // many come to lie on another page. The row has those whose home is that page, in the order in which they
 // stand, and `homes` says how many have each home.
 pub fn slide(area: &mut [u8], cap: usize, shape: Shape, homes: &[u32], row: &mut [u8]) -> u32
-    requires cap_bound { (cap ≤ 4096) × (length area.old ≡ 256 * cap) × Ready shape × (first_pages shape.params < shape.p) × (shape.p ≤ cap) × (length row.old ≤ 65536) }
+    requires cap_bound { (cap ≤ 4096) × (length area.old ≡ 256 * cap) × (first_pages shape.params < shape.p) × (shape.p ≤ cap) × (length row.old ≤ 65536) }
     requires was_image { WasImage (home_in (shape_of shape.params (shape.p - 1))) cap area.old }
     requires homes_value { (homes.now ≡ counts (home_for (home_in shape)) (cat (held_from in_use area.old cap 0) []) cap 0) × (row.old ≡ row_bytes (leavers (home_in shape) (shape.p - 1) cap area.old)) }
     ensures { let ps = held_from in_use area.old cap 0 in let qs = relaid slots (home_in shape) cap ps in (result ≡ strayed key ps qs) × (area.new ≡ area_from in_use 0 qs) }
 {
-    let added = shape.p - 1;
+    let added = shape.pages() - 1;
     let sunk = close_up(area, cap, shape, homes, &row[..]);
-    entries::sort_row(row, added as u16, true);
+    entries::sort_row(row, Disorder::Apart { home: added as u16 });
     let gone = top_up(area, cap, added as usize, &row[..]);
     sunk + gone
 }

@@ -65,8 +65,8 @@ rank_at h rs j = rank h (get_or rs j vacant)
 
 module _ (h : ℕ → ℕ) (r : ℕ) (rs : List Record) where
   -- the test of a record whose home was worked out from its key
-  pub key_test : (i k home : ℕ) (t u : Bool) → k ≡ key (get_or rs i vacant) → home ≡ h k → t ≡ ltb (ranked home k) r → t ≡ u → ltb (rank_at h rs i) r ≡ u
-  key_test i k home t u d e q v = rw (← d, ← e, ← q, v)
+  pub key_test : (i k home : ℕ) (t u : Bool) → t ≡ u → k ≡ key (get_or rs i vacant) → home ≡ h k → t ≡ ltb (ranked home k) r → ltb (rank_at h rs i) r ≡ u
+  key_test i k home t u v d e q = rw (← d, ← e, ← q, v)
 
   -- the places passed by all records are those ahead of r
   pub records_ahead : (n : ℕ) → n ≡ length rs → passed (rank_at h rs) n 0 r ≡ ahead (rank h) r rs

@@ -2,7 +2,7 @@
 use mathlib.Core.Path.{◌≡◌}
 use Prim.Native.Nat.{ℕ}
 use borrow.Author.Tests.{eq-eqb, ne_eqb}
-use Rattle.state.specs.declared.Answer.TheVariants.{Held, Clash}
+use Rattle.state.specs.declared.Refusal.TheVariants.{Held, Clash}
 use Rattle.state.specs.Answer.{again}
 
 module _ (offered held read : ℕ) where

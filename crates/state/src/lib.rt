@@ -5,12 +5,13 @@
 ghost use Rattle.std.specs.Prelude.{◌≡◌, ◌≤◌, ◌<◌};
 ghost use Rattle.homes.specs.Homes.{InRange, Ready, first_pages, shape_of};
 ghost use Rattle.state.specs.State.{in_range, is_due, fresh, one_more, one_less, grown, shrunk};
-ghost use Rattle.state.specs.Answer.{numbers, again};
+ghost use Rattle.state.specs.Answer.{number, again};
+ghost use Rattle.state.specs.Done.{done_of};
 
 use homes::{Params, Shape};
 
 // The parameters, pages grown to, pages lent, records held.
-#[derive(Clone, Copy)]
+#[derive(Clone, Copy, Debug, PartialEq, Eq)]
 pub struct State {
     pub params: Params,
     pub p: u16,
@@ -18,11 +19,18 @@ pub struct State {
     pub r: u32,
 }
 
-// What a call answers: accepted, or why not. `read` counts the pages judged, `moved` the records
-// that went to another page.
-#[derive(Clone, Copy)]
-pub enum Answer {
-    Accepted { value: u64, read: u32, moved: u32 },
+// What an accepted call answers. `read` counts the pages judged, `moved` the records that went to
+// another page.
+#[derive(Clone, Copy, Debug, PartialEq, Eq, Default)]
+pub struct Accepted {
+    pub value: u64,
+    pub read: u32,
+    pub moved: u32,
+}
+
+// Why a call is refused. A refusal changes neither the area nor the state.
+#[derive(Clone, Copy, Debug, PartialEq, Eq)]
+pub enum Refusal {
     OutOfRange,
     WrongArea,
     WrongRow,
@@ -36,8 +44,14 @@ pub enum Answer {
     AtStart,
 }
 
+// What a call answers.
+pub type Answer = Result<Accepted, Refusal>;
+
+// What a call comes to inside: the state after it and what it answers, or why it is refused.
+pub type Outcome = Result<(State, Accepted), Refusal>;
+
 // An answer in the numbers of the refusal table.
-#[derive(Clone, Copy)]
+#[derive(Clone, Copy, Debug, PartialEq, Eq, Default)]
 pub struct Numbers {
     pub refusal: u16,
     pub page: u16,
@@ -46,11 +60,11 @@ pub struct Numbers {
     pub moved: u32,
 }
 
-// The state after a call, and its answer.
-#[derive(Clone, Copy)]
-pub struct Done {
+// The state after a call, and what the call came to.
+#[derive(Clone, Copy, Debug, PartialEq, Eq)]
+pub struct Done<A> {
     pub state: State,
-    pub answer: Answer,
+    pub answer: A,
 }
 
 impl State {
@@ -68,6 +82,7 @@ impl State {
     }
 
     // Whether its numbers are in their ranges. The tests are joined without a branch.
+    #[tactic(auto, using(crate::proofs::Ranges::product_fits))]
     pub fn in_range(self, layout: u8) -> bool
         ensures { result ≡ in_range layout self }
     {
@@ -77,7 +92,7 @@ impl State {
         let edition = self.params.edition;
         let p = self.p;
         let cap = self.cap;
-        let most = layouts::slots_on(layout, cap as u32);
+        let most = layouts::slots_on_by_number(layout, cap as u32);
         (1 <= n0)
             & (n0 <= 4)
             & (1 <= n)
@@ -97,7 +112,7 @@ impl State {
     pub fn due(self, layout: u8) -> bool
         ensures { result ≡ is_due layout self }
     {
-        let slots = layouts::slots_on(layout, self.p as u32);
+        let slots = layouts::slots_on_by_number(layout, self.p as u32);
         self.in_range(layout) & (4 * (slots as u64) < 5 * (self.r as u64))
     }
 
@@ -146,47 +161,111 @@ impl State {
     }
 }
 
-fn told(refusal: u16, page: u16, value: u64, read: u32, moved: u32) -> Numbers
-    ensures { result ≡ record { refusal = refusal; page = page; value = value; read = read; moved = moved } }
-{
-    Numbers {
-        refusal,
-        page,
-        value,
-        read,
-        moved,
+impl Done<Answer> {
+    // A refused call leaves the state that it was given.
+    pub fn of(state: State, outcome: Outcome) -> Self
+        ensures { result ≡ done_of state outcome }
+    {
+        match outcome {
+            Ok((next, accepted)) => Done {
+                state: next,
+                answer: Ok(accepted),
+            },
+            Err(why) => Done {
+                state,
+                answer: Err(why),
+            },
+        }
     }
 }
 
-impl Answer {
-    // The answer to a put of a key that is held: a repeat where it offers the value held, and else a
+impl Refusal {
+    // The refusal of a put of a key that is held: a repeat where it offers the value held, and else a
     // clash. Both tell the value held.
     pub fn again(offered: u64, held: u64, read: u32) -> Self
         ensures { result ≡ again offered held read }
     {
         if offered == held {
-            return Answer::Held { value: held, read };
+            return Refusal::Held { value: held, read };
         }
-        Answer::Clash { value: held, read }
+        Refusal::Clash { value: held, read }
     }
 
-    // The answer in 01's numbers, and 02's.
-    pub fn numbers(self) -> Numbers
-        ensures { result ≡ numbers self }
+    // Its number in 01's table, and 02's.
+    pub fn number(self) -> u16
+        ensures { result ≡ number self }
     {
         match self {
-            Answer::Accepted { value, read, moved } => told(0, 0, value, read, moved),
-            Answer::OutOfRange => told(1, 0, 0, 0, 0),
-            Answer::WrongArea => told(2, 0, 0, 0, 0),
-            Answer::WrongRow => told(3, 0, 0, 0, 0),
-            Answer::Broken { page, read } => told(4, page, 0, read, 0),
-            Answer::Absent { read } => told(5, 0, 0, read, 0),
-            Answer::Held { value, read } => told(6, 0, value, read, 0),
-            Answer::NoRoom { read } => told(7, 0, 0, read, 0),
-            Answer::AtCap => told(8, 0, 0, 0, 0),
-            Answer::NotImage { read } => told(9, 0, 0, read, 0),
-            Answer::Clash { value, read } => told(13, 0, value, read, 0),
-            Answer::AtStart => told(14, 0, 0, 0, 0),
+            Refusal::OutOfRange => 1,
+            Refusal::WrongArea => 2,
+            Refusal::WrongRow => 3,
+            Refusal::Broken { .. } => 4,
+            Refusal::Absent { .. } => 5,
+            Refusal::Held { .. } => 6,
+            Refusal::NoRoom { .. } => 7,
+            Refusal::AtCap => 8,
+            Refusal::NotImage { .. } => 9,
+            Refusal::Clash { .. } => 13,
+            Refusal::AtStart => 14,
+        }
+    }
+}
+
+impl From<Refusal> for Numbers {
+    ghost use Rattle.std.specs.Prelude.{◌≡◌};
+    ghost use Rattle.state.specs.Answer.{refused};
+
+    ghost from_gives = { λ why numbers. numbers ≡ refused why };
+
+    fn from(why: Refusal) -> Numbers {
+        let refused = Numbers {
+            refusal: why.number(),
+            ..Numbers::default()
+        };
+        match why {
+            Refusal::OutOfRange => refused,
+            Refusal::WrongArea => refused,
+            Refusal::WrongRow => refused,
+            Refusal::Broken { page, read } => Numbers {
+                page,
+                read,
+                ..refused
+            },
+            Refusal::Absent { read } => Numbers { read, ..refused },
+            Refusal::Held { value, read } => Numbers {
+                value,
+                read,
+                ..refused
+            },
+            Refusal::NoRoom { read } => Numbers { read, ..refused },
+            Refusal::AtCap => refused,
+            Refusal::NotImage { read } => Numbers { read, ..refused },
+            Refusal::Clash { value, read } => Numbers {
+                value,
+                read,
+                ..refused
+            },
+            Refusal::AtStart => refused,
+        }
+    }
+}
+
+impl From<Answer> for Numbers {
+    ghost use Rattle.std.specs.Prelude.{◌≡◌};
+    ghost use Rattle.state.specs.Answer.{numbers};
+
+    ghost from_gives = { λ answer told. told ≡ numbers answer };
+
+    fn from(answer: Answer) -> Numbers {
+        match answer {
+            Ok(accepted) => Numbers {
+                refusal: 0,
+                page: 0,
+                value: accepted.value,
+                read: accepted.read,
+                moved: accepted.moved,
+            },
+            Err(why) => why.into(),
         }
     }
 }

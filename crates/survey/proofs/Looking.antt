@@ -1,53 +1,40 @@
 -- One page of a survey, and the survey page by page: what is left to look at decides with what was
 -- seen.
-use mathlib.Core.Path.{◌≡◌, refl, sym, ap, ◌∙◌}
-use mathlib.Core.Bool.{Bool, true, false, cond, not, ◌&&◌, ◌||◌, and_assoc, and-true}
+use mathlib.Core.Path.{◌≡◌, refl, sym, ◌∙◌}
+use mathlib.Core.Bool.{Bool, true, false, ◌&&◌, ◌||◌, and_assoc, and-true}
 use mathlib.Core.Option.{Option, none, some}
 use mathlib.Core.List.{List, [], ◌∷◌, ◌++◌, map}
 use Prim.Native.Nat.{ℕ, suc, ◌+◌, ◌-◌, ◌*◌, ◌≤◌, ◌<◌}
 use native.Mathlib.Numerals.{add-one}
 use native.Mathlib.Omega.{arith}
-use lib.Dec.{leb, ltb, eqb}
+use lib.Dec.{leb, eqb}
 use lib.ListN.{length, get_or, length-append}
-use borrow.Author.Tests.{eqb-true, eqb-false, eq-eqb, ne_eqb, le-leb, lt-leb}
+use borrow.Author.Tests.{eqb-true, eqb-false, ne_eqb, le-leb, lt-leb}
 use Rattle.layouts.proofs.Lying.{slots_few}
 use Rattle.layouts.specs.Layout.{Layout, slots_of}
 use Rattle.placing.specs.Image.{cat}
 use Rattle.placing.specs.Lay.{rank_in, ranked}
 use Rattle.pages.specs.declared.Judged.{Judged}
-use Rattle.pages.specs.Page.{Record, key, records_in, read_page, padded, judged}
+use Rattle.pages.specs.Page.{Record, key, records_in, read_page, padded, judged, judged_page}
 use Rattle.pages.specs.Area.{part_at, pages_from, held_from}
 use Rattle.pages.proofs.Read.{held_few, held_twelve}
 use Rattle.pages.proofs.Judging.{judged_broken, judged_good, judged_held}
 use Rattle.survey.specs.declared.Seen.{Seen}
-use Rattle.survey.specs.declared.Verdict.TheVariants.{Whole}
-use Rattle.survey.specs.declared.Verdict.TheVariants as verdicts
-use Rattle.survey.specs.Survey.{lowest_broken, starts_at_home, starts_at, next_low, image_from, is_image, surveyed}
-use Rattle.survey.specs.Steps.Looks.{unseen, looked}
+use Rattle.std.proofs.Common.{Ok, Err}
+use Rattle.survey.specs.Survey.{whole, lowest_broken, starts_at_home, starts_at, next_low, image_from, is_image, surveyed}
+use Rattle.survey.specs.Steps.Looks.{unseen, rises_from, looked}
+use Rattle.pages.specs.declared.Rank.{Rank}
+use Rattle.std.specs.Prelude.{None, Some}
+use Rattle.std.specs.Prelude as Std
 
-module _ (f : Layout) (s : Seen) (a n : ℕ) (hs ks : List ℕ) where
-  -- a page of no record tells only that it isn't full
-  pub look_none : n ≡ 0
-      → ◌≡◌ {A = Seen} (record { image = s.image; full = false; any = s.any; home = s.home; key = s.key; records = s.records + n }) (looked f s a n hs ks)
-  look_none e = rw (eq-eqb n 0 e)
-
-  -- of any other the first record is compared and the last kept
-  pub look_some : (t : Bool) → (n ≡ 0 → ⊥) → t ≡ ltb (ranked s.home s.key) (ranked (get_or hs 0 0) (get_or ks 0 0))
-      → ◌≡◌ {A = Seen}
-      (record {
-        image = s.image && ((s.full || leb a (get_or hs 0 0)) && (not s.any || t));
-        full = eqb n (slots_of f);
-        any = true;
-        home = get_or hs (n - 1) 0;
-        key = get_or ks (n - 1) 0;
-        records = s.records + n;
-      })
-      (looked f s a n hs ks)
-  look_some t e b = rw (ne_eqb n 0 e, b)
+-- what stands after a record, if there is any
+abbrev pub after_last : Std.Option Rank → ℕ
+after_last None = 0
+after_last (Some last) = suc (ranked last.home last.key)
 
 -- what stands after the last record that was seen
 abbrev pub low_after : Seen → ℕ
-low_after s = cond s.any (suc (ranked s.home s.key)) 0
+low_after s = after_last s.last
 
 -- a page is full with as many records as it has slots
 full_page : (b n : ℕ) → n ≤ b → eqb n b ≡ leb b n
@@ -66,9 +53,9 @@ module _ (f : Layout) (h : ℕ → ℕ) where
   starts_home true a x p = refl
   starts_home false a x p = refl
 
-  starts_after : (any : Bool) (r : ℕ) (x : Record) (p : List Record) → starts_at h (cond any (suc r) 0) (x ∷ p) ≡ (not any || ltb r (rank_in key h x))
-  starts_after true r x p = refl
-  starts_after false r x p = le-leb 0 (rank_in key h x) (omega arith)
+  starts_after : (last : Std.Option Rank) (x : Record) (p : List Record) → starts_at h (after_last last) (x ∷ p) ≡ rises_from last (h (key x)) (key x)
+  starts_after None x p = le-leb 0 (rank_in key h x) (omega arith)
+  starts_after (Some last) x p = refl
 
   -- the rows tell what stands after the last record of a page
   rows_low : (low : ℕ) (x : Record) (p : List Record) (us vs : List ℕ)
@@ -92,8 +79,7 @@ module _ (f : Layout) (h : ℕ → ℕ) where
       let ks : List ℕ = padded (map key (x ∷ p)) in
       let n : ℕ = suc (length p) in
       let z : n - 1 ≡ length p = omega arith in
-      ap (λ (t : Seen). decides t (suc a) ps) (sym (look_some f s a n hs ks _ (λ (e : n ≡ 0). omega arith) refl))
-      ∙ rw (z, full_page (slots_of f) n l, rows_low (low_after s) x p _ _, ← starts_home s.full a x p, ← starts_after s.any (ranked s.home s.key) x p)
+      rw (ne_eqb n 0 (λ e. omega arith), z, full_page (slots_of f) n l, rows_low (low_after s) x p _ _, ← starts_home s.full a x p, ← starts_after s.last x p)
       (simp and_assoc)
 
   look_records : (s : Seen) (a : ℕ) (p : List Record) → (after s a p).records ≡ s.records + length p
@@ -121,25 +107,25 @@ module _ (f : Layout) (h : ℕ → ℕ) (area : List ℕ) (cap : ℕ) where
       let e : cap - 0 ≡ cap = omega arith in
       rw (e, u) (refl, refl, omega arith, omega arith)
 
-  module _ (s : Seen) (a : ℕ) (l : a < cap) (left : ToSurvey s a) (j : Judged) (e : j ≡ judged h (page_at a)) where
+  module _ (s : Seen) (a : ℕ) (l : a < cap) (left : ToSurvey s a) (o : Std.Option Judged) (e : o ≡ judged h (page_at a)) where
     more : cap - a ≡ suc (cap - suc a)
     more = omega arith
 
     -- a broken page is the lowest one
-    pub survey_breaks : j.good ≡ false → verdicts.Broken a ≡ surveyed f h area cap
+    pub survey_breaks : o ≡ None → Err a ≡ surveyed f h area cap
     unfolding surveyed
     survey_breaks b =
-        let w : some a ≡ lowest_broken 0 (pages_from f h area cap 0) = rw (more, judged_broken h (page_at a) j e b) at left.0 in
+        let w : some a ≡ lowest_broken 0 (pages_from f h area cap 0) = rw (more, judged_broken h (page_at a) o e b) at left.0 in
         rw (← w)
 
     -- a good one leaves those after it
-    pub survey_goes_on : j.good ≡ true → (t : Seen) → t ≡ looked f s a j.count j.homes j.keys → ToSurvey t (a + 1)
-    unfolding judged
-    survey_goes_on b t n =
+    pub survey_goes_on : (j : Judged) → o ≡ Some j → (t : Seen) → t ≡ looked f s a j.count j.homes j.keys → ToSurvey t (a + 1)
+    unfolding judged_page
+    survey_goes_on j b t n =
         let rs : List Record = records_in f (part_at area a) in
         let rest : List (List Record) = held_from f area (cap - suc a) (suc a) in
-        let m : t ≡ after f h s a rs = n ∙ rw (judged_held f h a (part_at area a) j e b) in
-        let q : page_at a ≡ some rs = judged_good f h a (part_at area a) j e b in
+        let m : t ≡ after f h s a rs = n ∙ rw (judged_held f h a (part_at area a) o j e b) in
+        let q : page_at a ≡ some rs = judged_good f h a (part_at area a) o j e b in
         let w : lowest_broken (suc a) (pages_from f h area (cap - suc a) (suc a)) ≡ lowest_broken 0 (pages_from f h area cap 0) = rw (more, q) at left.0 in
         let i : decides f h s a (rs ∷ rest) ≡ is_image f h (held_from f area cap 0) = rw more at left.1 in
         let c : s.records + length (rs ++ cat rest []) ≡ length (cat (held_from f area cap 0) []) = rw more at left.2 in
@@ -148,7 +134,7 @@ module _ (f : Layout) (h : ℕ → ℕ) (area : List ℕ) (cap : ℕ) where
         (w, look_decides f h s a rs rest (held_few f (part_at area a)) ∙ i, omega (arith, length-append rs (cat rest [])), omega (arith, held_twelve f (part_at area a)))
 
   -- with no page left the pages are whole
-  pub survey_ends : (s : Seen) (a : ℕ) → cap ≤ a → ToSurvey s a → Whole s.image s.records ≡ surveyed f h area cap
+  pub survey_ends : (s : Seen) (a : ℕ) → cap ≤ a → ToSurvey s a → Ok (whole s.image s.records) ≡ surveyed f h area cap
   unfolding surveyed
   survey_ends s a l left =
       let z : cap - a ≡ 0 = omega arith in

@@ -1,15 +1,13 @@
 -- What a look at all pages tells (01, 'The walks': check). What is quoted is 01's. h is the home of
 -- a key.
-use Rattle.std.specs.Prelude.{ℕ, suc, Bool, true, false, ◌&&◌, List, [], ◌∷◌, length, leb}
+use Rattle.std.specs.Prelude.{ℕ, suc, Bool, true, false, ◌&&◌, List, [], ◌∷◌, length, leb, Result, Ok, Err}
 use Rattle.std.proofs.Math.Option.{Option, none, some}
 use Rattle.layouts.specs.Layout.{Layout, slots_of}
 use Rattle.placing.specs.Image.{cat}
 use Rattle.placing.specs.Lay.{rank_in}
 use Rattle.pages.specs.Page.{Record, key}
 use Rattle.pages.specs.Area.{pages_from, held_from}
-use Rattle.survey.specs.declared.Verdict.{Verdict}
-use Rattle.survey.specs.declared.Verdict.TheVariants.{Whole}
-use Rattle.survey.specs.declared.Verdict.TheVariants as verdicts
+use Rattle.survey.specs.declared.Whole.{Whole}
 
 -- "judge pages from 0 upward and stop at the first broken one": its address, the first page being
 -- at a
@@ -18,9 +16,16 @@ lowest_broken a [] = none
 lowest_broken a (none ∷ ps) = some a
 lowest_broken a (some p ∷ ps) = lowest_broken (suc a) ps
 
-abbrev pub on_broken : Option ℕ → Verdict → Verdict
-on_broken (some a) whole = verdicts.Broken a
-on_broken none whole = whole
+-- what is told of pages of which none is broken, or the lowest broken one
+abbrev pub Verdict : Type 0
+Verdict = Result Whole ℕ
+
+abbrev pub whole : (image : Bool) → (records : ℕ) → Whole
+whole image records = record { image = image; records = records }
+
+abbrev pub on_broken : Option ℕ → Whole → Verdict
+on_broken (some a) w = Err a
+on_broken none w = Ok w
 
 module _ (h : ℕ → ℕ) where
   -- after a page that isn't full, no record on page a has a lower home: the first one's tells it
@@ -56,4 +61,4 @@ module _ (f : Layout) (h : ℕ → ℕ) where
   -- records
   unfoldable pub surveyed : List ℕ → (cap : ℕ) → Verdict
   surveyed area cap =
-      on_broken (lowest_broken 0 (pages_from f h area cap 0)) (Whole (is_image (held_from f area cap 0)) (length (cat (held_from f area cap 0) [])))
+      on_broken (lowest_broken 0 (pages_from f h area cap 0)) (whole (is_image (held_from f area cap 0)) (length (cat (held_from f area cap 0) [])))

@@ -10,45 +10,18 @@ use lib.ListN.{length, get_or, set, length-set}
 use lib.Seq.{get_or-set_same, get_or-set_other}
 use lib.Dec.{ltb}
 use borrow.Author.Tests.{ltb-true, ltb-false, lt-ltb, le-ltb, eq-eqb, ne_eqb}
+use Rattle.std.specs.Prelude.{Option as Optional}
 use Rattle.placing.specs.Lay.{one}
 use Rattle.placing.specs.Rows.{is_there}
 use Rattle.placing.specs.Walks.{if_found}
 use Rattle.pages.specs.Page.{Record, record_with, key, value}
 use Rattle.pages.specs.Steps.Slots.{paired}
 use Rattle.pages.proofs.Seeking.{paired_last, paired_turn}
-use Rattle.lookups.specs.declared.Sought.{Sought}
-use Rattle.lookups.specs.declared.Sought.TheVariants.{Held, Absent}
 use Rattle.lookups.specs.Steps.Told.{held_by}
 use Rattle.sites.specs.Held.{same}
 use Rattle.two_sets.specs.Steps.Lowest.{lower, lower_if, lowest_in, lacking}
 use Rattle.two_sets.proofs.Lowest.{lowest_append, lacking-append}
-use Rattle.unions.specs.declared.Clash.{Clash}
-use Rattle.unions.specs.declared.Clash.TheVariants.{Nowhere, At}
 use Rattle.unions.specs.Steps.Both.{clash_by}
-
--- the lower of a key and a clash
-module _ (low : Clash) (k : ℕ) where
-  pub lower_none : low ≡ Nowhere → clash_by (At k) ≡ lower k (clash_by low)
-  lower_none e = rw e
-
-  module _ (j : ℕ) (e : low ≡ At j) where
-    pub lower_this : k < j → clash_by (At k) ≡ lower k (clash_by low)
-    lower_this h = rw (e, lt-ltb k j h)
-
-    pub lower_that : j ≤ k → clash_by (At j) ≡ lower k (clash_by low)
-    lower_that h = rw (e, le-ltb k j h)
-
--- a record weighed by what is held at its key
-module _ (held : Sought) (x : Record) (low : Clash) where
-  pub weigh_absent : held ≡ Absent → clash_by low ≡ lower_if key same x (held_by held) (clash_by low)
-  weigh_absent e = rw e
-
-  module _ (y : Record) (e : held ≡ Held y) where
-    pub weigh_same : value x ≡ value y → clash_by low ≡ lower_if key same x (held_by held) (clash_by low)
-    weigh_same h = rw (e, eq-eqb (value x) (value y) h)
-
-    pub weigh_unlike : (value x ≡ value y → ⊥) → (r : Clash) → clash_by r ≡ lower (key x) (clash_by low) → clash_by r ≡ lower_if key same x (held_by held) (clash_by low)
-    weigh_unlike h r q = rw (e, ne_eqb (value x) (value y) h) q
 
 -- rows that agree in their first n places have the same n records
 paired_same : (n : ℕ) (ks vs us js ws ts : List ℕ) → ((i : ℕ) → i < n → (get_or ks i 0 ≡ get_or js i 0) × (get_or vs i 0 ≡ get_or ws i 0) × (get_or us i 0 ≡ get_or ts i 0))
@@ -95,8 +68,7 @@ homes_on h ks hs n k o l m e w j t = go (ltb j n) refl
         rw (d, get_or-set_same hs n o 0 m, get_or-set_same ks n k 0 l) e
 
 -- the first i records of a page are sifted
-pub record Sifting (look : ℕ → Option Record) (keys values runs here : List ℕ) (low : Clash) (count : ℕ) (keys2 values2 runs2 homes : List ℕ) (n : ℕ) (clash : Clash) (i : ℕ) : Type 0 where
-  pub within : i ≤ count
+pub record Sifting (look : ℕ → Option Record) (keys values runs here : List ℕ) (low : Optional ℕ) (count : ℕ) (keys2 values2 runs2 homes : List ℕ) (n : ℕ) (clash : Optional ℕ) (i : ℕ) : Type 0 where
   pub few : n ≤ i
   pub long_keys : length keys2 ≡ 12
   pub long_values : length values2 ≡ 12
@@ -110,11 +82,11 @@ pub one_most : (u : Bool) → one u ≤ 1
 one_most true = omega arith
 one_most false = omega arith
 
-module _ {look : ℕ → Option Record} {keys values runs here : List ℕ} {low : Clash} {count : ℕ} {keys2 values2 runs2 homes : List ℕ} {n : ℕ} {clash : Clash} {i : ℕ}
+module _ {look : ℕ → Option Record} {keys values runs here : List ℕ} {low : Optional ℕ} {count : ℕ} {keys2 values2 runs2 homes : List ℕ} {n : ℕ} {clash : Optional ℕ} {i : ℕ}
     (s : Sifting look keys values runs here low count keys2 values2 runs2 homes n clash i) (l : i < count) (m : count ≤ 12) where
   -- one more
-  pub sifting_on : (x : Record) → x ≡ record_with (get_or keys i 0) (get_or values i 0) (get_or runs i 0) → (held : Sought) → held_by held ≡ look (key x)
-      → (c : Clash) → clash_by c ≡ lower_if key same x (held_by held) (clash_by clash) → (a : ℕ) → a ≡ one (not (is_there (held_by held)))
+  pub sifting_on : (x : Record) → x ≡ record_with (get_or keys i 0) (get_or values i 0) (get_or runs i 0) → (held : Optional Record) → held_by held ≡ look (key x)
+      → (c : Optional ℕ) → clash_by c ≡ lower_if key same x (held_by held) (clash_by clash) → (a : ℕ) → a ≡ one (not (is_there (held_by held)))
       → Sifting look keys values runs here low count (set keys2 n x.key) (set values2 n x.value) (set runs2 n x.run) (set homes n (get_or here i 0)) (n + a) c (i + 1)
   sifting_on x e held h c w a q =
       let rs : List Record = paired i keys values runs in
@@ -125,7 +97,6 @@ module _ {look : ℕ → Option Record} {keys values runs here : List ℕ} {low 
       let low_asked : lowest_in key same look (paired (i + 1) keys values runs) (clash_by low) ≡ lower_if key same x (held_by held) (lowest_in key same look rs (clash_by low)) =
       rw (more, h) (lowest_append key same look rs (x ∷ []) (clash_by low)) in
       record {
-        within = omega arith;
         few = omega (arith, s.few, q, one_most (not (is_there (held_by held))));
         long_keys = rw length-set s.long_keys;
         long_values = rw length-set s.long_values;

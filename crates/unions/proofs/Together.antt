@@ -25,7 +25,7 @@ use Rattle.entries.proofs.Rows.{row_length, row_append, entries_row}
 use Rattle.rebuild.specs.Relaid.{laid_out}
 use Rattle.rebuild.specs.Steps.Rebuild.{slots, tagged_from, tagged, packed, record_in}
 use Rattle.rebuild.proofs.Tags.{home_small}
-use Rattle.rebuild.proofs.Packing.{on_page, parts_from}
+use Rattle.rebuild.proofs.Packing.{on_page, parts_from, Above, above_length, above_room, below_same}
 use Rattle.rebuild.proofs.Commuting.{Right, pages_right, pages_records, taken_records, distinct_records, entries_laid}
 use Rattle.rebuild.proofs.Fitting.{tagged_fit, held_fit}
 use Rattle.sites.specs.declared.Site.{Site}
@@ -54,6 +54,21 @@ partly_cat look (p ∷ ps) = rw (partly_cat look ps) (sym (lacking-append key lo
 pub here_still : (h : ℕ → ℕ) (l m : List ℕ) (a : ℕ) → ((b : ℕ) → b ≤ a → part_at m b ≡ part_at l b) → KnownHere in_use h l a → KnownHere in_use h m a
 here_still h l m zero e k = rw (e 0 (omega arith)) k
 here_still h l m (suc a) e k = rw (e (suc a) (omega arith), e a (omega arith)) k
+
+-- while the pages are packed downward, those below stand as they did
+module _ (here : Site) (area : List ℕ) (look : ℕ → Option Record) (w : Walkable area here) (a at : ℕ) (m : List ℕ)
+    (s : Above (partly look area) (home_in here.shape) here.cap area (256 * here.cap) a at m) where
+  pub still_long : length m ≡ 256 * here.cap
+  still_long = above_length _ _ _ area _ _ _ m (omega (arith, w.long)) s ∙ w.long
+
+  pub still_stands : (b : ℕ) → b < a → part_at m b ≡ part_at area b
+  still_stands = below_same _ _ _ area _ _ _ m (omega (arith, w.long)) s (partly_few look area) refl
+
+  pub still_known : 0 < a → KnownHere in_use (home_in here.shape) m (a - 1)
+  still_known z = here_still (home_in here.shape) area m (a - 1) (λ b k. still_stands b (omega arith)) (w.known (a - 1) (omega (arith, s.within)))
+
+  pub still_room : 0 < a → (n : ℕ) → n ≤ slots → size * n ≤ at
+  still_room z n k = omega (arith, above_room _ _ _ area _ _ _ m (omega (arith, w.long)) s (partly_few look area) refl)
 
 module _ (here : Site) (area : List ℕ) (there : Site) (other : List ℕ) where
   abbrev h : ℕ → ℕ

@@ -18,65 +18,44 @@ ghost use Rattle.two_sets.specs.Steps.Lowest.{lower, lower_if, lowest_in};
 ghost use Rattle.unions.specs.Steps.Both.{clash_by, Sifts, lacking_on, both_of};
 
 use homes::Shape;
-use layouts::IN_USE;
-use lookups::Sought;
+use layouts::InUse;
 use pages::{Page, Record};
 use sites::Site;
 
-// The lowest key at which two files clash: both hold it, with two values.
-#[derive(Clone, Copy)]
-pub enum Clash {
-    Nowhere,
-    At { lowest: u64 },
-}
-
-// Those of a page's records that another file lacks, with their homes, and the lowest clash so far.
+// Those of a page's records that another file lacks, with their homes, and the lowest key so far
+// that both hold with two values.
 #[derive(Clone, Copy)]
 pub struct Sifted {
     pub page: Page,
     pub homes: [u64; 12],
-    pub clash: Clash,
+    pub clash: Option<u64>,
 }
 
 // The lower of a key and the lowest clash so far.
-fn lower(low: Clash, key: u64) -> Clash
+fn lower(low: Option<u64>, key: u64) -> Option<u64>
     ensures { clash_by result ≡ lower key (clash_by low) }
 {
     match low {
-        Clash::Nowhere => Clash::At { lowest: key },
-        Clash::At { lowest } => {
-            let is_lower = key < lowest;
-            if is_lower {
-                return Clash::At { lowest: key };
-            }
-            Clash::At { lowest }
-        }
+        None => Some(key),
+        Some(lowest) => Some(key.min(lowest)),
     }
 }
 
-// The lowest clash with a record seen too, by what the other file holds at its key.
-fn weigh(held: Sought, x: Record, low: Clash) -> Clash
+// The lowest key with two values once a record is seen too, by what the other file holds at its key.
+fn weigh(held: Option<Record>, x: Record, low: Option<u64>) -> Option<u64>
     ensures { clash_by result ≡ lower_if key same x (held_by held) (clash_by low) }
 {
     match held {
-        Sought::Absent => low,
-        Sought::Held { held } => {
-            if x.value == held.value {
-                return low;
-            }
-            lower(low, x.key)
-        }
+        Some(held) if x.value != held.value => lower(low, x.key),
+        _ => low,
     }
 }
 
 // 1 where nothing was found.
-fn absent(held: Sought) -> usize
+fn absent(held: Option<Record>) -> usize
     ensures { result ≡ one (not (is_there (held_by held))) }
 {
-    match held {
-        Sought::Absent => 1,
-        Sought::Held { held: _ } => 0,
-    }
+    usize::from(held.is_none())
 }
 
 // A page's records, each sought in another file, where it lives at `there`; `here` are their homes in their own.
@@ -87,42 +66,36 @@ pub fn sift(
     there: [u64; 12],
     other: &[u8],
     site: Site,
-    low: Clash,
+    low: Option<u64>,
 ) -> Sifted
     requires { (page.count ≤ 12) × Walkable other.now site × ((i : ℕ) → i < page.count → get_or there i 0 ≡ home_in site.shape (get_or page.keys i 0)) }
     ensures { Sifts (look site other.now) page here low result }
 {
-    let count = page.count;
-    let keys = page.keys;
-    let values = page.values;
-    let runs = page.runs;
-    let mut keys2 = [0; 12];
-    let mut values2 = [0; 12];
-    let mut runs2 = [0; 12];
+    let mut keys = [0; 12];
+    let mut values = [0; 12];
+    let mut runs = [0; 12];
     let mut homes = [0; 12];
     let mut n = 0;
     let mut clash = low;
-    let mut i = 0;
-    while i < count {
+    for i in 0..page.count {
         let x = Record {
-            key: keys[i],
-            value: values[i],
-            run: runs[i],
+            key: page.keys[i],
+            value: page.values[i],
+            run: page.runs[i],
         };
         let held = sites::seek(other, site, there[i], x.key);
         clash = weigh(held, x, clash);
-        keys2[n] = x.key;
-        values2[n] = x.value;
-        runs2[n] = x.run;
+        keys[n] = x.key;
+        values[n] = x.value;
+        runs[n] = x.run;
         homes[n] = here[i];
         n += absent(held);
-        i += 1;
     }
     let page = Page {
         count: n,
-        keys: keys2,
-        values: values2,
-        runs: runs2,
+        keys,
+        values,
+        runs,
     };
     Sifted { page, homes, clash }
 }
@@ -133,60 +106,55 @@ fn add_homes(row: &mut [u32], page: Page, homes: [u64; 12], shape: Shape)
     requires by_index { (i : ℕ) → i < page.count → get_or homes i 0 ≡ home_in shape (get_or page.keys i 0) }
     ensures { row.new ≡ tallied (map (home_for (home_in shape)) (records_of page)) row.old }
 {
-    let count = page.count;
-    let mut i = 0;
-    while i < count {
-        let home = homes[i] as usize;
-        row[home] = row[home] + 1;
-        i += 1;
+    for i in 0..page.count {
+        row[homes[i] as usize] += 1;
     }
 }
 
-// The records of an area that the other file lacks, counted by their homes; the answer is the lowest clash.
-fn tally_lacking(row: &mut [u32], area: &[u8], here: Site, other: &[u8], there: Site) -> Clash
+// The records of an area that the other file lacks, counted by their homes; the answer is the lowest key
+// that both hold with two values, if there is one.
+fn tally_lacking(row: &mut [u32], area: &[u8], here: Site, other: &[u8], there: Site) -> Option<u64>
     requires { Walkable area.now here × Walkable other.now there × (length row.old ≡ here.cap) × ((k : ℕ) → get_or row.old k 0 ≤ 100000) }
     ensures result_value { clash_by result ≡ lowest_in key same (look there other.now) (on_pages here area.now) none }
     ensures row_after { row.new ≡ tallied (map (home_for (home_in here.shape)) (lacking_on here area.now there other.now)) row.old }
     ensures few { (k : ℕ) → get_or row.new k 0 ≤ get_or row.old k 0 + 49152 }
 {
-    let mut clash = Clash::Nowhere;
-    let mut a = 0;
-    while a < here.cap {
-        let page = pages::parse_at(area, a, IN_USE);
-        let homes = sites::homes_under(area, a, page, here.shape, here.shape);
-        let sought = sites::homes_under(area, a, page, here.shape, there.shape);
+    let mine = here.shape();
+    let theirs = there.shape();
+    let mut clash = None;
+    for a in 0..here.cap() {
+        let page = pages::parse_at::<InUse>(area, a);
+        let homes = sites::homes_under(area, a, page, mine, mine);
+        let sought = sites::homes_under(area, a, page, mine, theirs);
         let sifted = sift(page, homes, sought, other, there, clash);
-        let kept = sifted.page;
-        let kept_homes = sifted.homes;
-        add_homes(row, kept, kept_homes, here.shape);
+        add_homes(row, sifted.page, sifted.homes, mine);
         clash = sifted.clash;
-        a += 1;
     }
     clash
 }
 
-// All records of a file counted by their homes under a shape.
+// All records of a file counted by their homes under a shape. It shares the call of `add_homes` with the one
+// above: a closure for the rest, with the clash to carry, would be no plainer.
 fn tally_all(row: &mut [u32], area: &[u8], site: Site, shape: Shape)
     requires { Walkable area.now site × Ready shape × (shape.p ≤ length row.old) × (length row.old ≤ 4096) × ((k : ℕ) → get_or row.old k 0 ≤ 100000) }
     ensures { row.new ≡ tallied (map (home_for (home_in shape)) (on_pages site area.now)) row.old }
 {
-    let mut a = 0;
-    while a < site.cap {
-        let page = pages::parse_at(area, a, IN_USE);
-        let homes = sites::homes_under(area, a, page, site.shape, shape);
+    let own = site.shape();
+    for a in 0..site.cap() {
+        let page = pages::parse_at::<InUse>(area, a);
+        let homes = sites::homes_under(area, a, page, own, shape);
         add_homes(row, page, homes, shape);
-        a += 1;
     }
 }
 
 // The records of both files, each once, counted in a row of zeros by their homes in the first; the answer is
-// the lowest clash.
-pub fn tally(row: &mut [u32], area: &[u8], here: Site, other: &[u8], there: Site) -> Clash
+// the lowest key that both hold with two values, if there is one.
+pub fn tally(row: &mut [u32], area: &[u8], here: Site, other: &[u8], there: Site) -> Option<u64>
     requires { Walkable area.now here × Walkable other.now there × (row.old ≡ replicate here.cap 0) }
     ensures result_value { clash_by result ≡ lowest_in key same (look there other.now) (on_pages here area.now) none }
     ensures row_after { row.new ≡ counts (home_for (home_in here.shape)) (both_of here area.now there other.now) here.cap 0 }
 {
     let clash = tally_lacking(row, area, here, other, there);
-    tally_all(row, other, there, here.shape);
+    tally_all(row, other, there, here.shape());
     clash
 }

@@ -20,9 +20,3 @@ module _ (h : ℕ → ℕ) (start area new : List ℕ) (last a slot : ℕ) (same
       let n : last - a ≡ suc (last - (a + 1)) = omega arith in
       let m : a + 1 ≡ suc a = omega arith in
       rw (d, n, same a (omega arith), same (a + 1) (omega arith), m)
-
-  -- closed up only, where it is
-  pub draw_last : last ≡ a → new ≡ with_page in_use area last (closed slot (held area last)) → new ≡ writes in_use area (drawn h start (last - a) a slot)
-  draw_last l d =
-      let n : a - a ≡ 0 = omega arith in
-      rw (d, l, n, same a (omega arith))

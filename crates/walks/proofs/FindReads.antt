@@ -9,6 +9,7 @@ use native.Mathlib.Omega.{arith}
 use lib.ListN.{length, take, drop, length-append, take-append-drop}
 use lib.Seq.{append_snoc, length-take-le, get_or_at, get_or-append-add}
 use Rattle.layouts.proofs.Lying.{slots_few}
+use Rattle.std.proofs.Common.{Ok}
 use Rattle.layouts.specs.Layout.{Layout, slots_of}
 use Rattle.placing.specs.Image.{All, cat, page}
 use Rattle.placing.specs.Lay.{rank_in}
@@ -19,14 +20,13 @@ use Rattle.pages.specs.Page.{Record, key}
 use Rattle.pages.specs.Places.{ahead}
 use Rattle.pages.specs.Area.{area_from}
 use Rattle.state.specs.Answer.{numbers}
-use Rattle.walks.specs.declared.Met.{Met}
 use Rattle.walks.specs.declared.Met.TheVariants.{Found, Ends}
-use Rattle.walks.specs.Walks.{held_at, on_held, meets, walk, find_answer}
+use Rattle.walks.specs.Walks.{Walks, held_at, on_held, meets, walk, find_answer}
 use Rattle.walks.proofs.Holds.{Small, here, away_rank, here_rank}
 use Rattle.walks.proofs.Clean.{Clean, clean_from, InOrder, order_next, order_from, Others, others_from}
 
 -- the pages judged
-abbrev read_by : Met → ℕ
+abbrev read_by : Walks → ℕ
 read_by m = (numbers (find_answer m)).read
 
 module _ (x : Record) where
@@ -45,7 +45,7 @@ module _ (b : ℕ) (pos : 0 < b) (h : ℕ → ℕ) (x : Record) (l : key x < 2 ^
   rank = rank_in key h
 
   -- from page a on, which comes after those in front
-  abbrev Goes : (g : ℕ) (front qs : List (List Record)) → (List (List Record) × List Record) → Met → Type 0
+  abbrev Goes : (g : ℕ) (front qs : List (List Record)) → (List (List Record) × List Record) → Walks → Type 0
   Goes g front qs o m = (g + read_by m ≤ length (front ++ qs)) × JudgesTo x (front ++ qs) (front ++ o.0, o.1) (find rank b (rank x) qs) (g + read_by m)
 
   judges : (g : ℕ) (front qs : List (List Record)) (a j : ℕ) → length front ≡ a → g + j ≡ a → InOrder b h qs → (find rank b (rank x) qs ≡ none → Others x qs)
@@ -58,7 +58,7 @@ module _ (b : ℕ) (pos : 0 < b) (h : ℕ → ℕ) (x : Record) (l : key x < 2 ^
       small : All Small p
       small = all_left Small p (cat qs []) i.small
 
-      on : Met
+      on : Walks
       on = meets b h (key x) (suc a) (suc j) (map some qs)
 
       few : g + suc j ≤ length (front ++ (p ∷ qs))
@@ -67,7 +67,7 @@ module _ (b : ℕ) (pos : 0 < b) (h : ℕ → ℕ) (x : Record) (l : key x < 2 ^
       go : (o : Option (ℕ × ℕ)) (u : Bool) → held_at (key x) 0 p ≡ o → ends_on rank b (rank x) p ≡ u
           → ((find rank b (rank x) qs ≡ none → Others x qs) → Goes g (front ++ (p ∷ [])) qs (put rank b x qs) on)
           → Goes g front (p ∷ qs) (cond u (carried rank b x (p ∷ qs)) (p ∷ (put rank b x qs).0, (put rank b x qs).1))
-          (on_held o (λ i v. Found a i (length p) v (suc j)) (cond u (Ends a (ahead rank (rank x) p) (length p) (suc j)) on))
+          (on_held o (λ i v. Ok (Found a i (length p) v (suc j))) (cond u (Ok (Ends a (ahead rank (rank x) p) (length p) (suc j))) on))
       go (some w) u e d ih = rw (here_rank (key x) h p l small e) (few, (a, omega arith, ap (λ (s : List Record). seek key (key x) s) (get_or_at front p qs [] a at) ∙ (here (key x) p e).1))
       go none true e d ih =
           let new : Others x (p ∷ qs) = f (rw (away_rank (key x) h p l small e, d)) in

@@ -5,6 +5,7 @@ use mathlib.Core.Option.{Option, none, some}
 use mathlib.Core.List.{List, [], ◌∷◌, map}
 use Prim.Native.Nat.{ℕ, suc, ◌^◌, ◌≤◌, ◌<◌}
 use lib.ListN.{length, drop}
+use Rattle.std.proofs.Common.{Ok, Err}
 use Rattle.layouts.specs.Layout.{Layout, slots_of}
 use Rattle.placing.specs.Image.{All, cat}
 use Rattle.placing.specs.Lay.{rank_of, rank_in}
@@ -13,18 +14,17 @@ use Rattle.placing.proofs.Lists.{all_left, all_right}
 use Rattle.pages.specs.Page.{Record, key, value}
 use Rattle.pages.specs.Places.{ahead}
 use Rattle.pages.specs.Area.{area_from}
-use Rattle.state.specs.declared.Answer.{Answer}
-use Rattle.state.specs.declared.Answer.TheVariants.{Accepted, Absent}
-use Rattle.walks.specs.declared.Met.{Met}
+use Rattle.state.specs.declared.Refusal.TheVariants.{Absent}
+use Rattle.state.specs.Answer.{Answer, accepted}
 use Rattle.walks.specs.declared.Met.TheVariants.{Found, Ends}
-use Rattle.walks.specs.Walks.{held_at, on_held, meets, walk, find_answer}
+use Rattle.walks.specs.Walks.{Walks, held_at, on_held, meets, walk, find_answer}
 use Rattle.walks.proofs.Holds.{Small, away_rank, here_rank}
 use Rattle.walks.proofs.Clean.{Clean, clean_from, InOrder, order_from}
 
 -- find's answer, by the record found
 abbrev pub FindGoes : Option Record → Answer → Type 0
-FindGoes (some x) a = (n : ℕ) × (a ≡ Accepted (value x) n 0)
-FindGoes none a = (n : ℕ) × (a ≡ Absent n)
+FindGoes (some x) a = (n : ℕ) × (a ≡ Ok (accepted (value x) n 0))
+FindGoes none a = (n : ℕ) × (a ≡ Err (Absent n))
 
 find_goes : (b : ℕ) (h : ℕ → ℕ) (k : ℕ) → k < 2 ^ 64 → (a n : ℕ) (qs : List (List Record)) → All Small (cat qs [])
     → FindGoes (find (rank_in key h) b (rank_of h k) qs) (find_answer (meets b h k a n (map some qs)))
@@ -35,12 +35,12 @@ find_goes b h k l a n (p ∷ qs) s =
     small : All Small p
     small = all_left Small p (cat qs []) s
 
-    on : Met
+    on : Walks
     on = meets b h k (suc a) (suc n) (map some qs)
 
     go : (o : Option (ℕ × ℕ)) (u : Bool) → held_at k 0 p ≡ o → ends_on (rank_in key h) b (rank_of h k) p ≡ u → FindGoes (find (rank_in key h) b (rank_of h k) qs) (find_answer on)
         → FindGoes (find (rank_in key h) b (rank_of h k) (p ∷ qs))
-        (find_answer (on_held o (λ i v. Found a i (length p) v (suc n)) (cond u (Ends a (ahead (rank_in key h) (rank_of h k) p) (length p) (suc n)) on)))
+        (find_answer (on_held o (λ i v. Ok (Found a i (length p) v (suc n))) (cond u (Ok (Ends a (ahead (rank_in key h) (rank_of h k) p) (length p) (suc n))) on)))
     go (some w) u e d t = rw (here_rank k h p l small e) (suc n, refl)
     go none true e d t = rw (away_rank k h p l small e, d) (suc n, refl)
     go none false e d t = rw (away_rank k h p l small e, d) t

@@ -8,52 +8,51 @@ use native.Mathlib.Decide.{dec_lt}
 use native.Mathlib.Omega.{arith}
 use lib.Dec.{leb, ltb}
 use lib.ListN.{length}
+use Rattle.std.proofs.Common.{Ok, Err}
 use Rattle.layouts.specs.Layout.{in_use}
 use Rattle.pages.specs.Page.{Record, key, well_formed, read_page}
 use Rattle.pages.specs.Area.{part_at, pages_from}
 use Rattle.pages.proofs.RoundTrip.{read_good}
-use Rattle.walks.specs.declared.Plan.{Plan}
-use Rattle.walks.specs.declared.Plan.TheVariants.{Go, Stop}
-use Rattle.walks.specs.Steps.Plans.{slots, rising, reached, reached_back, Formed, FormedIn, RisesIn}
+use Rattle.walks.specs.Steps.Plans.{Plan, change, slots, rising, reached, reached_back, Formed, FormedIn, RisesIn}
 
 module _ (f at : ℕ) (told : ℕ → Bool) where
   -- a plan from page f on whose last page is page a or a later one, and what it tells of its seams
   abbrev pub LastFrom : ℕ → Plan → Type 0
-  LastFrom a (Go g i last read up) = (g ≡ f) × (i ≡ at) × (a ≤ last) × (up ≡ told last)
-  LastFrom a (Stop why) = Unit {0}
+  LastFrom a (Ok c) = (c.first ≡ f) × (c.at ≡ at) × (a ≤ c.last) × (c.rises ≡ told c.last)
+  LastFrom a (Err why) = Unit {0}
 
   pub later : (a : ℕ) (p : Plan) → LastFrom (suc a) p → LastFrom a p
-  later a (Go g i last read up) l = (l.0, l.1, omega arith, l.3)
-  later a (Stop why) l = tt
+  later a (Ok c) l = (l.0, l.1, omega arith, l.3)
+  later a (Err why) l = tt
 
 module _ (area : List ℕ) where
   -- the pages of a plan from page a on are well formed
   abbrev pub FormedFrom : ℕ → Plan → Type 0
-  FormedFrom a (Go f at last read up) = Formed area a last
-  FormedFrom a (Stop why) = Unit {0}
+  FormedFrom a (Ok c) = Formed area a c.last
+  FormedFrom a (Err why) = Unit {0}
 
   -- and so with the page before it
   one_more : (a : ℕ) (p : Plan) → well_formed in_use a (part_at area a) ≡ true → FormedFrom (suc a) p → FormedFrom a p
-  one_more a (Go f at last read up) w g = λ b l m. go b l m (dec_lt a b)
+  one_more a (Ok c) w g = λ b l m. go b l m (dec_lt a b)
     where
-      go : (b : ℕ) → a ≤ b → b ≤ last → Dec (a < b) → well_formed in_use b (part_at area b) ≡ true
+      go : (b : ℕ) → a ≤ b → b ≤ c.last → Dec (a < b) → well_formed in_use b (part_at area b) ≡ true
       go b l m (yes k) = g b k m
       go b l m (no k) = let e : b ≡ a = omega arith in rw e w
-  one_more a (Stop why) w g = tt
+  one_more a (Err why) w g = tt
 
   -- of one page alone
   pub one_page : (a : ℕ) → well_formed in_use a (part_at area a) ≡ true → Formed area a a
-  one_page a w = one_more a (Go a 0 a 0 true) w (λ b l m. absurd (omega arith))
+  one_page a w = one_more a (Ok (change a 0 a 0 true)) w (λ b l m. absurd (omega arith))
 
   -- a plan from page f on, which is well formed too
   pub plan_formed : (f at : ℕ) (told : ℕ → Bool) (b : ℕ) (p : Plan) → LastFrom f at told b p → well_formed in_use f (part_at area f) ≡ true → FormedFrom (suc f) p → FormedIn area p
-  plan_formed f at told b (Go g i last read up) l w k = rw l.0 (one_more f (Go f i last read up) w k)
-  plan_formed f at told b (Stop why) l w k = tt
+  plan_formed f at told b (Ok c) l w k = rw l.0 (one_more f (Ok c) w k)
+  plan_formed f at told b (Err why) l w k = tt
 
   -- and one that tells of the seams between its pages
   pub plan_rises : (h : ℕ → ℕ) (f at b : ℕ) (p : Plan) → LastFrom f at (rising h area f) b p → RisesIn h area p
-  plan_rises h f at b (Go g i last read up) l = l.3 ∙ rw l.0
-  plan_rises h f at b (Stop why) l = tt
+  plan_rises h f at b (Ok c) l = l.3 ∙ rw l.0
+  plan_rises h f at b (Err why) l = tt
 
   module _ (h : ℕ → ℕ) (told : ℕ → Bool) (f at : ℕ) where
     -- a page that is read is
@@ -68,7 +67,7 @@ module _ (area : List ℕ) where
         on : Plan
         on = reached slots told f at (suc a) (suc n) (pages_from in_use h area c (suc a))
 
-        good : (u : Bool) → well_formed in_use a (part_at area a) ≡ true → FormedFrom (suc a) on → FormedFrom a (cond u (Go f at a (suc n) (told a)) on)
+        good : (u : Bool) → well_formed in_use a (part_at area a) ≡ true → FormedFrom (suc a) on → FormedFrom a (cond u (Ok (change f at a (suc n) (told a))) on)
         good true w g = one_page a w
         good false w g = one_more a on w g
 
@@ -86,7 +85,7 @@ module _ (area : List ℕ) where
         on = reached_back slots told h f at (suc a) (suc n) (pages_from in_use h area c (suc (suc a)))
 
         good : (u v : Bool) → well_formed in_use (suc a) (part_at area (suc a)) ≡ true → FormedFrom (suc (suc a)) on
-            → FormedFrom (suc a) (cond u (cond v (Go f at (suc a) (suc n) (told (suc a))) on) (Go f at a (suc n) (told a)))
+            → FormedFrom (suc a) (cond u (cond v (Ok (change f at (suc a) (suc n) (told (suc a)))) on) (Ok (change f at a (suc n) (told a))))
         good false v w g = λ b l m. absurd (omega arith)
         good true true w g = one_page (suc a) w
         good true false w g = one_more (suc a) on w g

@@ -9,6 +9,7 @@ use lib.Dec.{ltb}
 use lib.ListN.{length, take, drop, get_or, length-append, take-append-drop}
 use lib.Seq.{append_snoc, length-take-le}
 use Rattle.layouts.proofs.Lying.{slots_few}
+use Rattle.std.proofs.Common.{Ok}
 use Rattle.layouts.specs.Layout.{Layout, slots_of}
 use Rattle.placing.specs.Image.{All, cat}
 use Rattle.placing.specs.Lay.{rank_in, ins}
@@ -19,11 +20,10 @@ use Rattle.placing.proofs.Strays.{strayed_after, hops, hops_strayed}
 use Rattle.pages.specs.Page.{Record, key, value}
 use Rattle.pages.specs.Places.{ahead}
 use Rattle.pages.specs.Area.{area_from}
-use Rattle.state.specs.declared.Answer.TheVariants.{NoRoom}
+use Rattle.state.specs.declared.Refusal.TheVariants.{NoRoom}
 use Rattle.state.specs.Answer.{again}
-use Rattle.walks.specs.declared.Met.{Met}
 use Rattle.walks.specs.declared.Met.TheVariants.{Found, Ends}
-use Rattle.walks.specs.Walks.{held_at, on_held, meets, walk, Walked, went, stopped, and_page, carry, put_met, put_walk}
+use Rattle.walks.specs.Walks.{Walks, held_at, on_held, meets, walk, Walked, went, stopped, and_page, carry, put_met, put_walk}
 use Rattle.walks.proofs.Holds.{Small, away_rank, here_rank}
 use Rattle.walks.proofs.Clean.{Clean, clean_from, clean_after, InOrder, order_next, order_from, Others, others_from}
 use Rattle.walks.proofs.Went.{Went, wrote_went, one_went}
@@ -83,7 +83,7 @@ module _ (form : Layout) (h : ℕ → ℕ) (n : ℕ) (x : Record) (l : key x < 2
   rank = rank_in key h
 
   -- how a put goes from page a on, which comes after those in front
-  abbrev Goes : (front qs : List (List Record)) → (List (List Record) × List Record) → Met → Type 0
+  abbrev Goes : (front qs : List (List Record)) → (List (List Record) × List Record) → Walks → Type 0
   Goes front qs o m = PutGoes form (front ++ qs) x (find rank (slots_of form) (rank x) qs) (front ++ o.0, o.1) (put_met form h (area_from form 0 (front ++ qs)) n x m)
 
   put_goes : (front qs : List (List Record)) (a j : ℕ) → length front ≡ a → Clean form h n (front ++ qs) → InOrder (slots_of form) h qs
@@ -96,13 +96,13 @@ module _ (form : Layout) (h : ℕ → ℕ) (n : ℕ) (x : Record) (l : key x < 2
       small : All Small p
       small = all_left Small p (cat qs []) i.small
 
-      on : Met
+      on : Walks
       on = meets (slots_of form) h (key x) (suc a) (suc j) (map some qs)
 
       go : (o : Option (ℕ × ℕ)) (u : Bool) → held_at (key x) 0 p ≡ o → ends_on rank (slots_of form) (rank x) p ≡ u
           → ((find rank (slots_of form) (rank x) qs ≡ none → Others x qs) → Goes (front ++ (p ∷ [])) qs (put rank (slots_of form) x qs) on)
           → Goes front (p ∷ qs) (cond u (carried rank (slots_of form) x (p ∷ qs)) (p ∷ (put rank (slots_of form) x qs).0, (put rank (slots_of form) x qs).1))
-          (on_held o (λ i v. Found a i (length p) v (suc j)) (cond u (Ends a (ahead rank (rank x) p) (length p) (suc j)) on))
+          (on_held o (λ i v. Ok (Found a i (length p) v (suc j))) (cond u (Ok (Ends a (ahead rank (rank x) p) (length p) (suc j))) on))
       go (some w) u e d ih = rw (here_rank (key x) h p l small e) (suc j, refl)
       go none true e d ih =
           let new : Others x (p ∷ qs) = f (rw (away_rank (key x) h p l small e, d)) in

@@ -9,6 +9,7 @@ use native.Mathlib.Omega.{arith}
 use lib.Dec.{leb, ltb}
 use lib.ListN.{length}
 use lib.Seq.{take_all}
+use Rattle.std.proofs.Common.{Ok, Err}
 use Rattle.layouts.specs.Layout.{in_use}
 use Rattle.placing.specs.Lay.{rank_in, ins, Sorted}
 use Rattle.placing.proofs.Order.{ins-length}
@@ -20,10 +21,8 @@ use Rattle.pages.specs.Area.{part_at, pages_from}
 use Rattle.pages.proofs.RoundTrip.{Good, read_good}
 use Rattle.pages.proofs.Rules.{rises_sorted}
 use Rattle.pages.proofs.Places.{back_ahead, ins-opened}
-use Rattle.walks.specs.declared.Plan.{Plan}
-use Rattle.walks.specs.declared.Plan.TheVariants.{Go, Stop}
 use Rattle.walks.specs.Walks.{Walked, went, stopped, and_page, pull_back}
-use Rattle.walks.specs.Steps.Plans.{slots, held, first_of, drawn, reached_back, planned}
+use Rattle.walks.specs.Steps.Plans.{Plan, change, slots, held, first_of, drawn, reached_back, planned}
 use Rattle.walks.proofs.Formed.{LastFrom, later}
 
 -- a record at its place from the back, where there is room for it
@@ -53,7 +52,7 @@ begins b told h f at a n (some [] ∷ ps) = (refl, refl, omega arith, refl)
 begins b told h f at a n (some (y ∷ q) ∷ ps) = go (leb (h (key y)) a) (ltb (suc (length q)) b) (begins b told h f at (suc a) (suc n) ps)
   where
     go : (u v : Bool) → LastFrom f at told (suc a) (reached_back b told h f at (suc a) (suc n) ps)
-        → LastFrom f at told a (cond u (cond v (Go f at (suc a) (suc n) (told (suc a))) (reached_back b told h f at (suc a) (suc n) ps)) (Go f at a (suc n) (told a)))
+        → LastFrom f at told a (cond u (cond v (Ok (change f at (suc a) (suc n) (told (suc a)))) (reached_back b told h f at (suc a) (suc n) ps)) (Ok (change f at a (suc n) (told a))))
     go false v l = (refl, refl, omega arith, refl)
     go true true l = (refl, refl, omega arith, refl)
     go true false l = later f at told a (reached_back b told h f at (suc a) (suc n) ps) l
@@ -61,25 +60,25 @@ begins b told h f at a n (some (y ∷ q) ∷ ps) = go (leb (h (key y)) a) (ltb (
 module _ (h : ℕ → ℕ) (area : List ℕ) (told : ℕ → Bool) where
   -- what a plan comes to from page a on, after m records moved
   abbrev from : (a slot m : ℕ) → Plan → Walked
-  from a slot m (Go f at last read up) = went (drawn h area (last - a) a slot) read (m + (last - a))
-  from a slot m (Stop why) = stopped why
+  from a slot m (Ok c) = went (drawn h area (c.last - a) a slot) c.read (m + (c.last - a))
+  from a slot m (Err why) = stopped why
 
   -- a plan from its first page on
   from_first : (f at : ℕ) (p : Plan) → LastFrom f at told f p → planned (drawn h area) p ≡ from f at 0 p
-  from_first f at (Go f' at' last read up) b = rw (b.0, b.1, zero-add (last - f))
-  from_first f at (Stop why) b = refl
+  from_first f at (Ok c) b = rw (b.0, b.1, zero-add (c.last - f))
+  from_first f at (Err why) b = refl
 
   -- page a is filled, and the plan goes on from the next page
   from_next : (f at a slot m : ℕ) (p : Plan) → LastFrom f at told (suc a) p
       → from a slot m p ≡ and_page a (backed slots h (first_of (held area (suc a))) (closed slot (held area a))) (from (suc a) 0 (suc m) p)
-  from_next f at a slot m (Go f' at' last read up) b =
-      let e : last - a ≡ suc (last - suc a) = omega arith in
-      let k : m + suc (last - suc a) ≡ suc m + (last - suc a) = omega arith in
+  from_next f at a slot m (Ok c) b =
+      let e : c.last - a ≡ suc (c.last - suc a) = omega arith in
+      let k : m + suc (c.last - suc a) ≡ suc m + (c.last - suc a) = omega arith in
       rw (e, k)
-  from_next f at a slot m (Stop why) b = refl
+  from_next f at a slot m (Err why) b = refl
 
   -- page a is the last
-  from_last : (f at a slot n m : ℕ) → from a slot m (Go f at a n (told a)) ≡ went ((a, closed slot (held area a)) ∷ []) n m
+  from_last : (f at a slot n m : ℕ) → from a slot m (Ok (change f at a n (told a))) ≡ went ((a, closed slot (held area a)) ∷ []) n m
   from_last f at a slot n m =
       let e : a - a ≡ 0 = omega arith in
       let k : m + 0 ≡ m = omega arith in
@@ -100,12 +99,12 @@ module _ (h : ℕ → ℕ) (area : List ℕ) (told : ℕ → Bool) where
       -- the record that comes back is the first of the next page, which then is without it
       on : (u v : Bool) (y : Record) (q : List Record) → held area (suc a) ≡ y ∷ q
           → from (suc a) 0 (suc m) (reached_back slots told h f at (suc a) (suc n) ps) ≡ pull_back slots h (suc a) (suc n) (suc m) (closed 0 (held area (suc a))) ps
-          → from a slot m (cond u (cond v (Go f at (suc a) (suc n) (told (suc a))) (reached_back slots told h f at (suc a) (suc n) ps)) (Go f at a (suc n) (told a)))
+          → from a slot m (cond u (cond v (Ok (change f at (suc a) (suc n) (told (suc a)))) (reached_back slots told h f at (suc a) (suc n) ps)) (Ok (change f at a (suc n) (told a))))
           ≡ cond u (and_page a (ins (rank_in key h) y p) (cond v (went ((suc a, q) ∷ []) (suc n) (suc m)) (pull_back slots h (suc a) (suc n) (suc m) q ps)))
           (went ((a, p) ∷ []) (suc n) m)
       on false v y q e ih = from_last f at a slot (suc n) m
       on true true y q e ih =
-          from_next f at a slot m (Go f at (suc a) (suc n) (told (suc a))) (refl, refl, omega arith, refl)
+          from_next f at a slot m (Ok (change f at (suc a) (suc n) (told (suc a)))) (refl, refl, omega arith, refl)
           ∙ ap (and_page a (backed slots h (first_of (held area (suc a))) p)) (from_last f at (suc a) 0 (suc n) (suc m))
           ∙ rw (e, back_ins slots h y p s l, closed_first y q)
       on true false y q e ih =

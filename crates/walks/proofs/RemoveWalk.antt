@@ -8,6 +8,7 @@ use native.Mathlib.Omega.{arith}
 use lib.Dec.{leb, ltb}
 use lib.ListN.{length, take, drop, length-append, take-append-drop}
 use lib.Seq.{append_snoc, length-take-le}
+use Rattle.std.proofs.Common.{Ok}
 use Rattle.layouts.specs.Layout.{Layout, slots_of}
 use Rattle.placing.specs.Image.{All, cat, home_of, Distinct}
 use Rattle.placing.specs.Lay.{rank_of, rank_in, ins}
@@ -19,10 +20,9 @@ use Rattle.placing.proofs.Strays.{distinct_right, apart, There, there, strays_no
 use Rattle.pages.specs.Page.{Record, key}
 use Rattle.pages.specs.Places.{closed, ahead}
 use Rattle.pages.specs.Area.{area_from}
-use Rattle.state.specs.declared.Answer.TheVariants.{Absent}
-use Rattle.walks.specs.declared.Met.{Met}
+use Rattle.state.specs.declared.Refusal.TheVariants.{Absent}
 use Rattle.walks.specs.declared.Met.TheVariants.{Found, Ends}
-use Rattle.walks.specs.Walks.{held_at, on_held, meets, walk, Walked, went, stopped, and_page, remove_met, remove_walk, pull_back as pulls}
+use Rattle.walks.specs.Walks.{Walks, held_at, on_held, meets, walk, Walked, went, stopped, and_page, remove_met, remove_walk, pull_back as pulls}
 use Rattle.walks.proofs.Holds.{Small, away_rank, here_rank, here_del}
 use Rattle.walks.proofs.Clean.{Clean, clean_from, clean_here, clean_next, InOrder, order_next, order_from}
 use Rattle.walks.proofs.Went.{Went, wrote_went, one_went}
@@ -105,7 +105,7 @@ RemoveGoes form ps none qs w = (n : ℕ) × (w ≡ stopped (Absent n))
 
 module _ (form : Layout) (h : ℕ → ℕ) (n k : ℕ) (l : k < 2 ^ 64) where
   -- how a remove goes from page a on, which comes after those in front
-  abbrev Goes : (front qs new : List (List Record)) → Met → Type 0
+  abbrev Goes : (front qs new : List (List Record)) → Walks → Type 0
   Goes front qs new m = RemoveGoes form (front ++ qs) (find (rank_in key h) (slots_of form) (rank_of h k) qs) (front ++ new) (remove_met form h (area_from form 0 (front ++ qs)) n m)
 
   remove_goes : (front qs : List (List Record)) (a j : ℕ) → length front ≡ a → Clean form h n (front ++ qs) → InOrder (slots_of form) h qs
@@ -121,12 +121,12 @@ module _ (form : Layout) (h : ℕ → ℕ) (n k : ℕ) (l : k < 2 ^ 64) where
       new : List (List Record)
       new = remove (rank_in key h) (home_of key h) (slots_of form) (suc a) (rank_of h k) qs
 
-      on : Met
+      on : Walks
       on = meets (slots_of form) h k (suc a) (suc j) (map some qs)
 
       go : (o : Option (ℕ × ℕ)) (u : Bool) → held_at k 0 p ≡ o → ends_on (rank_in key h) (slots_of form) (rank_of h k) p ≡ u → Goes (front ++ (p ∷ [])) qs new on
           → Goes front (p ∷ qs) (remove (rank_in key h) (home_of key h) (slots_of form) a (rank_of h k) (p ∷ qs))
-          (on_held o (λ i v. Found a i (length p) v (suc j)) (cond u (Ends a (ahead (rank_in key h) (rank_of h k) p) (length p) (suc j)) on))
+          (on_held o (λ i v. Ok (Found a i (length p) v (suc j))) (cond u (Ok (Ends a (ahead (rank_in key h) (rank_of h k) p) (length p) (suc j))) on))
       go (some w) u e d ih =
           let t = taken_went form (slots_of form) h k w.0 w.1 a (suc j) front p qs l at i e in
           rw (here_rank k h p l small e, clean_here front a at p qs c, clean_next front a at p qs c) (rw (here_rank k h p l small e) at t)

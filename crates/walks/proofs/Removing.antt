@@ -6,17 +6,15 @@ use Prim.Native.Nat.{ℕ, suc, ◌-◌, ◌≤◌, ◌<◌}
 use native.Mathlib.Omega.{arith}
 use lib.ListN.{length}
 use borrow.Author.Tests.{lt-ltb, le-ltb}
+use Rattle.std.proofs.Common.{Ok}
 use Rattle.layouts.specs.Layout.{in_use}
 use Rattle.pages.specs.Page.{well_formed}
 use Rattle.pages.specs.Area.{part_at, pages_from}
 use Rattle.pages.proofs.RoundTrip.{read_good}
 use Rattle.walks.specs.declared.Met.{Met}
 use Rattle.walks.specs.declared.Met.TheVariants.{Found}
-use Rattle.walks.specs.declared.Met.TheVariants as mets
-use Rattle.walks.specs.declared.Plan.{Plan}
-use Rattle.walks.specs.declared.Plan.TheVariants.{Go}
-use Rattle.walks.specs.Walks.{walk, remove_met, remove_walk}
-use Rattle.walks.specs.Steps.Plans.{slots, held, drawn, rising, reached_back, planned, MetIn, FormedIn, RisesIn}
+use Rattle.walks.specs.Walks.{Walks, walk, remove_met, remove_walk}
+use Rattle.walks.specs.Steps.Plans.{Plan, change, slots, held, drawn, rising, reached_back, planned, MetIn, FormedIn, RisesIn}
 use Rattle.walks.proofs.Meeting.{Counted, walk_known}
 use Rattle.walks.proofs.RemovePlan.{begins, remove_plan}
 use Rattle.walks.proofs.Formed.{plan_formed, plan_rises, back_formed}
@@ -25,24 +23,21 @@ use Rattle.walks.proofs.Formed.{plan_formed, plan_rises, back_formed}
 pub found_in : (cap : ℕ) (met : Met) (a i c v n : ℕ) → met ≡ Found a i c v n → MetIn cap met → (a < cap) × (i < c) × (c ≤ 12) × (n ≤ suc a)
 found_in cap met a i c v n e w = rw e at w
 
-pub sick_in : (cap : ℕ) (met : Met) (a n : ℕ) → met ≡ mets.Broken a n → MetIn cap met → a < cap
-sick_in cap met a n e w = (rw e at w).0
-
-module _ (h : ℕ → ℕ) (area : List ℕ) (cap k : ℕ) (met : Met) (is : met ≡ walk in_use h area cap k) where
+module _ (h : ℕ → ℕ) (area : List ℕ) (cap k : ℕ) where
   -- the whole walk goes by what was met
-  pub remove_met_lem : (m : Met) → met ≡ m → remove_met in_use h area cap m ≡ remove_walk in_use h area cap k
+  pub remove_met_lem : (m : Walks) → walk in_use h area cap k ≡ m → remove_met in_use h area cap m ≡ remove_walk in_use h area cap k
   unfolding remove_walk
-  remove_met_lem m e = rw (← is, ← e)
+  remove_met_lem m e = rw e
 
-  module _ (a i c v n : ℕ) (e : met ≡ Found a i c v n) where
+  module _ (a i c v n : ℕ) (e : walk in_use h area cap k ≡ Ok (Found a i c v n)) where
     pub found_counted : Counted h area a c
-    found_counted = walk_known h area k cap (Found a i c v n) is e
+    found_counted = walk_known h area k cap (Ok (Found a i c v n)) e
 
     -- a page that was not full only closes up
-    pub remove_short : c < slots → planned (drawn h area) (Go a i a n true) ≡ remove_walk in_use h area cap k
+    pub remove_short : c < slots → planned (drawn h area) (Ok (change a i a n true)) ≡ remove_walk in_use h area cap k
     remove_short l =
         let z : a - a ≡ 0 = omega arith in
-        rw z (rw (lt-ltb (length (held area a)) slots (omega (arith, found_counted.count))) at (remove_met_lem (Found a i c v n) e))
+        rw z (rw (lt-ltb (length (held area a)) slots (omega (arith, found_counted.count))) at (remove_met_lem (Ok (Found a i c v n)) e))
 
     -- a full page is the first of the plan
     pub remove_full : (p : Plan) → slots ≤ c → c ≤ 12 → i < c → p ≡ reached_back slots (rising h area a) h a i a n (pages_from in_use h area (cap - suc a) (suc a))
@@ -50,7 +45,7 @@ module _ (h : ℕ → ℕ) (area : List ℕ) (cap k : ℕ) (met : Met) (is : met
     remove_full p l m j q =
         ap (planned (drawn h area)) q
         ∙ remove_plan h area (rising h area a) cap a i n (read_good in_use h a (part_at area a) (held area a) found_counted.read).rising (omega (arith, found_counted.count)) (omega arith)
-        ∙ rw (le-ltb (length (held area a)) slots (omega (arith, found_counted.count))) at (remove_met_lem (Found a i c v n) e)
+        ∙ rw (le-ltb (length (held area a)) slots (omega (arith, found_counted.count))) at (remove_met_lem (Ok (Found a i c v n)) e)
 
     -- the page's bytes are well formed, and those of the pages after it that the plan changes
     pub found_formed : well_formed in_use a (part_at area a) ≡ true

@@ -16,7 +16,7 @@ use Rattle.placing.specs.Lay.{rank_of, rank_in, ranked, Sorted}
 use Rattle.placing.proofs.Lists.{all_get_d}
 use Rattle.placing.proofs.Order.{sorted_drop, lower}
 use Rattle.pages.specs.declared.Judged.{Judged}
-use Rattle.pages.specs.Page.{Record, key, value, vacant, judged}
+use Rattle.pages.specs.Page.{Record, key, value, vacant, judged_page}
 use Rattle.pages.specs.Places.{ahead}
 use Rattle.pages.proofs.Judging.{judged_count, judged_key, judged_home}
 use Rattle.walks.specs.Walks.{held_at}
@@ -47,10 +47,6 @@ module _ (h : ℕ → ℕ) (k : ℕ) where
     pub held : held_at k i (drop i rs) ≡ held_at k 0 rs
     pub place : i + ahead (rank_in key h) (rank_of h k) (drop i rs) ≡ ahead (rank_in key h) (rank_of h k) rs
 
-  -- at the first slot all are left
-  pub left_all : (rs : List Record) → ToScan rs 0
-  left_all rs = record { upto = omega arith; held = refl; place = omega arith }
-
   module _ {rs : List Record} {i : ℕ} (w : ToScan rs i) where
     -- the record of the slot
     abbrev x : Record
@@ -78,7 +74,7 @@ module _ (h : ℕ → ℕ) (k : ℕ) where
 
 -- a page that was judged, whose records rise
 pub record Rows (h : ℕ → ℕ) (rs : List Record) (j : Judged) : Type 0 where
-  pub is : j ≡ judged h (some rs)
+  pub is : j ≡ judged_page h rs
   pub small : All (λ x. key x < 2 ^ 64) rs
   pub rising : Sorted (rank_in key h) rs
 

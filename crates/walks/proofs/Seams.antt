@@ -2,7 +2,6 @@
 -- with no home worked out.
 use mathlib.Core.Path.{◌≡◌, refl, sym, ap, ◌∙◌}
 use mathlib.Core.Bool.{Bool, true, false, ◌&&◌, false≢true}
-use mathlib.Core.Option.{some}
 use mathlib.Core.List.{List, [], ◌∷◌, ◌++◌, map}
 use Prim.Native.Nat.{ℕ, zero, suc, ◌+◌, ◌-◌, ◌≤◌, ◌<◌}
 use native.Mathlib.Decide.{dec_lt}
@@ -11,11 +10,12 @@ use borrow.Author.Tests.{ltb-true, ltb-false, eqb-true, lt-ltb, le-leb, eq-eqb, 
 use lib.Dec.{ltb, eqb}
 use lib.ListN.{length, get_or, length-append, drop_of_length-le}
 use lib.Seq.{take_all}
+use Rattle.std.proofs.Common.{Option as Optional, Some, Ok, Err}
 use Rattle.layouts.specs.Layout.{in_use}
 use Rattle.placing.specs.Image.{All}
 use Rattle.placing.specs.Lay.{ranked, rank_in, Sorted}
 use Rattle.pages.specs.declared.Judged.{Judged}
-use Rattle.pages.specs.Page.{Record, key, vacant, home_for, rank, padded, judged}
+use Rattle.pages.specs.Page.{Record, key, vacant, home_for, rank, padded, judged_page}
 use Rattle.pages.specs.Places.{closed, ahead}
 use Rattle.pages.specs.Steps.Slots.{opened, backed}
 use Rattle.pages.specs.Area.{part_at}
@@ -24,8 +24,10 @@ use Rattle.pages.proofs.Rules.{rises_sorted}
 use Rattle.pages.proofs.Judging.{judged_count, judged_key, judged_home}
 use Rattle.pages.proofs.RoundTrip.{read_good}
 use Rattle.pages.proofs.Places.{all_at, ahead-le, ahead_test, ahead_every, back_every}
+use Rattle.state.specs.declared.Refusal.{Refusal}
 use Rattle.walks.specs.declared.Met.{Met}
 use Rattle.walks.specs.declared.Walk.{Walk}
+use Rattle.walks.specs.Walks.{Walks}
 use Rattle.walks.specs.Steps.Plans.{slots, held, first_of, last_of, last_home, ended, FullTo, seam, seams, rising}
 use Rattle.walks.proofs.Meeting.{Seen, page_read, page_is, page_counts, page_few, Counted}
 
@@ -39,7 +41,7 @@ twelve n l = go (ltb 11 n) refl
 
 module _ (h : ℕ → ℕ) (p : List Record) (up : Sorted (rank_in key h) p) (full : length p ≡ 12) (home k : ℕ) (lives : home ≡ h (key (last_of p))) (is : k ≡ key (last_of p)) where
   -- whether a seam rises is told by the last record before it and the next page as it was judged
-  seam_told : (q : List Record) (j : Judged) → j ≡ judged h (some q)
+  seam_told : (q : List Record) (j : Judged) → j ≡ judged_page h q
       → (ltb 0 j.count && ltb (ranked home k) (ranked (get_or j.homes 0 0) (get_or j.keys 0 0))) ≡ seam h p q
   seam_told [] j e = rw (judged_count h j [] e)
   seam_told (y ∷ q) j e =
@@ -85,18 +87,30 @@ rising_at h area f last a t l m =
     let g : a + 1 ≡ suc a = omega arith in
     rw (g, ← e) (seams_at h area f (last - f) (a - f) t (omega arith))
 
-module _ (h : ℕ → ℕ) (area : List ℕ) (w : Walk) (m : Met) (is : w ≡ ended h area m) where
-  -- a walk that was told with its last home met what it met
-  pub told_met : w.met ≡ m
-  told_met = ap (λ (v : Walk). v.met) is
+module _ (h : ℕ → ℕ) (area : List ℕ) where
+  -- a walk that was refused met why
+  pub told_refused : (why : Refusal) (m : Walks) → Err why ≡ ended h area m → m ≡ Err why
+  told_refused why (Ok m) is = absurd (cc is)
+  told_refused why (Err y) is = let e : why ≡ y = cc is in rw e
 
-  -- and where it ended on a full page, that is the home of the page's last record
-  pub told_full : (e : Met) → w.met ≡ e → (a c : ℕ) → last_home h area e ≡ get_or (padded (map (home_for h) (held area a))) 11 0 → Counted h area a c → slots ≤ c → c ≤ 12
-      → FullTo h area a w.last
-  told_full e q a c t k l u =
-      let n : length (held area a) ≡ 12 = omega (arith, k.count) in
-      let last : w.last ≡ last_home h area e = ap (λ (v : Walk). v.last) is ∙ ap (last_home h area) (sym told_met ∙ q) in
-      (k.read, n, last ∙ t ∙ row_at (home_for h) (held area a) _ 11 vacant (omega arith))
+  -- one that was told with its last home met what it met
+  told : (w : Walk) (m : Walks) → Ok w ≡ ended h area m → (m ≡ Ok w.met) × (w.last ≡ last_home h area w.met)
+  told w (Ok m) is =
+      let e : w ≡ record { met = m; last = last_home h area m } = cc is in
+      rw e (refl, refl)
+  told w (Err why) is = absurd (cc is)
+
+  module _ (w : Walk) (m : Walks) (is : Ok w ≡ ended h area m) where
+    pub told_met : m ≡ Ok w.met
+    told_met = (told w m is).0
+
+    -- and where it ended on a full page, that is the home of the page's last record
+    pub told_full : (e : Met) → w.met ≡ e → (a c : ℕ) → last_home h area e ≡ get_or (padded (map (home_for h) (held area a))) 11 0 → Counted h area a c → slots ≤ c → c ≤ 12
+        → FullTo h area a w.last
+    told_full e q a c t k l u =
+        let n : length (held area a) ≡ 12 = omega (arith, k.count) in
+        let last : w.last ≡ last_home h area e = (told w m is).1 ∙ ap (last_home h area) q in
+        (k.read, n, last ∙ t ∙ row_at (home_for h) (held area a) _ 11 vacant (omega arith))
 
 -- page a is full, and its last record has this home and this key; u tells of the seams from page f
 -- to it
@@ -106,12 +120,8 @@ pub record Edge (h : ℕ → ℕ) (area : List ℕ) (f a home k : ℕ) (u : Bool
   pub is : k ≡ key (last_of (held area a))
   pub told : u ≡ rising h area f a
 
--- so with the first page
-pub edge_first : (h : ℕ → ℕ) (area : List ℕ) (f home k : ℕ) → FullTo h area f home → k ≡ key (last_of (held area f)) → Edge h area f f home k true
-edge_first h area f home k w e = record { from = omega arith; full = w; is = e; told = rising_one h area f }
-
-module _ {h : ℕ → ℕ} {area : List ℕ} {f a home k : ℕ} {u : Bool} (w : Edge h area f a home k u) {cap b : ℕ} {j : Judged} (seen : Seen h area cap b j) (next : b ≡ suc a)
-    (g : j.good ≡ true) (t : Bool) (told : t ≡ (ltb 0 j.count && ltb (ranked home k) (ranked (get_or j.homes 0 0) (get_or j.keys 0 0)))) where
+module _ {h : ℕ → ℕ} {area : List ℕ} {f a home k : ℕ} {u : Bool} (w : Edge h area f a home k u) {cap b : ℕ} {o : Optional Judged} (seen : Seen h area cap b o) (next : b ≡ suc a)
+    {j : Judged} (g : o ≡ Some j) (t : Bool) (told : t ≡ (ltb 0 j.count && ltb (ranked home k) (ranked (get_or j.homes 0 0) (get_or j.keys 0 0)))) where
   -- the next page, judged good, tells of one seam more
   pub edge_told : (u && t) ≡ rising h area f b
   edge_told =

@@ -5,31 +5,28 @@
 pub mod put;
 pub mod remove;
 
-ghost use Rattle.std.specs.Prelude.{◌≡◌, ◌&&◌, ◌*◌, ◌≤◌, length, get_or, ltb};
+ghost use Rattle.std.specs.Prelude.{◌≡◌, ◌&&◌, ◌≤◌, ◌<◌, get_or, ltb};
 ghost use Rattle.layouts.specs.Layout.{in_use};
-ghost use Rattle.homes.specs.Homes.{Ready, home_in};
+ghost use Rattle.homes.specs.Homes.{home_in};
 ghost use Rattle.placing.specs.Lay.{ranked};
 ghost use Rattle.walks.specs.Walks.{walk};
-ghost use Rattle.walks.specs.Steps.Plans.{ended, MetIn};
+ghost use Rattle.walks.specs.Steps.Plans.{ended, WalkIn, EndIn};
 
 use homes::Shape;
-use layouts::{IN_USE, SLOTS};
-use pages::Judged;
-use state::Answer;
+use layouts::{InUse, Layout};
+use pages::view::Pages;
+use pages::{Judged, Rank};
+use state::Refusal;
 
-// What the walk to a key meets: the key, a broken page, the page that ends it with the key's place
-// there, or the end of the area.
-#[derive(Clone, Copy)]
+// What the walk to a key meets, where no page on its way is broken: the key, the page that ends it
+// with the key's place there, or the end of the area.
+#[derive(Clone, Copy, Debug, PartialEq, Eq)]
 pub enum Met {
     Found {
         page: usize,
         slot: usize,
         count: usize,
         value: u64,
-        read: u32,
-    },
-    Broken {
-        page: usize,
         read: u32,
     },
     Ends {
@@ -45,65 +42,67 @@ pub enum Met {
 
 // What the walk to a key met, with the home of the record in the last slot of the page where it
 // ended, or 0 where no record stands there.
-#[derive(Clone, Copy)]
+#[derive(Clone, Copy, Debug, PartialEq, Eq)]
 pub struct Walk {
     pub met: Met,
     pub last: u64,
 }
 
 // What a put or a remove is going to do: change the pages from the first to the last, at a slot of
-// the first, or not. The seams rise where each of these pages but the last is full of records that
-// stand before the first record of the next.
-#[derive(Clone, Copy)]
-pub enum Plan {
-    Go {
-        first: usize,
-        at: usize,
-        last: usize,
-        read: u32,
-        rises: bool,
-    },
-    Stop {
-        why: Answer,
-    },
+// the first, after so many were read. The seams rise where each of these pages but the last is full
+// of records that stand before the first record of the next.
+#[derive(Clone, Copy, Debug, PartialEq, Eq)]
+pub struct Change {
+    pub first: usize,
+    pub at: usize,
+    pub last: usize,
+    pub read: u32,
+    pub rises: bool,
 }
 
 // The walk to a key from its home, page by page and slot by slot, left from inside: at a slot that
 // is empty or stands after the sought (home, key), and at the key.
-pub fn meet_from(area: &[u8], cap: usize, shape: Shape, home: u64, key: u64) -> Walk
-    requires { (cap ≤ 4096) × (length area.now ≡ 256 * cap) × Ready shape × (shape.p ≤ cap) × (home ≡ home_in shape key) }
-    ensures value { result ≡ ended (home_in shape) area.now (walk in_use (home_in shape) area.now cap key) }
-    ensures within { MetIn cap result.met }
+pub fn meet_from(pages: Pages<'_>, shape: Shape, home: u64, key: u64) -> Result<Walk, Refusal>
+    requires { (home < pages.cap) × (home ≡ home_in shape key) }
+    ensures value { result ≡ ended (home_in shape) pages.entry.bytes.now (walk in_use (home_in shape) pages.entry.bytes.now pages.entry.cap key) }
+    ensures within { WalkIn pages.entry.cap result }
 {
+    let sought = Rank { home, key };
     let mut a = home as usize;
     let mut read: u32 = 0;
     'pages: loop {
-        if cap <= a {
+        if pages.cap <= a {
             let met = Met::AtEnd { read };
-            break 'pages Walk { met, last: 0 };
+            break 'pages Ok(Walk { met, last: 0 });
         }
-        let judged = pages::judge_at(area, a, IN_USE, shape);
         read += 1;
-        if !judged.good {
-            let met = Met::Broken { page: a, read };
-            break 'pages Walk { met, last: 0 };
-        }
+        let Some(judged) = pages.judge::<InUse>(a, shape) else {
+            break 'pages Err(Refusal::Broken {
+                page: a as u16,
+                read,
+            });
+        };
         let count = judged.count;
         let keys = judged.keys;
         let homes = judged.homes;
-        let last = homes[SLOTS - 1];
-        for slot in 0..SLOTS {
-            if (slot == count) | pages::before(home, key, homes[slot], keys[slot]) {
+        let last = homes[InUse::SLOTS - 1];
+        for slot in 0..InUse::SLOTS {
+            let here = Rank {
+                home: homes[slot],
+                key: keys[slot],
+            };
+            let is_past = (slot == count) | (sought < here);
+            if is_past {
                 let met = Met::Ends {
                     page: a,
                     at: slot,
                     count,
                     read,
                 };
-                break 'pages Walk { met, last };
+                break 'pages Ok(Walk { met, last });
             }
             if keys[slot] == key {
-                let held = slots::record_at(area, a, IN_USE, slot);
+                let held = slots::record_at::<InUse>(pages.bytes, a, slot);
                 let met = Met::Found {
                     page: a,
                     slot,
@@ -111,7 +110,7 @@ pub fn meet_from(area: &[u8], cap: usize, shape: Shape, home: u64, key: u64) -> 
                     value: held.value,
                     read,
                 };
-                break 'pages Walk { met, last };
+                break 'pages Ok(Walk { met, last });
             }
         }
         a += 1;
@@ -119,18 +118,23 @@ pub fn meet_from(area: &[u8], cap: usize, shape: Shape, home: u64, key: u64) -> 
 }
 
 // The walk to a key whose home isn't known yet.
-pub fn meet(area: &[u8], cap: usize, shape: Shape, key: u64) -> Met
-    requires { (cap ≤ 4096) × (length area.now ≡ 256 * cap) × Ready shape × (shape.p ≤ cap) }
-    ensures value { result ≡ walk in_use (home_in shape) area.now cap key }
-    ensures within { MetIn cap result }
+pub fn meet(pages: Pages<'_>, shape: Shape, key: u64) -> Result<Met, Refusal>
+    requires { shape.p ≤ pages.cap }
+    ensures value { result ≡ walk in_use (home_in shape) pages.entry.bytes.now pages.entry.cap key }
+    ensures within { EndIn pages.entry.cap result }
 {
     let home = shape.home(key);
-    meet_from(area, cap, shape, home, key).met
+    let walk = meet_from(pages, shape, home, key)?;
+    Ok(walk.met)
 }
 
 // Whether (home, key) stands before the first record of a page that was judged.
 fn joins(home: u64, key: u64, next: Judged) -> bool
     ensures { result ≡ (ltb 0 next.count && ltb (ranked home key) (ranked (get_or next.homes 0 0) (get_or next.keys 0 0))) }
 {
-    (0 < next.count) & pages::before(home, key, next.homes[0], next.keys[0])
+    let first = Rank {
+        home: next.homes[0],
+        key: next.keys[0],
+    };
+    (0 < next.count) & (Rank { home, key } < first)
 }

@@ -1,75 +1,28 @@
--- `changes::remove_open` meets its contract: the plan decides, then the number of records.
-use Prim.Native.Nat.{◌+◌, ◌*◌, ◌≤◌, ◌<◌}
-use lib.ListN.{length}
+-- `changes::remove_open` meets its contract: a state in range has its pages in the area, and so each
+-- page of a plan.
+use native.Mathlib.Omega.{arith}
 use Rattle.layouts.specs.Layout.{in_use}
-use Rattle.homes.specs.Homes.{home_in}
 use Rattle.state.proofs.Ranges.{ranged, in_shape}
-use Rattle.changes.proofs.Settling.{shape_fits, remove_stops, remove_none, remove_goes, writes_low, pages_formed, seams_told}
 use Rattle.changes.proofs.remove_open.Goals as goal
-use Rattle.changes.proofs.remove_open.Lts as lts
-use Rattle.changes.proofs.remove_open.Reads as reads
-use Rattle.changes.proofs.remove_open.Tie as tie
-
--- where the plan writes
-low : (c : lts.Past-After-known_told2 tie.the-claims reads.Pre reads.Post tie.handed_clauses)
-    → (c.in-Go.first ≤ c.in-Go.last) × (c.in-Go.last < 4096)
-    × (256 * (c.in-Go.last + 1) ≤ length c.args.area.now) × (c.in-Go.at < 12)
-low c =
-    let o = c.before in
-    let b = o.before.before.before.before in
-    writes_low b.args.state b.requires.0 _ c.in-Go.first c.in-Go.at c.in-Go.last c.in-Go.read c.in-Go.rises c.in-Go.is _ b.requires.1 o.plan_remove-plan.ensures.within.0
-
--- the plan that was gone by
-abbrev gone : lts.After-one_less tie.the-claims reads.Pre reads.Post tie.handed_clauses → lts.Past-After-known_told2 tie.the-claims reads.Pre reads.Post tie.handed_clauses
-gone c = c.before.before.before.before.before.before.before
 
 pub shape-shape-requires : goal.shape-shape-requires
 shape-shape-requires c = in_shape in_use _ c.requires.0
 
-pub plan_remove-plan-requires : goal.plan_remove-plan-requires
-plan_remove-plan-requires c =
-    let h = c.before in
-    let b = h.before.before in
-    ((ranged in_use b.args.state b.requires.0).cap_high, b.requires.1, h.shape-shape.ensures.ready, shape_fits b.args.state _ h.shape-shape.ensures.value b.requires.0)
+pub new-pages-requires : goal.new-pages-requires
+new-pages-requires c = ((ranged in_use c.args.state c.requires.0).cap_high, c.requires.1)
 
-pub returns-then-state-eq0 : goal.returns-then-state-eq0
-returns-then-state-eq0 c =
-    let k = c.before.before in
-    let o = k.before in
-    let h = o.before.before in
-    let a = h.args in
-    remove_none a.state _ h.shape-shape.ensures.value a.area.now a.key _ o.plan_remove-plan.ensures.result_value k.in-Go.first k.in-Go.at k.in-Go.last
-    k.in-Go.read k.in-Go.rises k.in-Go.is c.if-state-eq0.true
+pub plan_remove-requires : goal.plan_remove-requires
+plan_remove-requires c =
+    rw (c.shape-shape.ensures.value, c.new-pages.ensures.cap) (ranged in_use c.args.state c.requires.0).p_high
 
-pub draw_back-requires : goal.draw_back-requires
-draw_back-requires c =
-    let k = c.before.before.before in
-    let o = k in
-    let h = o.before.before.before in
-    let b = h.before.before in
-    let w = low k in
-    let formed = pages_formed b.args.state b.requires.0 _ k.in-Go.first k.in-Go.at k.in-Go.last k.in-Go.read k.in-Go.rises k.in-Go.is b.args.area.now o.plan_remove-plan.ensures.within.1 in
-    let told = seams_told b.args.state b.requires.0 _ k.in-Go.first k.in-Go.at k.in-Go.last k.in-Go.read k.in-Go.rises k.in-Go.is (home_in h.shape-shape.result) b.args.area.now o.plan_remove-plan.ensures.within.2 in
-    record { first_le_last = (w.0, w.1, w.2, h.shape-shape.ensures.ready, w.3); formed = (formed, told) }
+pub draw_back-requires-clause-first_le_last : goal.draw_back-requires-clause-first_le_last
+draw_back-requires-clause-first_le_last c =
+    let r = ranged in_use c.args.state c.requires.0 in
+    let w = c.in_ok-change.ensures.within.0 in
+    (w.0, omega (arith, w.1, r.cap_high), omega (arith, w.1, c.requires.1), w.2)
 
-pub wrote-requires : goal.wrote-requires
-wrote-requires c = let w = low (gone c.before) in (w.0, w.1)
-
-pub returns-in-Stop : goal.returns-in-Stop
-returns-in-Stop c =
-    let o = c.before in
-    let h = o.before.before in
-    let a = h.args in
-    remove_stops a.state _ h.shape-shape.ensures.value a.area.now a.key _ o.plan_remove-plan.ensures.result_value _ c.in-Stop.is
-
-pub returns-else-state-eq0 : goal.returns-else-state-eq0
-returns-else-state-eq0 d =
-    let c = d.before.before in
-    let p = c.before.before.before in
-    let l = p.before.before in
-    let k = gone c in
-    let o = k in
-    let h = o.before.before.before in
-    let a = h.args in
-    rw d.wrote.ensures (remove_goes a.state _ h.shape-shape.ensures.value a.area.now a.key _ o.plan_remove-plan.ensures.result_value k.in-Go.first k.in-Go.at k.in-Go.last
-    k.in-Go.read k.in-Go.rises k.in-Go.is l.if-state-eq0.false _ p.draw_back.ensures _ c.one_less-next.ensures)
+pub accepted-requires : goal.accepted-requires
+accepted-requires c =
+    let r = ranged in_use c.args.state c.requires.0 in
+    let w = c.in_ok-change.ensures.within.0 in
+    (w.0, omega (arith, w.1, r.cap_high))

@@ -2,6 +2,9 @@
 use Rattle.std.specs.Prelude.{ℕ, ◌≤◌, List}
 use Rattle.numbers.specs.Fields.{encode}
 use Rattle.records.specs.Records.{refused_by, reply_of}
+use Rattle.state.specs.declared.Done.{Done}
+use Rattle.state.specs.declared.Numbers.{Numbers}
+use Rattle.register.specs.Files.{Left, numbers_of}
 use Rattle.commands.specs.declared.Step.{Step}
 use Rattle.commands.specs.declared.Step.TheVariants.{Waits, Stops, Goes}
 use Rattle.commands.specs.declared.Ran.{Ran}
@@ -35,3 +38,7 @@ Takes n (Goes s k) = k ≤ n
 -- a log takes and gives no more bytes than there is place for
 abbrev pub RanIn : (input replies : ℕ) → Ran → Type 0
 RanIn n m r = (r.taken ≤ n) × (r.given ≤ m)
+
+-- what a call left, as the code tells it
+abbrev pub told_left : Left → Done Numbers
+told_left l = record { state = l.file.state; answer = numbers_of l.said }

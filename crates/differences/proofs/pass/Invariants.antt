@@ -1,7 +1,5 @@
--- `differences::pass` meets its contract. The loop's invariant: the pages below a are passed. The measure
--- is how many are left.
+-- `differences::pass` meets its contract: the pages below a are passed.
 use mathlib.Core.List.{[]}
-use Prim.Native.Nat.{◌-◌, ◌≤◌}
 use Rattle.layouts.specs.Layout.{in_use}
 use Rattle.placing.specs.Image.{cat}
 use Rattle.pages.specs.Area.{held_from}
@@ -11,7 +9,4 @@ use Rattle.differences.proofs.Passing.{tally_of}
 use Rattle.differences.proofs.pass.Given as goal
 
 abbrev pub invariant-loop-a : goal.invariant-loop-a
-invariant-loop-a l = (l.a ≤ l.cap) × Passes l.first (look l.site l.other) (cat (held_from in_use l.area l.a 0) []) l.initial.row l.at (tally_of l.absent l.unlike) l.row
-
-abbrev pub decreases-loop-a : goal.decreases-loop-a
-decreases-loop-a l = l.cap - l.a
+invariant-loop-a l = Passes l.which (look l.site l.other) (cat (held_from in_use l.area l.a 0) []) l.initial.row l.at (tally_of l.absent l.unlike) l.row

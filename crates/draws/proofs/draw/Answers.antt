@@ -35,17 +35,5 @@ once y = y / 4294967296 + y % 4294967296 / 2
 twice : (y P : ℕ) → y ≡ 2 * P → y ≤ 4294967294 * 2147483646 → 0 < P % 2147483647 → once y / 2147483648 + once y % 2147483648 ≡ P % 2147483647
 twice y P e l h = rest P (P / 2147483648 + once y / 2147483648) (once y / 2147483648 + once y % 2147483648) (omega arith) (omega arith) h
 
-pub overflow_mul-product : goal.overflow_mul-product
-overflow_mul-product c = omega (arith, bounded c.args.twice c.args.power c.requires)
-
-pub overflow_cast-sum : goal.overflow_cast-sum
-overflow_cast-sum c = omega (arith, bounded c.args.twice c.args.power c.requires)
-
-pub overflow_add-sum : goal.overflow_add-sum
-overflow_add-sum c = omega (arith, bounded c.args.twice c.args.power c.requires)
-
-pub overflow_add-result : goal.overflow_add-result
-overflow_add-result c = omega (arith, bounded c.args.twice c.args.power c.requires)
-
 pub returns : goal.returns
 returns c = twice _ _ (doubled c.args.twice c.args.power c.requires) (bounded c.args.twice c.args.power c.requires) c.requires.3

@@ -7,22 +7,17 @@ use Rattle.gates.proofs.Judging.{sick_below, gate_told}
 use Rattle.gates.proofs.image_gate.Goals as goal
 
 pub shape-shape-requires : goal.shape-shape-requires
-shape-shape-requires c = in_shape c.args.layout c.args.state c.requires.0
+shape-shape-requires g c = in_shape g.L.Layout.layout c.args.state c.requires.0
 
-pub survey-verdict-requires : goal.survey-verdict-requires
-survey-verdict-requires c =
-    let b = c.before.before.before.before.before in
-    ((ranged b.args.layout b.args.state b.requires.0).cap_high, b.requires.1, c.shape-shape.ensures.ready, tt)
+pub new-pages-requires : goal.new-pages-requires
+new-pages-requires g c = ((ranged g.L.Layout.layout c.args.state c.requires.0).cap_high, c.requires.1)
 
 pub image_of-requires : goal.image_of-requires
-image_of-requires c a e =
-    let h = c.before.before.before.before.before in
-    let b = h.before.before in
-    omega (arith, sick_below b.args.layout (home_in h.shape-shape.result) b.args.area.now b.args.state.cap _ a c.survey-verdict.ensures.value e, (ranged b.args.layout b.args.state b.requires.0).cap_high)
+image_of-requires g c a e =
+    let b = c.args in
+    omega (arith, sick_below g.L.Layout.layout (home_in c.shape-shape.result) b.area.now b.state.cap _ a (rw (c.new-pages.ensures.bytes, c.new-pages.ensures.cap) at c.survey-verdict.ensures.value) e, (ranged g.L.Layout.layout b.state c.requires.0).cap_high)
 
 pub returns : goal.returns
-returns c =
-    let v = c.before.before.before in
-    let h = v.before.before.before in
-    let b = h.before.before in
-    gate_told b.args.state _ b.args.layout b.args.area.now _ h.shape-shape.ensures.value v.survey-verdict.ensures.value _ c.image_of.ensures
+returns g c =
+    let b = c.args in
+    gate_told b.state _ g.L.Layout.layout b.area.now _ c.shape-shape.ensures.value (rw (c.new-pages.ensures.bytes, c.new-pages.ensures.cap) at c.survey-verdict.ensures.value) _ c.image_of.ensures

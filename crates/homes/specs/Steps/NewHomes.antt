@@ -1,9 +1,8 @@
 -- New homes for the keys of a file, and on which pages the old ones stay. A step between code and
 -- definition.
-use Rattle.std.specs.Prelude.{ℕ, ◌+◌, ◌≡◌, Bool, true, false, ◌↔◌, ◌⊎◌}
+use Rattle.std.specs.Prelude.{ℕ, ◌+◌, ◌≡◌, Bool, true, false, ◌↔◌, ◌⊎◌, Option, Some, None}
 use Rattle.homes.specs.declared.Shape.{Shape}
-use Rattle.homes.specs.declared.new_homes.Stays.{Stays}
-use Rattle.homes.specs.declared.new_homes.Stays.TheVariants.{Nowhere, Beside}
+use Rattle.homes.specs.declared.new_homes.Beside.{Beside}
 use Rattle.homes.specs.declared.new_homes.NewHomes.{NewHomes}
 use Rattle.homes.specs.Homes.{Ready, shape_of, home_in}
 use Rattle.homes.specs.Steps.Last.{Within, last_step, stays_at}
@@ -13,9 +12,9 @@ abbrev pub new_home : NewHomes → ℕ → ℕ
 new_home new = home_in new.shape
 
 -- what is asked of where they stay
-abbrev pub StaysWithin : Stays → Type 0
-StaysWithin Nowhere = Unit {0}
-StaysWithin (Beside last added) = Within last
+abbrev pub StaysWithin : Option Beside → Type 0
+StaysWithin None = Unit {0}
+StaysWithin (Some beside) = Within beside.last
 
 -- new homes whose numbers are in range
 pub record Usable (new : NewHomes) : Type 0 where
@@ -23,9 +22,9 @@ pub record Usable (new : NewHomes) : Type 0 where
   pub step : StaysWithin new.stays
 
 -- whether page a is known to keep its keys: all that had their home there have it there still
-abbrev pub kept_by : Shape → Stays → (a : ℕ) → Bool
-kept_by shape Nowhere a = false
-kept_by shape (Beside last added) a = stays_at shape.params.s last added a
+abbrev pub kept_by : Shape → Option Beside → (a : ℕ) → Bool
+kept_by shape None a = false
+kept_by shape (Some beside) a = stays_at shape.params.s beside.last beside.added a
 
 unfoldable pub keeps_at : NewHomes → (a : ℕ) → Bool
 keeps_at new a = kept_by new.shape new.stays a
@@ -36,9 +35,9 @@ Differ added p q = ((p ≡ added) × (q ≡ added + 1)) ⊎ ((p ≡ added + 1) �
 
 -- new homes after those of an old shape: where homes stay beside a page, that one of the two files
 -- is the other with that page more, and the step its last
-abbrev pub Follows : (old : Shape) → NewHomes → Stays → Type 0
-Follows old new Nowhere = Unit {0}
-Follows old new (Beside last added) = (new.shape.params ≡ old.params) × (last ≡ last_step (shape_of old.params (added + 1))) × Differ added old.p new.shape.p
+abbrev pub Follows : (old : Shape) → NewHomes → Option Beside → Type 0
+Follows old new None = Unit {0}
+Follows old new (Some beside) = (new.shape.params ≡ old.params) × (beside.last ≡ last_step (shape_of old.params (beside.added + 1))) × Differ beside.added old.p new.shape.p
 
 -- on a page that keeps its keys, a key has its new home exactly where it had its home there before
 abbrev pub Agrees : (before : ℕ → ℕ) → NewHomes → Type 0

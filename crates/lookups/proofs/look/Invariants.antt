@@ -6,7 +6,7 @@ use Rattle.lookups.proofs.Looking.{Come}
 use Rattle.lookups.proofs.look.Given as goal
 
 abbrev pub invariant-loop-a : goal.invariant-loop-a
-invariant-loop-a l = (l.home ≤ l.a) × Come l.layout l.area (home_in l.shape) l.cap l.sought l.a
+invariant-loop-a g l = (l.home ≤ l.a) × Come g.L.Layout.layout l.pages.bytes.now (home_in l.shape) l.pages.cap l.sought l.a
 
 abbrev pub decreases-loop-a : goal.decreases-loop-a
-decreases-loop-a l = l.cap - l.a
+decreases-loop-a g l = l.pages.cap - l.a

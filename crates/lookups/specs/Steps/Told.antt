@@ -1,13 +1,13 @@
--- What a search found, as the code tells it.
+-- What a search found, in the Option of the code.
+use Rattle.std.specs.Prelude.{None, Some}
+use Rattle.std.specs.Prelude as Std
 use Rattle.std.proofs.Math.Option.{Option, none, some}
 use Rattle.pages.specs.Page.{Record}
-use Rattle.lookups.specs.declared.Sought.{Sought}
-use Rattle.lookups.specs.declared.Sought.TheVariants.{Held, Absent}
 
-abbrev pub told : Option Record → Sought
-told none = Absent
-told (some x) = Held x
+abbrev pub told : Option Record → Std.Option Record
+told none = None
+told (some x) = Some x
 
-abbrev pub held_by : Sought → Option Record
-held_by Absent = none
-held_by (Held x) = some x
+abbrev pub held_by : Std.Option Record → Option Record
+held_by None = none
+held_by (Some x) = some x

@@ -6,7 +6,5 @@ use Rattle.pages.specs.Page.{head}
 use Rattle.pages.proofs.put_head.Goals as goal
 
 pub returns : goal.returns
-returns c =
-    let f = c.before.before.before.before.before.before.before.before.before.before.before.before.before in
-    let e = f.before.before.before.before.before.before.before.before.before.before.before.before.before.before in
-    cc (puts-written (head e.args.layout e.args.address e.args.count) e.args.part.now 0 (omega arith))
+returns g c =
+    cc (g.L.Layout.kind_is, puts-written (head g.L.Layout.layout c.args.address c.args.count) c.args.part.now 0 (omega arith))

@@ -1,36 +1,22 @@
 use mathlib.Core.Path.{◌∙◌}
 use native.Mathlib.Omega.{arith}
-use borrow.Author.Tests.{not-true, not-false}
 use Rattle.layouts.proofs.Lying.{slot_fits, width_low}
-use Rattle.pages.proofs.Read.{slots_start, slots_stop, slots_turn, slots_end}
+use Rattle.pages.proofs.Read.{slots_stop, slots_turn, slots_end}
 use Rattle.pages.proofs.slots_formed.Goals as goal
 
-pub loop-i-init : goal.loop-i-init
-loop-i-init c =
-    let a = c.args in
-    slots_start a.layout a.part.now a.count
-
 pub formed-requires : goal.formed-requires
-formed-requires c =
-    let a = c.args in
-    let l = c.loop-i in
-    let fits = slot_fits a.layout l.i (omega arith) in
-    (omega (arith, c.slot_at.ensures, fits, width_low a.layout), omega (arith, c.slot_at.ensures, fits))
+formed-requires g c =
+    let f = g.L.Layout.layout in
+    let fits = slot_fits f c.loop-i.i (omega (arith, g.L.Layout.slots_is)) in
+    (omega (arith, c.slot_at.ensures, fits, width_low f), omega (arith, c.slot_at.ensures, fits))
 
 pub returns-then-not-formed : goal.returns-then-not-formed
-returns-then-not-formed c =
-    let a = c.args in
-    let l = c.loop-i in
-    slots_stop a.layout a.part.now a.count l.i _ (omega arith) (rw c.slot_at.ensures at c.formed.ensures) (not-true _ c.if-not-formed.true-raw) ∙ l.invariant
+returns-then-not-formed g c =
+    slots_stop g.L.Layout.layout c.args.part.now c.args.count c.loop-i.i _ (omega (arith, g.L.Layout.slots_is)) (rw c.slot_at.ensures at c.formed.ensures) c.if-not-formed.true ∙ c.loop-i.invariant
 
 pub loop-i-preserved : goal.loop-i-preserved
-loop-i-preserved c =
-    let a = c.args in
-    let l = c.loop-i in
-    slots_turn a.layout a.part.now a.count l.i _ (omega arith) (rw c.slot_at.ensures at c.formed.ensures) (not-false _ c.if-not-formed.false-raw) ∙ l.invariant
+loop-i-preserved g c =
+    slots_turn g.L.Layout.layout c.args.part.now c.args.count c.loop-i.i _ (omega (arith, g.L.Layout.slots_is)) (rw c.slot_at.ensures at c.formed.ensures) c.if-not-formed.false ∙ c.loop-i.invariant
 
 pub returns : goal.returns
-returns c =
-    let a = c.args in
-    let l = c.loop-i in
-    slots_end a.layout a.part.now a.count l.i (omega arith) ∙ l.invariant
+returns g c = slots_end g.L.Layout.layout c.args.part.now c.args.count c.loop-i.i (omega (arith, g.L.Layout.slots_is)) ∙ c.loop-i.invariant

@@ -1,20 +1,17 @@
 -- `pages::store` meets its contract. The loop's invariant says what is left to do: the slots from i
--- on, written behind the others, make the page. The measure is how many slots are left.
+-- on, written behind the others, make the page.
 use mathlib.Core.Path.{◌≡◌}
-use mathlib.Core.List.{List}
 use Prim.Native.Nat.{◌-◌}
 use lib.ListN.{length, drop}
 use Rattle.numbers.specs.Little.{written}
 use Rattle.numbers.specs.Fields.{encode}
 use Rattle.layouts.specs.Layout.{slots_of, slot_at}
-use Rattle.pages.specs.Page.{Record, slots, page_bytes}
-use Rattle.pages.proofs.Held.{Held}
+use Rattle.pages.specs.Page.{slots, page_bytes}
+use Rattle.pages.specs.Steps.Slots.{records_of}
 use Rattle.pages.proofs.store.Given as goal
 
 abbrev pub invariant-loop-i : goal.invariant-loop-i
-invariant-loop-i l = (length l.part ≡ 256)
-    × ((rs : List Record) → Held l.count l.keys l.values l.runs rs
-    → written l.part (slot_at l.layout l.i) (encode (slots l.layout (slots_of l.layout - l.i) (drop l.i rs))) ≡ page_bytes l.layout l.address rs)
-
-abbrev pub decreases-loop-i : goal.decreases-loop-i
-decreases-loop-i l = l.slots - l.i
+invariant-loop-i g l =
+    let f = g.L.Layout.layout in
+    let rs = records_of l.page in
+    (length l.part ≡ 256) × (written l.part (slot_at f l.i) (encode (slots f (slots_of f - l.i) (drop l.i rs))) ≡ page_bytes f l.address rs)

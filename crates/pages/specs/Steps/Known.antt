@@ -5,6 +5,8 @@ use Rattle.layouts.specs.Layout.{Layout, slots_of}
 use Rattle.homes.specs.declared.new_homes.NewHomes.{NewHomes}
 use Rattle.homes.specs.Steps.NewHomes.{new_home, keeps_at}
 use Rattle.placing.specs.Image.{All}
+use Rattle.pages.specs.declared.known.AtHome.{AtHome}
+use Rattle.pages.specs.declared.known.AtHome.TheVariants.{All as AllKnown, AfterOne, Unknown}
 use Rattle.pages.specs.Page.{Record, key, records_in}
 use Rattle.pages.specs.Area.{part_at}
 
@@ -21,6 +23,12 @@ module _ (h : ℕ → ℕ) (a : ℕ) where
   -- which of the two are known
   abbrev pub Known : (all once : Bool) → List Record → Type 0
   Known all once rs = (all ≡ true → AllHere rs) × (once ≡ true → OnceHere rs)
+
+  -- and what the code has in place of the two
+  abbrev pub KnownAs : AtHome → List Record → Type 0
+  KnownAs AllKnown rs = AllHere rs
+  KnownAs AfterOne rs = OnceHere rs
+  KnownAs Unknown rs = Unit {0}
 
 -- whether there is a page before page a, and it says that it is full
 abbrev pub full_before : Layout → List ℕ → ℕ → Bool

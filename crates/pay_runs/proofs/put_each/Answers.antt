@@ -12,22 +12,17 @@ loop-i-init c = (goes_first (file_of _ _) _ _ _ refl (omega arith) (search rules
 
 pub put_one-after-requires : goal.put_one-after-requires
 put_one-after-requires c =
-    let j = c.before.before.before.before in
-    let t = j.before in
-    let w = t.loop-i.invariant in
-    let looked = ⊎_elim (λ v. looks_anew _ _ _ _ _ v.if-is_first.true _ v.look_ahead-ahead.ensures v.ahead-is) (λ v. looks_kept _ _ _ _ _ v.if-is_first.false v.ahead-is) j.if-is_first.branch-raw in
-    (home_here w.1 w.0.within j.if-is_first.ahead looked t.loop-i-test.true, (search rules, search rules))
+    let w = c.loop-i.invariant in
+    let looked = ⊎_elim (λ v. looks_anew _ _ _ _ _ v.if-is_first.true _ v.look_ahead-ahead.ensures v.ahead-is) (λ v. looks_kept _ _ _ _ _ v.if-is_first.false v.ahead-is) c.if-is_first.branch-raw in
+    (home_here w.1 w.0.within c.if-is_first.ahead looked c.loop-i-test.true, (search rules, search rules))
 
 pub loop-i-preserved : goal.loop-i-preserved
 loop-i-preserved c =
-    let o = c.before.before.before.before.before in
-    let j = o.before.before.before.before in
-    let t = j.before in
-    let w = t.loop-i.invariant in (
-      goes_on w.0 t.loop-i-test.true o.put_one-after.result _ _ o.put_one-after.ensures (search rules) (search rules),
+    let w = c.loop-i.invariant in (
+      goes_on w.0 c.loop-i-test.true c.put_one-after.result _ _ c.put_one-after.ensures (search rules) (search rules),
       (
-          let looked = ⊎_elim (λ v. looks_anew _ _ _ _ _ v.if-is_first.true _ v.look_ahead-ahead.ensures v.ahead-is) (λ v. looks_kept _ _ _ _ _ v.if-is_first.false v.ahead-is) j.if-is_first.branch-raw in
-          knows_on w.1 w.0.within j.if-is_first.ahead looked _ _ o.put_one-after.result o.put_one-after.ensures.0
+          let looked = ⊎_elim (λ v. looks_anew _ _ _ _ _ v.if-is_first.true _ v.look_ahead-ahead.ensures v.ahead-is) (λ v. looks_kept _ _ _ _ _ v.if-is_first.false v.ahead-is) c.if-is_first.branch-raw in
+          knows_on w.1 w.0.within c.if-is_first.ahead looked _ _ c.put_one-after.result c.put_one-after.ensures.0
           ),
     )
 

@@ -1,5 +1,4 @@
--- `rebuild::pack` meets its contract. The loop's invariant is `Above`: the pages from a on are
--- packed. The measure is how many pages are left.
+-- The pages from a on are packed.
 use Prim.Native.Nat.{◌*◌}
 use Rattle.homes.specs.Steps.NewHomes.{new_home}
 use Rattle.rebuild.proofs.Packing.{on_page, Above}
@@ -7,6 +6,3 @@ use Rattle.rebuild.proofs.pack.Given as goal
 
 abbrev pub invariant-loop-a : goal.invariant-loop-a
 invariant-loop-a l = Above (on_page l.initial.area) (new_home l.new) l.cap l.initial.area (256 * l.cap) l.a l.at l.area
-
-abbrev pub decreases-loop-a : goal.decreases-loop-a
-decreases-loop-a l = l.a

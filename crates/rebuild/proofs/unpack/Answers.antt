@@ -1,12 +1,8 @@
-use native.Mathlib.Omega.{arith}
 use Rattle.rebuild.proofs.Laying.{unpacking_start, unpacking_turn, storable, moved_fits, unpacked, unpacked_moved}
 use Rattle.rebuild.proofs.unpack.Goals as goal
 
 pub loop-a-init : goal.loop-a-init
 loop-a-init c = unpacking_start _ _ _ c.requires.cap_bound.1 c.requires.cap_bound.2 c.requires.cap_bound.3 c.requires.fact.0 c.requires.fact.1
-
-pub take_page-t-requires : goal.take_page-t-requires
-take_page-t-requires c = (c.loop-a.invariant.within, c.loop-a.invariant.whole, omega arith)
 
 pub store_at-requires : goal.store_at-requires
 store_at-requires c =

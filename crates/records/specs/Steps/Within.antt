@@ -1,18 +1,16 @@
 -- What the code knows of what it has read: steps between code and definition.
-use Rattle.std.specs.Prelude.{ℕ, ◌≤◌, ◌≡◌}
+use Rattle.std.specs.Prelude.{ℕ, ◌≤◌, ◌≡◌, Option, Some, None, Result, Ok, Err}
 use Rattle.records.specs.declared.Form.{Form}
-use Rattle.records.specs.declared.Form.TheVariants as form
-use Rattle.records.specs.declared.Item.{Item}
-use Rattle.records.specs.declared.Item.TheVariants.{Asks, Unknown, Cut}
+use Rattle.records.specs.declared.Asked.{Asked}
+use Rattle.records.specs.declared.Unread.{Unread}
 use Rattle.records.specs.Records.{length_of}
 
 -- a known kind comes with the length of its record
-abbrev pub Formed : Form → Type 0
-Formed form.Unknown = Unit {0}
-Formed (form.Known k n) = n ≡ length_of k
+abbrev pub Formed : Option Form → Type 0
+Formed None = Unit {0}
+Formed (Some f) = f.length ≡ length_of f.kind
 
 -- a command's record lies within the bytes that are there
-abbrev pub Lies : ℕ → Item → Type 0
-Lies n Unknown = Unit {0}
-Lies n Cut = Unit {0}
-Lies n (Asks c k) = k ≤ n
+abbrev pub Lies : ℕ → Result Asked Unread → Type 0
+Lies n (Err u) = Unit {0}
+Lies n (Ok a) = a.length ≤ n

@@ -1,5 +1,10 @@
--- `reefcushion::tell` meets its contract: the answer in numbers, handed back.
+-- `reefcushion::tell` meets its contract: the numbers of the answer are handed back.
+use mathlib.Core.Path.{ap, ◌∙◌}
+use Rattle.state.specs.declared.Done.{Done}
+use Rattle.state.specs.declared.Numbers.{Numbers}
+use Rattle.reefcushion.specs.Slip.{slip_about}
 use Rattle.reefcushion.proofs.tell.Goals as goal
 
-pub returns : goal.returns
-returns c = let all = let h = c.before.before in rw h.tell-told.ensures at h.hand_back.ensures in record { value = all.value; slip_after = all.slip_after; again = all.again }
+pub returns-clause-slip_after : goal.returns-clause-slip_after
+returns-clause-slip_after c =
+    c.hand_back.ensures.slip_after ∙ ap (λ (t : Done Numbers). slip_about t.state t.answer 0) c.tell.ensures

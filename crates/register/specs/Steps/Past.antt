@@ -1,8 +1,7 @@
 -- What the code knows past a gate: a step between code and definition.
-use Rattle.std.specs.Prelude.{ℕ, ◌-◌, ◌*◌, ◌≤◌, ◌≡◌, true, List, [], length, take}
+use Rattle.std.specs.Prelude.{ℕ, ◌-◌, ◌*◌, ◌≤◌, ◌≡◌, true, List, [], length, take, Ok, Err, Some}
 use Rattle.layouts.specs.Layout.{in_use}
 use Rattle.homes.specs.declared.new_homes.NewHomes.{NewHomes}
-use Rattle.homes.specs.declared.new_homes.Stays.TheVariants.{Beside}
 use Rattle.homes.specs.Homes.{shape_of}
 use Rattle.homes.specs.Steps.Last.{last_step}
 use Rattle.homes.specs.Steps.NewHomes.{Usable, Follows}
@@ -15,9 +14,7 @@ use Rattle.entries.specs.Steps.Entries.{size, row_bytes}
 use Rattle.leaving.specs.Steps.Leaving.{leavers}
 use Rattle.state.specs.declared.State.{State}
 use Rattle.state.specs.State.{in_range, homes, grown}
-use Rattle.gates.specs.declared.Gate.{Gate}
-use Rattle.gates.specs.declared.Gate.TheVariants.{Open, Shut}
-use Rattle.gates.specs.Gates.{on_gate, image_gate}
+use Rattle.gates.specs.Gates.{Gate, on_gate, image_gate}
 use Rattle.changes.specs.Changes.{Outcome, refused}
 use Rattle.register.specs.Calls.{Growth, with_row, grown_counts, grow_open, shrink_open}
 
@@ -28,7 +25,7 @@ Judgeable s m n = (in_range in_use s ≡ true) × (m ≡ 256 * s.cap) × (n ≡ 
 -- the homes in the file `next`, where `larger` is the one of two files with a page more
 abbrev pub besides : (next larger : State) → NewHomes
 besides next larger =
-    record { shape = shape_of next.params next.p; stays = Beside (last_step (shape_of larger.params larger.p)) (larger.p - 1); apart = larger.p - 1 }
+    record { shape = shape_of next.params next.p; stays = Some (record { last = last_step (shape_of larger.params larger.p); added = larger.p - 1 }); apart = larger.p - 1 }
 
 -- new homes for the records of a file
 pub record Rehomes (s : State) (new : NewHomes) : Type 0 where
@@ -38,8 +35,8 @@ pub record Rehomes (s : State) (new : NewHomes) : Type 0 where
 
 -- where the pages pass, their records are counted by the homes that they have
 abbrev pub CountedIf : Gate → State → List ℕ → (row : List ℕ) → Type 0
-CountedIf Open s area row = row ≡ counts (home_for (homes s)) (cat (held_from in_use area s.cap 0) []) s.cap 0
-CountedIf (Shut why) s area row = Unit {0}
+CountedIf (Ok u) s area row = row ≡ counts (home_for (homes s)) (cat (held_from in_use area s.cap 0) []) s.cap 0
+CountedIf (Err why) s area row = Unit {0}
 
 -- what a growth comes to that enters
 abbrev pub grew_entered : State → List ℕ → (row : List ℕ) → Growth

@@ -1,13 +1,9 @@
--- `sites::seek` meets its contract.
-use Rattle.sites.specs.Steps.Sites.{look}
+-- `sites::seek` meets its contract: a home lies on the pages, which are an image.
+use native.Mathlib.Omega.{arith}
+use Rattle.homes.proofs.Homes.{home_below}
 use Rattle.sites.proofs.seek.Goals as goal
 
 pub look-requires : goal.look-requires
 look-requires c =
-    let s = c.before.before in
-    let w = s.requires.0 in
-    (w.few, w.long, w.ready, w.grown, s.requires.1, w.image)
-
-pub returns : goal.returns
-unfolding look
-returns c = c.look.ensures
+    let w = c.requires.0 in
+    rw (c.new-pages.ensures.bytes, c.new-pages.ensures.cap, c.cap.ensures, c.shape.ensures) (omega (arith, c.requires.1, home_below c.args.site.shape.params c.args.site.shape.p c.args.key w.ready, w.grown), c.requires.1, w.image)

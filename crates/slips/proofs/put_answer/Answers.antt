@@ -20,12 +20,4 @@ stored n file l at h q₁ q₂ q₃ q₄ q₅ q₆ q₇ = rw (q₇, q₆, q₅, 
 
 pub returns : goal.returns
 returns c =
-    let p₇ = c.before.before.before in
-    let p₆ = p₇.before.before.before.before in
-    let p₅ = p₆.before.before.before.before in
-    let p₄ = p₅.before.before.before.before in
-    let p₃ = p₄.before.before.before.before in
-    let p₂ = p₃.before.before.before.before in
-    let p₁ = p₂.before.before.before.before in
-    let s = p₁.before.before.before in
-    stored s.args.told s.args.file s.args.bytes.now s.args.at s.requires p₁.put_u64.ensures p₂.put_u32.ensures p₃.put_u32-2.ensures p₄.put_u16.ensures p₅.put_u16-2.ensures p₆.put_u16-3.ensures p₇.put_u16-4.ensures
+    stored c.args.told c.args.file c.args.bytes.now c.args.at c.requires c.put.ensures c.put-2.ensures c.put-3.ensures c.put-4.ensures c.put-5.ensures c.put-6.ensures c.put-7.ensures

@@ -6,8 +6,4 @@ use Rattle.slips.specs.Slips.{reply_fields}
 use Rattle.slips.proofs.put_reply.Goals as goal
 
 pub returns : goal.returns
-returns c =
-    let f = c.before.before.before.before.before.before.before.before.before.before.before.before.before.before in
-    let e = f.before.before.before.before.before.before.before.before.before.before.before.before in
-    let a = e.args in
-    cc (simp add_assoc at (puts-written (reply_fields a.told) a.bytes.now a.at e.requires))
+returns c = cc (simp add_assoc at (puts-written (reply_fields c.args.told) c.args.bytes.now c.args.at c.requires))

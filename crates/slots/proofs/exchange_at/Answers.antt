@@ -13,12 +13,11 @@ use Rattle.slots.proofs.Moving.{page_exchanged}
 use Rattle.slots.proofs.exchange_at.Goals as goal
 
 pub returns : goal.returns
-returns c =
-    let s = c.before.before.before.before.before.before in
-    let a = s.args in
+returns g c =
+    let a = c.args in
     let l = part_at a.area.now a.a in
-    let rs = records_in a.layout l in
-    let is = formed_bytes a.layout a.a l s.requires.4 (part_length a.area.now a.a s.requires.1) (part_bytes a.area.now a.a (λ k h. omega (arith, c.slice_known-1.given k))) in
-    let full = length_held a.layout l ∙ s.requires.3 in
+    let rs = records_in g.L.Layout.layout l in
+    let is = formed_bytes g.L.Layout.layout a.a l c.requires.4 (part_length a.area.now a.a c.requires.1) (part_bytes a.area.now a.a (λ k h. omega (arith, c.slice_known-1.given k))) in
+    let full = length_held g.L.Layout.layout l ∙ c.requires.3 in
     let closed = rw (lent_part a.area.now a.a) at c.close_slot.ensures in
-    part_written a.layout a.area.now a.a _ _ (page_exchanged a.layout a.a l rs is a.at s.requires.2 (omega arith) full a.x _ closed)
+    part_written g.L.Layout.layout a.area.now a.a _ _ (page_exchanged g.L.Layout.layout a.a l rs is a.at c.requires.2 (omega arith) full a.x _ closed)

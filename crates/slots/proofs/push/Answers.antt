@@ -10,21 +10,18 @@ use Rattle.pages.proofs.Places.{ins-opened, ahead-le}
 use Rattle.slots.proofs.push.Goals as goal
 
 pub insert-requires : goal.insert-requires
-insert-requires c =
-    let s = c.before.before.before.before in
-    let f = s.args.layout in
-    let l = s.args.part.now in
-    let low = ahead-le (rank (home_in s.args.shape)) (ranked c.home.result s.args.x.key) (records_in f l) in
-    (s.requires.0, omega (arith, c.place_ahead-place.ensures, low, length_held f l))
+insert-requires g c =
+    let f = g.L.Layout.layout in
+    let l = c.args.part.now in
+    let low = ahead-le (rank (home_in c.args.shape)) (ranked c.home.result c.args.x.key) (records_in f l) in
+    (c.requires, omega (arith, c.place_ahead-place.ensures, low, length_held f l))
 
 pub returns : goal.returns
-returns c =
-    let p = c.before.before.before.before.before in
-    let s = p.before.before.before in
-    let h = home_in s.args.shape in
-    let x = s.args.x in
-    let rs = records_in s.args.layout s.args.part.now in
-    let place = rw p.home.ensures at p.place_ahead-place.ensures in
-    let is : opened p.place_ahead-place.result x rs ≡ ins (rank h) x rs = rw place (sym (ins-opened (rank h) x rs)) in
+returns g c =
+    let h = home_in c.args.shape in
+    let x = c.args.x in
+    let rs = records_in g.L.Layout.layout c.args.part.now in
+    let place = rw c.home.ensures.value at c.place_ahead-place.ensures in
+    let is : opened c.place_ahead-place.result x rs ≡ ins (rank h) x rs = rw place (sym (ins-opened (rank h) x rs)) in
     let e = c.insert.ensures in
     record { value = rw is at e.value; fact = λ a w. rw is at (e.fact a w) }

@@ -13,19 +13,14 @@ use Rattle.slots.proofs.Moving.{page_shut}
 use Rattle.slots.proofs.refill.Goals as goal
 
 pub insert-requires : goal.insert-requires
-insert-requires c =
-    let t = c.before.before.before.before.before in
-    let s = t.before.before.before in
-    let f = s.args.layout in
-    let rs = records_in f t.take_out.new.part in
-    let low = back_le (rank (home_in s.args.shape)) (ranked c.home.result s.args.x.key) vacant rs (length rs) in
-    (search rules, omega (arith, c.place_back-place.ensures, low, length_held f t.take_out.new.part))
+insert-requires g c =
+    let f = g.L.Layout.layout in
+    let rs = records_in f c.take_out.new.part in
+    let low = back_le (rank (home_in c.args.shape)) (ranked c.home.result c.args.x.key) vacant rs (length rs) in
+    (search rules, omega (arith, c.place_back-place.ensures, low, length_held f c.take_out.new.part))
 
 pub returns : goal.returns
-returns c a low w =
-    let b = c.before.before.before.before.before in
-    let t = b.before.before.before.before in
-    let s = t.before.before.before in
-    let shut = page_shut s.args.layout a s.args.part.now _ s.args.at low s.requires.0 (λ k h. omega (arith, t.slice_known-1.given k)) (t.take_out.ensures a w) in
-    let place = rw (b.home.ensures, shut.0) at b.place_back-place.ensures in
+returns g c a low w =
+    let shut = page_shut g.L.Layout.layout a c.args.part.now _ c.args.at low c.requires (λ k h. omega (arith, c.slice_known-1.given k)) (c.take_out.ensures a w) in
+    let place = rw (c.home.ensures.value, shut.0) at c.place_back-place.ensures in
     c.insert.ensures.fact a shut.1 ∙ rw (place, shut.0)

@@ -13,30 +13,24 @@ use Rattle.slots.proofs.Moving.{page_closed}
 use Rattle.slots.proofs.take_out.Goals as goal
 
 pub returns-then-count-at : goal.returns-then-count-at
-returns-then-count-at c a w =
-    let s = c.before.before.before in
-    let f = s.args.layout in
-    let l = s.args.part.now in
-    let past = closed_past s.args.at (records_in f l) (omega (arith, length_held f l, c.count_in-count.ensures)) in
-    formed_bytes f a l w s.requires (λ k h. omega (arith, c.slice_known-1.given k)) ∙ ap (page_bytes f a) (sym past)
+returns-then-count-at g c a w =
+    let f = g.L.Layout.layout in
+    let l = c.args.part.now in
+    let past = closed_past c.args.at (records_in f l) (omega (arith, length_held f l, c.count_in-count.ensures)) in
+    formed_bytes f a l w c.requires (λ k h. omega (arith, c.slice_known-1.given k)) ∙ ap (page_bytes f a) (sym past)
 
 pub overflow_cast-count : goal.overflow_cast-count
-overflow_cast-count c =
-    let n = c.before.before.before.before.before.before in
-    omega (arith, n.count_in-count.ensures, (slots_few n.args.layout).1)
+overflow_cast-count g c =
+    omega (arith, c.count_in-count.ensures, (slots_few g.L.Layout.layout).1)
 
 pub returns : goal.returns
-returns c a w =
-    let u = c.before.before.before in
-    let o = u.before.before.before.before in
-    let n = o.before.before.before in
-    let s = n.before.before in
-    let f = s.args.layout in
-    let l = s.args.part.now in
-    let at = s.args.at in
+returns g c a w =
+    let f = g.L.Layout.layout in
+    let l = c.args.part.now in
+    let at = c.args.at in
     let rs = records_in f l in
-    let held : at < length rs = omega (arith, length_held f l, n.count_in-count.ensures) in
+    let held : at < length rs = omega (arith, length_held f l, c.count_in-count.ensures) in
     let few = held_few f l in
-    u.put_u16.ensures
-    ∙ page_closed f a l rs (formed_bytes f a l w s.requires (λ k h. omega (arith, n.slice_known-1.given k))) at (omega arith) (omega arith) held few _ _ o.close_slot.ensures
-    (omega (arith, n.count_in-count.ensures, length_held f l, closed-length at rs held))
+    c.put.ensures
+    ∙ page_closed f a l rs (formed_bytes f a l w c.requires (λ k h. omega (arith, c.slice_known-1.given k))) at (omega arith) (omega arith) held few _ _ c.close_slot.ensures
+    (omega (arith, c.count_in-count.ensures, length_held f l, closed-length at rs held))

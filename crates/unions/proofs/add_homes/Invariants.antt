@@ -1,14 +1,11 @@
--- `unions::add_homes` meets its contract. The loop's invariant, of any homes that the row of homes has and any
--- other rows of the page: the first i records are counted. The measure is how many are left.
+-- `unions::add_homes` meets its contract: the first i records are counted.
 use mathlib.Core.Path.{◌≡◌}
-use mathlib.Core.List.{List}
-use Prim.Native.Nat.{ℕ, ◌-◌, ◌<◌}
-use lib.ListN.{get_or}
-use Rattle.unions.proofs.Tallying.{Added}
+use mathlib.Core.List.{map}
+use Rattle.homes.specs.Homes.{home_in}
+use Rattle.pages.specs.Page.{home_for}
+use Rattle.pages.specs.Steps.Slots.{paired}
+use Rattle.survey.specs.Steps.Looks.{tallied}
 use Rattle.unions.proofs.add_homes.Given as goal
 
 abbrev pub invariant-loop-i : goal.invariant-loop-i
-invariant-loop-i l = (h : ℕ → ℕ) (keys values runs : List ℕ) → ((j : ℕ) → j < l.count → get_or l.homes j 0 ≡ h (get_or keys j 0)) → Added h l.count keys values runs l.initial.row l.row l.i
-
-abbrev pub decreases-loop-i : goal.decreases-loop-i
-decreases-loop-i l = l.count - l.i
+invariant-loop-i l = l.row ≡ tallied (map (home_for (home_in l.fn.shape)) (paired l.i l.fn.page.keys l.fn.page.values l.fn.page.runs)) l.initial.row

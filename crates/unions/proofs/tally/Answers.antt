@@ -14,46 +14,36 @@ use Rattle.sites.specs.Steps.Sites.{on_pages}
 use Rattle.unions.specs.Steps.Both.{lacking_on}
 use Rattle.unions.proofs.Tallying.{both_counted}
 use Rattle.unions.proofs.tally.Goals as goal
-use Rattle.unions.proofs.tally.Lts as lts
-use Rattle.unions.proofs.tally.Reads as reads
-use Rattle.unions.proofs.tally.Tie as tie
-
--- the row that is lent
-long : (c : lts.Start tie.the-claims reads.Pre reads.Post tie.handed_clauses) → length c.args.row.now ≡ c.args.here.cap
-long c = ap length c.requires.2 ∙ length-replicate c.args.here.cap 0
-
-empty : (c : lts.Start tie.the-claims reads.Pre reads.Post tie.handed_clauses) (k : ℕ) → get_or c.args.row.now k 0 ≡ 0
-empty c k = rw c.requires.2 (zeros c.args.here.cap k)
 
 pub tally_lacking-clash-requires : goal.tally_lacking-clash-requires
 tally_lacking-clash-requires c =
-    let s = c.before.before.before.before.before in
-    (s.requires.0, s.requires.1, long s, λ k. omega (arith, empty s k))
+    let a = c.args in
+    let n : length a.row.now ≡ a.here.cap = ap length c.requires.2 ∙ length-replicate a.here.cap 0 in
+    let empty : (k : ℕ) → get_or a.row.now k 0 ≡ 0 = λ k. rw c.requires.2 (zeros a.here.cap k) in
+    (c.requires.0, c.requires.1, n, λ k. omega (arith, empty k))
 
 pub tally_all-requires : goal.tally_all-requires
 tally_all-requires c =
-    let t = c.before.before.before.before in
-    let s = t.before.before.before.before.before.before in
-    let a = s.args in
-    let w = s.requires.0 in
-    let v = s.requires.1 in
-    let n : length t.tally_lacking-clash.new.row ≡ a.here.cap = ap length t.tally_lacking-clash.ensures.row_after ∙ tally_length (map (home_for (home_in a.here.shape)) (lacking_on a.here a.area.now a.there a.other.now)) a.row.now ∙ long s in (
-      v,
+    let a = c.args in
+    let w = c.requires.0 in
+    let t = c.tally_lacking-clash in
+    let n : length t.new.row ≡ a.here.cap = ap length t.ensures.row_after ∙ tally_length (map (home_for (home_in a.here.shape)) (lacking_on a.here a.area.now a.there a.other.now)) a.row.now ∙ ap length c.requires.2 ∙ length-replicate a.here.cap 0 in
+    let empty : (k : ℕ) → get_or a.row.now k 0 ≡ 0 = λ k. rw c.requires.2 (zeros a.here.cap k) in
+    rw c.shape.ensures (
+      c.requires.1,
       w.ready,
       omega (arith, n, w.grown),
       omega (arith, n, w.few),
-      λ k. omega (arith, t.tally_lacking-clash.ensures.few k, empty s k),
+      λ k. omega (arith, t.ensures.few k, empty k),
     )
 
 pub returns : goal.returns
 returns c =
-    let u = c.before.before.before in
-    let t = u.before.before.before.before in
-    let s = t.before.before.before.before.before in
-    let a = s.args in
+    let a = c.args in
+    let t = c.tally_lacking-clash in
     let home = home_for (home_in a.here.shape) in record {
-      result_value = t.tally_lacking-clash.ensures.result_value;
-      row_after = u.tally_all.ensures
-          ∙ ap (tallied (map home (on_pages a.there a.other.now))) (t.tally_lacking-clash.ensures.row_after ∙ ap (tallied (map home (lacking_on a.here a.area.now a.there a.other.now))) s.requires.2)
+      result_value = t.ensures.result_value;
+      row_after = rw c.shape.ensures at c.tally_all.ensures
+          ∙ ap (tallied (map home (on_pages a.there a.other.now))) (t.ensures.row_after ∙ ap (tallied (map home (lacking_on a.here a.area.now a.there a.other.now))) c.requires.2)
           ∙ both_counted a.here a.area.now a.there a.other.now home a.here.cap;
     }

@@ -1,5 +1,5 @@
 -- `unions::tally_lacking` meets its contract. The loop's invariant: the pages below a are counted, and the lowest
--- clash there is known. The measure is how many are left.
+-- clash there is known.
 use Prim.Native.Nat.{◌-◌}
 use Rattle.homes.specs.Homes.{home_in}
 use Rattle.pages.specs.Page.{key, home_for}
@@ -10,7 +10,4 @@ use Rattle.unions.proofs.Tallying.{Counting, Weighing}
 use Rattle.unions.proofs.tally_lacking.Given as goal
 
 abbrev pub invariant-loop-a : goal.invariant-loop-a
-invariant-loop-a l = Counting (λ i. lacking key (look l.there l.other) (on_page l.area i)) (home_for (home_in l.here.shape)) l.here.cap l.initial.row l.row l.a × Weighing (look l.there l.other) l.area l.here.cap l.clash l.a
-
-abbrev pub decreases-loop-a : goal.decreases-loop-a
-decreases-loop-a l = l.here.cap - l.a
+invariant-loop-a l = Counting (λ i. lacking key (look l.there l.other) (on_page l.area i)) (home_for (home_in l.fn.here.shape)) l.fn.here.cap l.initial.row l.row l.a × Weighing (look l.there l.other) l.area l.fn.here.cap l.clash l.a

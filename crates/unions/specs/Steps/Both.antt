@@ -1,5 +1,5 @@
 -- The records of two areas together, as the code meets them.
-use Rattle.std.specs.Prelude.{ℕ, ◌≤◌, ◌<◌, ◌≡◌, List, ◌++◌, map, get_or}
+use Rattle.std.specs.Prelude.{ℕ, ◌≤◌, ◌<◌, ◌≡◌, List, ◌++◌, map, get_or, Option as Optional, None, Some}
 use Rattle.std.proofs.Math.Option.{Option, none, some}
 use Rattle.homes.specs.Homes.{home_in}
 use Rattle.pages.specs.declared.Page.{Page}
@@ -11,18 +11,16 @@ use Rattle.sites.specs.declared.Site.{Site}
 use Rattle.sites.specs.Held.{same}
 use Rattle.sites.specs.Steps.Sites.{pages_at, on_pages, look}
 use Rattle.two_sets.specs.Steps.Lowest.{lowest_in, lacking}
-use Rattle.unions.specs.declared.Clash.{Clash}
-use Rattle.unions.specs.declared.Clash.TheVariants.{Nowhere, At}
 use Rattle.unions.specs.declared.Sifted.{Sifted}
 
--- the key of a clash
-abbrev pub clash_by : Clash → Option ℕ
-clash_by Nowhere = none
-clash_by (At k) = some k
+-- the key of a clash, from the code's `Option`
+abbrev pub clash_by : Optional ℕ → Option ℕ
+clash_by None = none
+clash_by (Some k) = some k
 
 -- what is left of a page's records, by what another file holds at their keys; of any homes that were told of all
 -- of them, those of the rest are left
-pub record Sifts (look : ℕ → Option Record) (p : Page) (here : List ℕ) (low : Clash) (r : Sifted) : Type 0 where
+pub record Sifts (look : ℕ → Option Record) (p : Page) (here : List ℕ) (low : Optional ℕ) (r : Sifted) : Type 0 where
   pub few : r.page.count ≤ 12
   pub kept : records_of r.page ≡ lacking key look (records_of p)
   pub clash : clash_by r.clash ≡ lowest_in key same look (records_of p) (clash_by low)

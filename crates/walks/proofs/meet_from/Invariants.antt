@@ -11,13 +11,13 @@ use Rattle.walks.proofs.Meeting.{walk_left}
 use Rattle.walks.proofs.meet_from.Given as goal
 
 abbrev pub invariant-loop-slot : goal.invariant-loop-slot
-invariant-loop-slot l = ToScan (home_in l.shape) l.key (held l.area l.a) l.slot
+invariant-loop-slot l = ToScan (home_in l.shape) l.key (held l.pages.bytes.now l.a) l.slot
 
 abbrev pub invariant-pages : goal.invariant-pages
-invariant-pages l = (l.a ≤ l.cap) × (l.read ≤ l.a) × (walk_left (home_in l.shape) l.area l.cap l.key l.a l.read ≡ walk in_use (home_in l.shape) l.area l.cap l.key)
+invariant-pages l = (l.a ≤ l.pages.cap) × (l.read ≤ l.a) × (walk_left (home_in l.shape) l.pages.bytes.now l.pages.cap l.key l.a l.read ≡ walk in_use (home_in l.shape) l.pages.bytes.now l.pages.cap l.key)
 
 abbrev pub decreases-loop-slot : goal.decreases-loop-slot
 decreases-loop-slot l = slots - l.slot
 
 abbrev pub decreases-pages : goal.decreases-pages
-decreases-pages l = l.cap - l.a
+decreases-pages l = l.pages.cap - l.a

@@ -1,6 +1,6 @@
 -- How a put and a remove go in two phases: what the first settles, and what the second writes. That
 -- the two together are the walk is proved.
-use Rattle.std.specs.Prelude.{ℕ, zero, suc, ◌+◌, ◌-◌, ◌≤◌, ◌<◌, ◌≡◌, Bool, true, false, cond, ◌&&◌, List, [], ◌∷◌, map, length, take, get_or, leb, ltb, eqb}
+use Rattle.std.specs.Prelude.{ℕ, zero, suc, ◌+◌, ◌-◌, ◌≤◌, ◌<◌, ◌≡◌, Bool, true, false, cond, ◌&&◌, List, [], ◌∷◌, map, length, take, get_or, leb, ltb, eqb, Result, Ok, Err}
 use Rattle.std.proofs.Math.Option.{Option, none, some}
 use Rattle.layouts.specs.Layout.{in_use, slots_of}
 use Rattle.placing.specs.Lay.{rank_of, rank_in, ins}
@@ -8,14 +8,20 @@ use Rattle.pages.specs.Page.{Record, key, vacant, home_for, padded, records_in, 
 use Rattle.pages.specs.Places.{closed, ahead}
 use Rattle.pages.specs.Steps.Slots.{backed}
 use Rattle.pages.specs.Area.{part_at}
-use Rattle.state.specs.declared.Answer.TheVariants.{Broken, NoRoom}
+use Rattle.state.specs.declared.Refusal.{Refusal}
+use Rattle.state.specs.declared.Refusal.TheVariants.{Broken, NoRoom}
 use Rattle.walks.specs.declared.Met.{Met}
-use Rattle.walks.specs.declared.Met.TheVariants.{Found, Ends}
-use Rattle.walks.specs.declared.Met.TheVariants as mets
+use Rattle.walks.specs.declared.Met.TheVariants.{Found, Ends, AtEnd}
 use Rattle.walks.specs.declared.Walk.{Walk}
-use Rattle.walks.specs.declared.Plan.{Plan}
-use Rattle.walks.specs.declared.Plan.TheVariants.{Go, Stop}
-use Rattle.walks.specs.Walks.{Pages, Walked, went, stopped}
+use Rattle.walks.specs.declared.Change.{Change}
+use Rattle.walks.specs.Walks.{Walks, Pages, Walked, went, stopped}
+
+-- what a put or a remove is going to do, or why it does nothing
+abbrev pub Plan : Type 0
+Plan = Result Change Refusal
+
+abbrev pub change : (first at last read : ℕ) → (rises : Bool) → Change
+change first at last read rises = record { first = first; at = at; last = last; read = read; rises = rises }
 
 -- how many slots a page has in the files that the code walks
 abbrev pub slots : ℕ
@@ -37,13 +43,13 @@ module _ (h : ℕ → ℕ) (area : List ℕ) where
   -- the home of the record in the last slot of the page where a walk ended, or 0
   abbrev pub last_home : Met → ℕ
   last_home (Found a i c v n) = get_or (padded (map (home_for h) (held area a))) 11 0
-  last_home (mets.Broken a n) = 0
   last_home (Ends a i c n) = get_or (padded (map (home_for h) (held area a))) 11 0
-  last_home (mets.AtEnd n) = 0
+  last_home (AtEnd n) = 0
 
   -- a walk with that home
-  abbrev pub ended : Met → Walk
-  ended m = record { met = m; last = last_home m }
+  abbrev pub ended : Walks → Result Walk Refusal
+  ended (Ok m) = Ok (record { met = m; last = last_home m })
+  ended (Err why) = Err why
 
   -- page a is good and full, and the last of its records has this home
   abbrev pub FullTo : (a home : ℕ) → Type 0
@@ -80,40 +86,53 @@ module _ (h : ℕ → ℕ) (area : List ℕ) where
 module _ (b : ℕ) (told : ℕ → Bool) where
   -- the first phase of a put from page a on: the pages from the first to the one before it are full
   abbrev pub reached : (from at a n : ℕ) → List (Option (List Record)) → Plan
-  reached f at a n [] = Stop (NoRoom n)
-  reached f at a n (none ∷ ps) = Stop (Broken a (suc n))
-  reached f at a n (some p ∷ ps) = let on = reached f at (suc a) (suc n) ps in cond (ltb (length p) b) (Go f at a (suc n) (told a)) on
+  reached f at a n [] = Err (NoRoom n)
+  reached f at a n (none ∷ ps) = Err (Broken a (suc n))
+  reached f at a n (some p ∷ ps) = let on = reached f at (suc a) (suc n) ps in cond (ltb (length p) b) (Ok (change f at a (suc n) (told a))) on
 
   -- the first phase of a remove where page a was full and loses a record; h is the home of a key
   abbrev pub reached_back : (ℕ → ℕ) → (from at a n : ℕ) → List (Option (List Record)) → Plan
-  reached_back h f at a n [] = Go f at a n (told a)
-  reached_back h f at a n (none ∷ ps) = Stop (Broken (suc a) (suc n))
-  reached_back h f at a n (some [] ∷ ps) = Go f at a (suc n) (told a)
+  reached_back h f at a n [] = Ok (change f at a n (told a))
+  reached_back h f at a n (none ∷ ps) = Err (Broken (suc a) (suc n))
+  reached_back h f at a n (some [] ∷ ps) = Ok (change f at a (suc n) (told a))
   reached_back h f at a n (some (y ∷ q) ∷ ps) =
       let on = reached_back h f at (suc a) (suc n) ps in
-      cond (leb (h (key y)) a) (cond (ltb (suc (length q)) b) (Go f at (suc a) (suc n) (told (suc a))) on) (Go f at a (suc n) (told a))
+      cond (leb (h (key y)) a) (cond (ltb (suc (length q)) b) (Ok (change f at (suc a) (suc n) (told (suc a)))) on) (Ok (change f at a (suc n) (told a)))
 
 -- what a plan comes to: the pages that it writes, in each case with what was read and moved
 abbrev pub planned : ((n a slot : ℕ) → Pages) → Plan → Walked
-planned pages (Go f at last read up) = went (pages (last - f) f at) read (last - f)
-planned pages (Stop why) = stopped why
+planned pages (Ok c) = went (pages (c.last - c.first) c.first c.at) c.read (c.last - c.first)
+planned pages (Err why) = stopped why
+
+-- a broken page is one of those that were read
+abbrev pub BrokenIn : (cap : ℕ) → Refusal → Type 0
+BrokenIn cap why = (a n : ℕ) → why ≡ Broken a n → (a < cap) × (n ≤ cap)
 
 -- where a walk may end
 abbrev pub MetIn : (cap : ℕ) → Met → Type 0
 MetIn cap (Found a i c v n) = (a < cap) × (i < c) × (c ≤ 12) × (n ≤ suc a)
-MetIn cap (mets.Broken a n) = (a < cap) × (n ≤ cap)
 MetIn cap (Ends a i c n) = (a < cap) × (i < 12) × (c ≤ 12) × (1 ≤ n) × (n ≤ suc a)
-MetIn cap (mets.AtEnd n) = n ≤ cap
+MetIn cap (AtEnd n) = n ≤ cap
+
+-- where a walk ends
+abbrev pub WalkIn : (cap : ℕ) → Result Walk Refusal → Type 0
+WalkIn cap (Ok w) = MetIn cap w.met
+WalkIn cap (Err why) = BrokenIn cap why
+
+-- where the walk to a key ends
+abbrev pub EndIn : (cap : ℕ) → Walks → Type 0
+EndIn cap (Ok m) = MetIn cap m
+EndIn cap (Err why) = BrokenIn cap why
 
 -- where a plan of a put begins: the place of the key on the first page
 abbrev pub PlacedIn : (ℕ → ℕ) → List ℕ → ℕ → Plan → Type 0
-PlacedIn h area k (Go f at last read up) = at ≡ ahead (rank_in key h) (rank_of h k) (held area f)
-PlacedIn h area k (Stop why) = Unit {0}
+PlacedIn h area k (Ok c) = c.at ≡ ahead (rank_in key h) (rank_of h k) (held area c.first)
+PlacedIn h area k (Err why) = Unit {0}
 
 -- where a plan may write
 abbrev pub PlanIn : (cap : ℕ) → Plan → Type 0
-PlanIn cap (Go f at last read up) = (f ≤ last) × (last < cap) × (at < 12)
-PlanIn cap (Stop why) = Unit {0}
+PlanIn cap (Ok c) = (c.first ≤ c.last) × (c.last < cap) × (c.at < 12)
+PlanIn cap (Err why) = Unit {0}
 
 -- the bytes of these pages are well formed
 abbrev pub Formed : List ℕ → (first last : ℕ) → Type 0
@@ -121,10 +140,10 @@ Formed area first last = (a : ℕ) → first ≤ a → a ≤ last → well_forme
 
 -- so are those of the pages that a plan changes
 abbrev pub FormedIn : List ℕ → Plan → Type 0
-FormedIn area (Go f at last read up) = Formed area f last
-FormedIn area (Stop why) = Unit {0}
+FormedIn area (Ok c) = Formed area c.first c.last
+FormedIn area (Err why) = Unit {0}
 
 -- and a plan tells whether the seams between them rise
 abbrev pub RisesIn : (ℕ → ℕ) → List ℕ → Plan → Type 0
-RisesIn h area (Go f at last read up) = up ≡ rising h area f last
-RisesIn h area (Stop why) = Unit {0}
+RisesIn h area (Ok c) = c.rises ≡ rising h area c.first c.last
+RisesIn h area (Err why) = Unit {0}

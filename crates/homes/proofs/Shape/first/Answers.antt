@@ -9,6 +9,6 @@ use Rattle.homes.proofs.Shape.first.Goals as goal
 
 pub returns : goal.returns
 returns c =
-    let self = c.args.self in
-    let np_is : np self.params.n0 1 ≡ self.params.n0 = omega (arith, zero-mod self.params.n0) in
-    record { value = rw np_is; sound = (search rules, omega (arith, mul-le-mul_right self.params.n c.requires.n0_low), search rules) }
+    let own = c.self.inside.params in
+    let np_is : np own.n0 1 ≡ own.n0 = omega (arith, zero-mod own.n0) in
+    rw (← c.self.view_is) (record { value = rw np_is; sound = (search rules, omega (arith, mul-le-mul_right own.n c.self.invariant.n0_low), search rules) })

@@ -9,19 +9,17 @@ use Rattle.homes.proofs.Shape.last.Goals as goal
 
 pub loop-stage-init : goal.loop-stage-init
 loop-stage-init c =
-    let at = c.before.before in
-    seek_starts at.args.self.params _ _ at.requires.0 at.requires.1 c.first-stage.ensures.value c.first-stage.ensures.sound
+    let is = c.self.view_is in
+    seek_starts c.self.inside.params _ _ c.self.invariant (rw (← is) at c.requires) (rw (← is) at c.first-stage.ensures.value) (rw (← is) at c.first-stage.ensures.sound)
 
 pub next-stage-requires : goal.next-stage-requires
 next-stage-requires c =
-    let at = c.before.before in
-    let ranges = at.requires.0 in
-    (at.loop-stage.invariant.on.sound, ranges.n0_high, omega (arith, at.loop-stage.invariant.below, ranges.p_high))
+    let ranges = c.self.invariant in
+    (c.loop-stage.invariant.on.sound, ranges.n0_high, omega (arith, c.loop-stage.invariant.below, ranges.p_high))
 
 pub overflow_add-x : goal.overflow_add-x
 overflow_add-x c =
-    let at = c.before.before.before in
-    omega (arith, few at.loop-stage.invariant.on (omega (arith, at.loop-stage.invariant.below, at.requires.0.p_high)))
+    omega (arith, few c.loop-stage.invariant.on (omega (arith, c.loop-stage.invariant.below, c.self.invariant.p_high)))
 
 pub loop-stage-smaller : goal.loop-stage-smaller
 loop-stage-smaller c =
@@ -30,18 +28,17 @@ loop-stage-smaller c =
 
 pub loop-stage-preserved : goal.loop-stage-preserved
 loop-stage-preserved c =
-    let at = c.before.before.before in
-    let ranges = at.requires.0 in
-    seek_on _ _ _ _ _ _ at.loop-stage.invariant ranges.n0_low ranges.p_high c.loop-stage-test.true c.next-stage.ensures.after c.next-stage.ensures.sound
+    let ranges = c.self.invariant in
+    seek_on _ _ _ _ _ _ c.loop-stage.invariant ranges.n0_low ranges.p_high c.loop-stage-test.true c.next-stage.ensures.after c.next-stage.ensures.sound
 
 pub returns : goal.returns
 returns c =
-    let at = c.before.before in
-    let first = at.before in
-    let self = first.args.self in
-    let start = ap (λ (t : Stage). last_from self.params.n0 self.p (self.p - t.f) 1 t) first.first-stage.ensures.value in
-    let end = seek_ends _ _ _ _ _ at.loop-stage.invariant first.requires.0.p_high c.loop-stage-test.false in
-    record { value = end.0 ∙ start; sound = end.1 }
+    let is = c.self.view_is in
+    let own = c.self.inside in
+    let start = ap (λ (t : Stage). last_from own.params.n0 own.p (own.p - t.f) 1 t) (rw (← is) at c.first-stage.ensures.value) in
+    let end = seek_ends _ _ _ _ _ c.loop-stage.invariant c.self.invariant.p_high c.loop-stage-test.false in
+    let sound = end.1.sound in
+    rw (← is) (record { value = end.0 ∙ start; sound = end.1; within = (sound.0, sound.1, omega (arith, end.1.below, c.self.invariant.p_high)) })
 
 pub overflow_add-stage : goal.overflow_add-stage
 overflow_add-stage c = omega (arith, c.loop-stage.invariant.on.sound, c.loop-stage.invariant.on.small)

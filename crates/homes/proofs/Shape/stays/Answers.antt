@@ -4,4 +4,4 @@ use Rattle.homes.proofs.Shape.stays.Goals as goal
 
 pub returns : goal.returns
 unfolding stays_at
-returns c = rw c.new_page-new.ensures
+returns c = rw (← c.self.view_is, c.new_page-new.ensures)

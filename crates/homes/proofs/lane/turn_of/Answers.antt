@@ -7,7 +7,6 @@ use native.Mathlib.Omega.{arith}
 use mir.Val.{bool_byte}
 use lib.Dec.{leb}
 use borrow.Author.Tests.{leb-true, leb-false}
-use Rattle.homes.proofs.Bits.{bit}
 use Rattle.homes.proofs.Quotients.{parts}
 use Rattle.homes.proofs.lane.turn_of.Goals as goal
 
@@ -29,12 +28,5 @@ module _ (a g : ℕ) where
       go false false true e f k = absurd (omega (arith, leb-false g a e, leb-true (3 * g) a k))
       go true false true e f k = absurd (omega (arith, leb-false (2 * g) a f, leb-true (3 * g) a k))
 
-pub overflow_add-result : goal.overflow_add-result
-overflow_add-result c = omega (arith, bit (leb c.args.g c.args.page), bit (leb (2 * c.args.g) c.args.page))
-
-pub overflow_add-result-2 : goal.overflow_add-result-2
-overflow_add-result-2 c =
-    omega (arith, bit (leb c.args.g c.args.page), bit (leb (2 * c.args.g) c.args.page), bit (leb (3 * c.args.g) c.args.page))
-
 pub returns : goal.returns
-returns c = counted c.args.page c.args.g c.requires.0 c.requires.2
+returns c = rw (c.from.ensures, c.from-2.ensures, c.from-3.ensures) (counted c.args.page c.args.g c.requires.0 c.requires.2)

@@ -4,7 +4,6 @@ use mathlib.Core.Logic.{⊎_elim}
 use Prim.Native.Nat.{ℕ, ◌+◌, ◌%◌, ◌≤◌, ◌<◌}
 use native.Mathlib.Nat.{mod-lt}
 use native.Mathlib.Omega.{arith}
-use borrow.Author.Rules.{rules}
 use lib.ListN.{get_or, set, replicate, get_or-replicate}
 use lib.Seq.{get_or-set_other}
 use Rattle.draws.proofs.Split.{split}
@@ -30,7 +29,7 @@ all_fit m keys row i low top r each j h =
     (split j 12)
 
 pub loop-i-init : goal.loop-i-init
-loop-i-init c = (none _ _ refl, none _ _ refl, rest, search rules)
+loop-i-init c = (none _ _ refl, none _ _ refl, rest)
 
 pub page-requires : goal.page-requires
 page-requires c =
@@ -49,11 +48,11 @@ loop-i-preserved c =
     let inv = at.loop-i.invariant in
     let h = seed.loop-i-test.true in
     let page = c.page.ensures.value ∙ ap (λ (n : ℕ). get_or at.args.keys at.loop-i.i 0 % n) (start_by _ _ at.new-start.ensures) in
-    (one _ _ _ _ inv.0 h seed.twice_seed.ensures, one _ _ _ _ inv.1 (omega arith) page, rest_on _ _ _ inv.2, search rules)
+    (one _ _ _ _ inv.0 h seed.twice_seed.ensures, one _ _ _ _ inv.1 (omega arith) page, rest_on _ _ _ inv.2)
 
 pub returns : goal.returns
 returns c =
     let start = c.before.before.before in
     let inv = c.loop-i.invariant in
     let end = c.loop-i-test.false in
-    record { by_index = λ i h. (over inv.0 end i h, over inv.1 end i h); fit = all_fit _ start.args.keys _ _ start.requires.0 inv.3 inv.2 (over inv.1 end) }
+    record { by_index = λ i h. (over inv.0 end i h, over inv.1 end i h); fit = all_fit _ start.args.keys _ _ start.requires.0 (omega arith) inv.2 (over inv.1 end) }

@@ -1,9 +1,8 @@
 -- `homes::lanes::begin` meets its contract. The loop's invariant: in each row the places below i
 -- are as they start, and the others 0.
--- The measure is what is left of the twelve.
 use mathlib.Core.Path.{◌≡◌}
 use mathlib.Core.List.{List}
-use Prim.Native.Nat.{ℕ, ◌-◌, ◌*◌, ◌%◌, ◌≤◌, ◌<◌}
+use Prim.Native.Nat.{ℕ, ◌*◌, ◌%◌, ◌≤◌, ◌<◌}
 use lib.ListN.{get_or}
 use Rattle.draws.specs.Draws.{seed_of}
 use Rattle.homes.proofs.Rowed.{Passed}
@@ -17,7 +16,3 @@ abbrev pub invariant-loop-i : goal.invariant-loop-i
 invariant-loop-i l = Passed 12 (λ j. 2 * seed_of (get_or l.keys j 0)) l.seeds l.i
     × Passed 16 (λ j. get_or l.keys j 0 % l.m) l.pages l.i
     × Rest l.pages l.i
-    × (l.i ≤ 12)
-
-abbrev pub decreases-loop-i : goal.decreases-loop-i
-decreases-loop-i l = 12 - l.i

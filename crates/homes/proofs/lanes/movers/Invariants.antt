@@ -1,8 +1,7 @@
 -- `homes::lanes::movers` meets its contract. The loop's invariant: the places below i are 1 for the
 -- movers.
--- The measure is what is left of the twelve.
 use mathlib.Core.Bool.{cond}
-use Prim.Native.Nat.{ℕ, ◌-◌, ◌*◌, ◌/◌, ◌%◌, ◌≤◌}
+use Prim.Native.Nat.{ℕ, ◌*◌, ◌/◌, ◌%◌}
 use lib.Dec.{leb}
 use lib.ListN.{get_or}
 use Rattle.homes.proofs.Rowed.{Passed}
@@ -13,7 +12,4 @@ abbrev pub moves_at : (power limit twice : ℕ) → ℕ
 moves_at p l d = cond (leb (p * (d / 2) % 2147483647) l) 1 0
 
 abbrev pub invariant-loop-i : goal.invariant-loop-i
-invariant-loop-i l = Passed 16 (λ j. moves_at l.power l.limit (get_or l.seeds j 0)) l.moves l.i × (l.i ≤ 12)
-
-abbrev pub decreases-loop-i : goal.decreases-loop-i
-decreases-loop-i l = 12 - l.i
+invariant-loop-i l = Passed 16 (λ j. moves_at l.power l.limit (get_or l.seeds j 0)) l.moves l.i

@@ -1,6 +1,5 @@
 use mathlib.Core.Path.{◌≡◌, refl, ap}
 use Prim.Native.Nat.{ℕ, ◌*◌, ◌≤◌, ◌<◌}
-use borrow.Author.Rules.{rules}
 use Rattle.homes.specs.declared.lane.Lane.{Lane}
 use Rattle.homes.specs.Steps.Lanes.{lane_at, address_of, InGroup}
 use Rattle.homes.proofs.Addresses.{at_fits, at_address}
@@ -12,7 +11,7 @@ placed : (G a : ℕ) (l : Lane) → 1 ≤ G → a < 4 * G → l ≡ lane_at G a 
 placed G a l h k e = rw e (at_fits G a h k, at_address G a)
 
 pub loop-i-init : goal.loop-i-init
-loop-i-init c = (none _ _ refl, none _ _ refl, search rules)
+loop-i-init c = (none _ _ refl, none _ _ refl)
 
 pub new-lane-requires : goal.new-lane-requires
 new-lane-requires c =
@@ -24,7 +23,7 @@ loop-i-preserved c =
     let inv = c.loop-i.invariant in
     let h = c.loop-i-test.true in
     let e = c.new-lane.ensures in
-    (one _ _ _ _ inv.0 h (ap (λ (l : Lane). l.turn) e), one _ _ _ _ inv.1 h (ap (λ (l : Lane). l.group) e), search rules)
+    (one _ _ _ _ inv.0 h (ap (λ (l : Lane). l.turn) e), one _ _ _ _ inv.1 h (ap (λ (l : Lane). l.group) e))
 
 pub returns : goal.returns
 returns c i h =

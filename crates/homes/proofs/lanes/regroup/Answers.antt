@@ -1,6 +1,5 @@
 use mathlib.Core.Path.{◌≡◌, refl, sym, ap, ◌∙◌}
 use Prim.Native.Nat.{ℕ, ◌*◌}
-use borrow.Author.Rules.{rules}
 use Rattle.homes.specs.declared.lane.Lane.{Lane}
 use Rattle.homes.specs.Steps.Lanes.{address_of, InGroup, regrouped}
 use Rattle.homes.proofs.Addresses.{regroup_fits, regroup_address}
@@ -12,7 +11,7 @@ placed : (G a : ℕ) (l r : Lane) → InGroup G l × (a ≡ address_of G l) → 
 placed G a l r h e = rw e (regroup_fits G l h.0, h.1 ∙ sym (regroup_address G l))
 
 pub loop-i-init : goal.loop-i-init
-loop-i-init c = (none _ _ refl, none _ _ refl, search rules)
+loop-i-init c = (none _ _ refl, none _ _ refl)
 
 pub regroup-new-requires : goal.regroup-new-requires
 regroup-new-requires c =
@@ -24,7 +23,7 @@ loop-i-preserved c =
     let inv = c.loop-i.invariant in
     let h = c.loop-i-test.true in
     let e = c.regroup-new.ensures in
-    (one _ _ _ _ inv.0 h (ap (λ (l : Lane). l.turn) e), one _ _ _ _ inv.1 h (ap (λ (l : Lane). l.group) e), search rules)
+    (one _ _ _ _ inv.0 h (ap (λ (l : Lane). l.turn) e), one _ _ _ _ inv.1 h (ap (λ (l : Lane). l.group) e))
 
 pub returns : goal.returns
 returns c i h =

@@ -1,7 +1,6 @@
 -- `homes::lanes::regroup` meets its contract. The loop's invariant: in both rows that change, the
 -- places below i are regrouped.
--- The measure is what is left of the sixteen.
-use Prim.Native.Nat.{◌+◌, ◌-◌, ◌*◌, ◌/◌, ◌%◌, ◌≤◌}
+use Prim.Native.Nat.{◌+◌, ◌*◌, ◌/◌, ◌%◌}
 use lib.ListN.{get_or}
 use Rattle.homes.proofs.Rowed.{Passed}
 use Rattle.homes.proofs.lanes.regroup.Given as goal
@@ -9,7 +8,3 @@ use Rattle.homes.proofs.lanes.regroup.Given as goal
 abbrev pub invariant-loop-i : goal.invariant-loop-i
 invariant-loop-i l = Passed 16 (λ j. get_or l.old_turns j 0 / 2) l.turns l.i
     × Passed 16 (λ j. get_or l.old_turns j 0 % 2 * l.g + get_or l.old_groups j 0) l.groups l.i
-    × (l.i ≤ 16)
-
-abbrev pub decreases-loop-i : goal.decreases-loop-i
-decreases-loop-i l = 16 - l.i

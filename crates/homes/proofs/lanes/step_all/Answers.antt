@@ -2,7 +2,6 @@ use mathlib.Core.Path.{◌≡◌, refl, ◌∙◌}
 use mathlib.Core.Bool.{Bool, true, false, cond}
 use Prim.Native.Nat.{ℕ, ◌+◌, ◌-◌, ◌*◌, ◌<◌}
 use native.Mathlib.Omega.{arith}
-use borrow.Author.Rules.{rules}
 use lib.Dec.{eqb}
 use lib.ListN.{get_or}
 use Rattle.homes.specs.declared.lane.Lane.{Lane}
@@ -55,7 +54,7 @@ made c =
     (is.0, is.1, page_fits _ _ _ (omega (arith, start.requires.le_s.3)) (omega (arith, is.0, fits.0)) (omega (arith, is.1, fits.1)))
 
 pub loop-i-init : goal.loop-i-init
-loop-i-init c = (none _ _ refl, none _ _ refl, none _ _ refl, search rules)
+loop-i-init c = (none _ _ refl, none _ _ refl, none _ _ refl)
 
 pub target-to-requires : goal.target-to-requires
 target-to-requires c =
@@ -75,7 +74,7 @@ loop-i-preserved c =
     let at = pages.before.before.before.before.before in
     let inv = at.loop-i.invariant in
     let h = pages.loop-i-test.true in
-    (one _ _ _ _ inv.0 h new.0, one _ _ _ _ inv.1 h new.1, one _ _ _ _ inv.2 h (page_is _ _ _ _ new.0 new.1), search rules)
+    (one _ _ _ _ inv.0 h new.0, one _ _ _ _ inv.1 h new.1, one _ _ _ _ inv.2 h (page_is _ _ _ _ new.0 new.1))
 
 pub returns : goal.returns
 returns c =

@@ -1,7 +1,6 @@
 -- `homes::lanes::step_all` meets its contract. The loop's invariant: in the rows that it fills, the
 -- places below i are those after the step.
--- The measure is what is left of the sixteen.
-use Prim.Native.Nat.{ℕ, ◌-◌, ◌≤◌}
+use Prim.Native.Nat.{ℕ}
 use lib.ListN.{get_or}
 use Rattle.homes.specs.declared.lane.Lane.{Lane}
 use Rattle.homes.specs.Steps.Lanes.{address_of, gone_to}
@@ -16,7 +15,3 @@ abbrev pub invariant-loop-i : goal.invariant-loop-i
 invariant-loop-i l = Passed 16 (λ j. (after l.sweeps.s l.g l.np (get_or l.moves j 0) (get_or l.old_turns j 0) (get_or l.old_groups j 0)).turn) l.turns l.i
     × Passed 16 (λ j. (after l.sweeps.s l.g l.np (get_or l.moves j 0) (get_or l.old_turns j 0) (get_or l.old_groups j 0)).group) l.groups l.i
     × Passed 16 (λ j. address_of l.g (after l.sweeps.s l.g l.np (get_or l.moves j 0) (get_or l.old_turns j 0) (get_or l.old_groups j 0))) l.pages l.i
-    × (l.i ≤ 16)
-
-abbrev pub decreases-loop-i : goal.decreases-loop-i
-decreases-loop-i l = 16 - l.i

@@ -9,11 +9,10 @@ use Rattle.walks.specs.Steps.Plans.{held}
 use Rattle.walks.proofs.put.hand_on.Goals as goal
 
 pub returns-then-front : goal.returns-then-front
-returns-then-front c = let all = let i = c.before.before.before in
-    let t = i.before.before in
-    let s = t.before.before in
-    let h = home_in s.args.shape in
-    let rs = held s.args.area.now s.args.a in
-    let z = s.requires.a_value t.if-front.true in
-    let is : opened 0 s.args.x rs ≡ ins (rank h) s.args.x rs = sym (ins-opened (rank h) s.args.x rs ∙ rw z) in
-    rw is at i.insert_at.ensures in record { value = all.value; area_after = all.area_after }
+returns-then-front c =
+    let s = c.args in
+    let h = home_in s.shape in
+    let rs = held s.area.now s.a in
+    let z = c.requires.a_value c.if-front.true in
+    let is : opened 0 s.x rs ≡ ins (rank h) s.x rs = sym (ins-opened (rank h) s.x rs ∙ rw z) in
+    rw is at c.insert_at.ensures

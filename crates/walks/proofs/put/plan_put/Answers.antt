@@ -2,103 +2,69 @@
 -- page that is full on the first page with room.
 use mathlib.Core.Path.{◌≡◌, refl, ap, subst, ◌∙◌}
 use native.Mathlib.Omega.{arith}
-use Rattle.layouts.specs.Layout.{in_use}
+use Rattle.std.proofs.Common.{rules, Ok, Err}
 use Rattle.homes.specs.Homes.{home_in}
-use Rattle.walks.specs.declared.Met.TheVariants.{Ends}
-use Rattle.walks.specs.declared.Met.TheVariants as mets
-use Rattle.walks.specs.Walks.{stopped, walk}
+use Rattle.walks.specs.Walks.{stopped}
 use Rattle.walks.specs.Steps.Plans.{MetIn}
-use Rattle.walks.proofs.PutPlan.{put_found, put_sick, put_past, put_at, put_here, put_on, put_placed, put_formed, put_reached, put_rises}
-use Rattle.walks.proofs.Seams.{told_met, told_full, rising_one}
+use Rattle.walks.proofs.PutPlan.{put_found, put_refused, put_past, put_at, put_here, put_on, put_placed, put_formed, put_reached, put_rises}
+use Rattle.walks.proofs.Seams.{told_refused, told_met, told_full, rising_one}
 use Rattle.walks.proofs.Formed.{one_page}
 use Rattle.walks.proofs.put.plan_put.Goals as goal
-use Rattle.walks.proofs.put.plan_put.Lts as lts
-use Rattle.walks.proofs.put.plan_put.Reads as reads
-use Rattle.walks.proofs.put.plan_put.Tie as tie
 
--- what the walk met
-met : (c : lts.After-meet_from tie.the-claims reads.Pre reads.Post tie.handed_clauses)
-    → c.meet_from-walk.result.met ≡ walk in_use (home_in c.args.shape) c.args.area.now c.args.cap c.args.new.key
-met c = told_met (home_in c.args.shape) c.args.area.now _ _ c.meet_from-walk.ensures.value
+pub returns-in_err-walk-clause-result_value : goal.returns-in_err-walk-clause-result_value
+returns-in_err-walk-clause-result_value c =
+    let is : c.from_residual.result ≡ Err c.in_err-walk.field-0.0 = search rules in
+    rw is (put_refused (home_in c.args.shape) c.args.pages.bytes.now c.args.new c.args.pages.cap _ (told_refused (home_in c.args.shape) c.args.pages.bytes.now _ _ c.in_err-walk.ensures.value))
 
--- where a broken page lies
-sick : (c : lts.Past-After-known_told2 tie.the-claims reads.Pre reads.Post tie.handed_clauses)
-    → MetIn c.args.cap (mets.Broken c.in-Broken.page c.in-Broken.read)
-sick c = subst (MetIn c.args.cap) c.in-Broken.is c.meet_from-walk.ensures.within
+pub returns-then-count-lt-SLOTS-clause-result_value : goal.returns-then-count-lt-SLOTS-clause-result_value
+returns-then-count-lt-SLOTS-clause-result_value c =
+    let met = told_met (home_in c.args.shape) c.args.pages.bytes.now _ _ c.in_ok-walk.ensures.value ∙ ap Ok c.in-Ends.is in
+    let w = subst (MetIn c.args.pages.cap) c.in-Ends.is c.in_ok-walk.ensures.within in
+    put_here (home_in c.args.shape) c.args.pages.bytes.now c.args.new c.args.pages.cap _ _ _ _ met w.0 w.3 c.if-count-lt-SLOTS.true
 
-pub overflow_cast-result : goal.overflow_cast-result
-overflow_cast-result c =
-    let w = sick c.before in
-    omega (arith, w.0, c.requires.0)
+pub returns-then-count-lt-SLOTS-clause-within : goal.returns-then-count-lt-SLOTS-clause-within
+returns-then-count-lt-SLOTS-clause-within c =
+    let a = c.args in
+    let h = home_in a.shape in
+    let met = told_met (home_in c.args.shape) c.args.pages.bytes.now _ _ c.in_ok-walk.ensures.value ∙ ap Ok c.in-Ends.is in
+    let w = subst (MetIn a.pages.cap) c.in-Ends.is c.in_ok-walk.ensures.within in (
+      (omega arith, w.0, w.1),
+      (put_at h a.pages.bytes.now a.new a.pages.cap _ _ _ _ met).1,
+      one_page a.pages.bytes.now c.in-Ends.page (put_formed h a.pages.bytes.now a.new a.pages.cap _ _ _ _ met),
+      rising_one h a.pages.bytes.now c.in-Ends.page,
+    )
 
--- where an ending page lies
-ends : (c : lts.Past-After-known_told4 tie.the-claims reads.Pre reads.Post tie.handed_clauses)
-    → MetIn c.args.cap
-    (Ends c.in-Ends.page c.in-Ends.at c.in-Ends.count c.in-Ends.read)
-ends c = subst (MetIn c.args.cap) c.in-Ends.is c.meet_from-walk.ensures.within
+pub reach-requires-clause-full_to : goal.reach-requires-clause-full_to
+reach-requires-clause-full_to c =
+    let a = c.args in
+    let h = home_in a.shape in
+    let met = told_met (home_in c.args.shape) c.args.pages.bytes.now _ _ c.in_ok-walk.ensures.value ∙ ap Ok c.in-Ends.is in
+    let w = subst (MetIn a.pages.cap) c.in-Ends.is c.in_ok-walk.ensures.within in
+    told_full h a.pages.bytes.now _ _ c.in_ok-walk.ensures.value _ c.in-Ends.is c.in-Ends.page c.in-Ends.count refl (put_at h a.pages.bytes.now a.new a.pages.cap _ _ _ _ met).0 c.if-count-lt-SLOTS.false w.2
 
-pub returns-then-count-lt-SLOTS : goal.returns-then-count-lt-SLOTS
-returns-then-count-lt-SLOTS c =
-    let m = c.before.before.before in
-    let a = m.args in
-    let w = ends c.before.before in record {
-      result_value = put_here (home_in a.shape) a.area.now a.new a.cap m.meet_from-walk.result.met (met m) c.in-Ends.page c.in-Ends.at c.in-Ends.count c.in-Ends.read c.in-Ends.is
-          w.0 w.3 c.if-count-lt-SLOTS.true;
-      within = (
-        (omega arith, w.0, w.1),
-        (put_at (home_in a.shape) a.area.now a.new a.cap m.meet_from-walk.result.met (met m)
-            c.in-Ends.page c.in-Ends.at c.in-Ends.count c.in-Ends.read c.in-Ends.is).1,
-        one_page a.area.now c.in-Ends.page
-            (put_formed (home_in a.shape) a.area.now a.new a.cap m.meet_from-walk.result.met (met m) c.in-Ends.page c.in-Ends.at c.in-Ends.count c.in-Ends.read c.in-Ends.is),
-        rising_one (home_in a.shape) a.area.now c.in-Ends.page,
-      );
-    }
+pub returns-in-Found-clause-result_value : goal.returns-in-Found-clause-result_value
+returns-in-Found-clause-result_value c =
+    ap stopped c.again.ensures
+    ∙ put_found (home_in c.args.shape) c.args.pages.bytes.now c.args.new c.args.pages.cap _ _ _ _ _ (told_met (home_in c.args.shape) c.args.pages.bytes.now _ _ c.in_ok-walk.ensures.value ∙ ap Ok c.in-Found.is)
 
-pub reach-requires : goal.reach-requires
-reach-requires c =
-    let m = c.before.before.before in
-    let p = m.requires in
-    let a = m.args in
-    let w = ends c.before.before in
-    let here = (put_at (home_in a.shape) a.area.now a.new a.cap m.meet_from-walk.result.met (met m) c.in-Ends.page c.in-Ends.at c.in-Ends.count c.in-Ends.read c.in-Ends.is).0 in record { cap_bound = (p.0, p.1, p.2, w.0, w.1, omega arith); full_to = told_full (home_in a.shape) a.area.now _ _ m.meet_from-walk.ensures.value _ c.in-Ends.is c.in-Ends.page c.in-Ends.count refl here c.if-count-lt-SLOTS.false w.2 }
+pub returns-in-AtEnd-clause-result_value : goal.returns-in-AtEnd-clause-result_value
+returns-in-AtEnd-clause-result_value c =
+    put_past (home_in c.args.shape) c.args.pages.bytes.now c.args.new c.args.pages.cap _ (told_met (home_in c.args.shape) c.args.pages.bytes.now _ _ c.in_ok-walk.ensures.value ∙ ap Ok c.in-AtEnd.is)
 
-pub returns-in-Found : goal.returns-in-Found
-returns-in-Found c =
-    let m = c.before.before.before in
-    let a = m.args in record {
-      result_value = ap stopped c.again.ensures
-          ∙ put_found (home_in a.shape) a.area.now a.new a.cap m.meet_from-walk.result.met (met m) c.in-Found.page c.in-Found.slot c.in-Found.count c.in-Found.old
-          c.in-Found.read c.in-Found.is;
-      within = (tt, tt, tt, tt);
-    }
+pub returns-else-count-lt-SLOTS-clause-result_value : goal.returns-else-count-lt-SLOTS-clause-result_value
+returns-else-count-lt-SLOTS-clause-result_value c =
+    let met = told_met (home_in c.args.shape) c.args.pages.bytes.now _ _ c.in_ok-walk.ensures.value ∙ ap Ok c.in-Ends.is in
+    let w = subst (MetIn c.args.pages.cap) c.in-Ends.is c.in_ok-walk.ensures.within in
+    put_on (home_in c.args.shape) c.args.pages.bytes.now c.args.new c.args.pages.cap _ _ _ _ met w.0 w.3 c.if-count-lt-SLOTS.false _ c.reach.ensures.value
 
-pub returns-in-Broken : goal.returns-in-Broken
-returns-in-Broken c =
-    let m = c.before.before in
-    let a = m.args in
-    record { result_value = put_sick (home_in a.shape) a.area.now a.new a.cap m.meet_from-walk.result.met (met m) c.in-Broken.page c.in-Broken.read c.in-Broken.is; within = (tt, tt, tt, tt) }
-
-pub returns-in-AtEnd : goal.returns-in-AtEnd
-returns-in-AtEnd c =
-    let m = c.before.before in
-    let a = m.args in
-    record { result_value = put_past (home_in a.shape) a.area.now a.new a.cap m.meet_from-walk.result.met (met m) c.in-AtEnd.read c.in-AtEnd.is; within = (tt, tt, tt, tt) }
-
-pub returns-else-count-lt-SLOTS : goal.returns-else-count-lt-SLOTS
-returns-else-count-lt-SLOTS c =
-    let m = c.before.before.before.before in
-    let a = m.args in
-    let w = ends c.before.before.before in
-    let r = c.reach in record {
-      result_value = put_on (home_in a.shape) a.area.now a.new a.cap m.meet_from-walk.result.met (met m) c.in-Ends.page c.in-Ends.at c.in-Ends.count c.in-Ends.read c.in-Ends.is
-          w.0 w.3 c.if-count-lt-SLOTS.false r.result r.ensures.value;
-      within = (
-        r.ensures.within,
-        put_placed (home_in a.shape) a.area.now a.new a.cap
-            m.meet_from-walk.result.met (met m) c.in-Ends.page c.in-Ends.at c.in-Ends.count c.in-Ends.read c.in-Ends.is r.result r.ensures.value,
-        put_reached (home_in a.shape) a.area.now a.new a.cap
-            m.meet_from-walk.result.met (met m) c.in-Ends.page c.in-Ends.at c.in-Ends.count c.in-Ends.read c.in-Ends.is r.result r.ensures.value,
-        put_rises (home_in a.shape) a.area.now a.new a.cap
-            m.meet_from-walk.result.met (met m) c.in-Ends.page c.in-Ends.at c.in-Ends.count c.in-Ends.read c.in-Ends.is r.result r.ensures.value,
-      );
-    }
+pub returns-else-count-lt-SLOTS-clause-within : goal.returns-else-count-lt-SLOTS-clause-within
+returns-else-count-lt-SLOTS-clause-within c =
+    let a = c.args in
+    let h = home_in a.shape in
+    let met = told_met (home_in c.args.shape) c.args.pages.bytes.now _ _ c.in_ok-walk.ensures.value ∙ ap Ok c.in-Ends.is in
+    let is = c.reach.ensures.value in (
+      c.reach.ensures.within,
+      put_placed h a.pages.bytes.now a.new a.pages.cap _ _ _ _ met _ is,
+      put_reached h a.pages.bytes.now a.new a.pages.cap _ _ _ _ met _ is,
+      put_rises h a.pages.bytes.now a.new a.pages.cap _ _ _ _ met _ is,
+    )

@@ -15,9 +15,6 @@ use Rattle.walks.proofs.Pouring.{Untouched}
 use Rattle.walks.proofs.put.pour.Given as goal
 
 abbrev pub invariant-loop-a : goal.invariant-loop-a
-invariant-loop-a l = (l.first + 1 ≤ l.a) × (l.a ≤ l.last + 1) × (length l.area ≡ length l.initial.area) × Untouched l.initial.area l.area l.a
-    × (writes in_use l.area (poured (home_in l.shape) l.initial.area (suc l.last - l.a) l.a l.x) ≡ writes in_use l.initial.area (poured (home_in l.shape) l.initial.area (suc l.last - l.initial.a) l.initial.a l.initial.x))
+invariant-loop-a l = (length l.area ≡ length l.initial.area) × Untouched l.initial.area l.area l.a
+    × (writes in_use l.area (poured (home_in l.shape) l.initial.area (suc l.last - l.a) l.a l.x) ≡ writes in_use l.initial.area (poured (home_in l.shape) l.initial.area (suc l.last - (l.first + 1)) (l.first + 1) l.initial.x))
     × (l.rises ≡ true → l.a ≤ l.last → ahead (rank (home_in l.shape)) (rank (home_in l.shape) l.x) (held l.initial.area l.a) ≡ 0)
-
-abbrev pub decreases-loop-a : goal.decreases-loop-a
-decreases-loop-a l = l.last + 1 - l.a

@@ -10,7 +10,6 @@ use mir.Val.{bool_byte}
 use lib.Dec.{leb}
 use borrow.Author.Tests.{leb-true, leb-false}
 use Rattle.homes.specs.declared.sweeps.Sweeps.{Sweeps}
-use Rattle.homes.proofs.Bits.{bit}
 use Rattle.homes.proofs.Quotients.{parts}
 use Rattle.homes.proofs.sweeps.Sweeps.doubled.Goals as goal
 use Rattle.homes.proofs.sweeps.Sweeps.doubled.Goals.{else-over, then-over}
@@ -28,23 +27,10 @@ twice s g each more less a b h = go (leb s (2 * more)) refl
     go false e l =
         parts (2 * g) s (2 * each + 0) (2 * more - less) (omega (arith, leb-false s (2 * more) e)) (omega (arith, whole, leb-false s (2 * more) e))
 
--- what is taken from twice the rest
-less_is : (c : goal.After-row_known-1) → let self = c.args.self in c.if-over.less ≡ cond (leb self.s (2 * self.more)) self.s 0
-less_is c = elim c.if-over.branch [ then-over w ↦ w.less-is ∙ rw w.if-over.true-raw | else-over w ↦ w.less-is ∙ rw w.if-over.false-raw ]
-
-pub overflow_add-result : goal.overflow_add-result
-overflow_add-result c =
-    let self = c.args.self in
-    omega (arith, bit (leb self.s (2 * self.more)))
-
-pub overflow_sub-result : goal.overflow_sub-result
-overflow_sub-result c =
-    let self = c.args.self in
-    elim c.if-over.branch [ then-over w ↦ omega (arith, leb-true self.s (2 * self.more) w.if-over.true-raw) | else-over w ↦ omega arith ]
-
 pub returns : goal.returns
 returns c g e =
-    let start = c.before.before.before.before in
-    let self = start.args.self in
-    let new = twice self.s g self.each self.more c.if-over.less (ap (λ (w : Sweeps). w.each) e) (ap (λ (w : Sweeps). w.more) e) start.requires.1 (less_is c) in
-    λ i. record { s = self.s; share = (e i).share; each = new.0 i; more = new.1 i }
+    let self = c.args.self in
+    let less : c.if-over.less ≡ cond (leb self.s (2 * self.more)) self.s 0 = elim c.if-over.branch [ then-over w ↦ w.less-is ∙ rw w.if-over.true-raw | else-over w ↦ w.less-is ∙ rw w.if-over.false-raw ] in
+    let new = twice self.s g self.each self.more c.if-over.less (ap (λ (w : Sweeps). w.each) e) (ap (λ (w : Sweeps). w.more) e) c.requires.1 less in
+    let each : 2 * self.each + c.from.result ≡ 2 * g / self.s = rw c.from.ensures new.0 in
+    λ i. record { s = self.s; share = (e i).share; each = each i; more = new.1 i }

@@ -9,10 +9,7 @@ use Rattle.homes.specs.Homes.{swept}
 use Rattle.homes.proofs.New.{swept_high}
 use Rattle.homes.proofs.Quotients.{remains, by_share}
 use Rattle.homes.proofs.sweeps.Sweeps.target.Goals as goal
-use Rattle.homes.proofs.sweeps.Sweeps.target.Goals.{else-w-self, then-w-self}
-use Rattle.homes.proofs.sweeps.Sweeps.target.Lts as lts
-use Rattle.homes.proofs.sweeps.Sweeps.target.Reads as reads
-use Rattle.homes.proofs.sweeps.Sweeps.target.Tie as tie
+use Rattle.homes.proofs.sweeps.Sweeps.target.Goals.{After-row_before-row, After-min-least}
 
 -- The sum is the sweeps', and below g.
 sums : (s g each more k row w least : ℕ) → 0 < s → k < g → each ≡ g / s → more ≡ g % s → row ≡ k / s → w ≡ k % s → least ≡ min w more → (w * each + least + row ≡ swept s 0 g k) × (w * each + least + row < g)
@@ -31,35 +28,30 @@ rest s k next row e r =
     (row_is, left.0, omega (arith, left))
 
 -- the number of the group in order of growth
-abbrev order : lts.After-row_before tie.the-claims reads.Pre reads.Post tie.handed_clauses → ℕ
+abbrev order : After-row_before-row → ℕ
 order c = c.args.g - 1 - c.args.group
 
 -- what is left of it in its row
-abbrev over : lts.After-row_before tie.the-claims reads.Pre reads.Post tie.handed_clauses → ℕ
+abbrev over : After-row_before-row → ℕ
 over c = c.args.g - c.args.group - c.row_before-row.result * c.args.self.s - 1
 
 -- the row that the call gives is the right one
-row_is : (c : lts.After-row_before tie.the-claims reads.Pre reads.Post tie.handed_clauses) → let s = c.args.self.s in let row = c.row_before-row.result in (row ≡ order c / s) × (row * s ≤ order c) × (over c ≡ order c % s)
+row_is : (c : After-row_before-row) → let s = c.args.self.s in let row = c.row_before-row.result in (row ≡ order c / s) × (row * s ≤ order c) × (over c ≡ order c % s)
 row_is c = rest c.args.self.s (order c) (c.args.g - c.args.group) c.row_before-row.result (omega arith) (c.row_before-row.ensures ∙ by_share _ _ _ c.requires.0 c.requires.1 (ap (λ (w : Sweeps). w.share) c.requires.2) (omega arith) (omega arith))
 
 -- the result
-result_is : (c : lts.Joined1 tie.the-claims reads.Pre reads.Post tie.handed_clauses) → let t = c.before.before.before in let at = t.args in let r = over t * at.self.each + c.if-w-self.least + t.row_before-row.result in (r ≡ swept at.self.s 0 at.g (order t)) × (r < at.g)
+result_is : (c : After-min-least) → let at = c.args in let t = c.before.before in let r = over t * at.self.each + c.min-least.result + c.row_before-row.result in (r ≡ swept at.self.s 0 at.g (order t)) × (r < at.g)
 result_is c =
-    let t = c.before.before.before in
-    let start = t.before in
-    let self = start.args.self in
-    let e = start.requires.2 in
-    let least : c.if-w-self.least ≡ min (over t) self.more = elim c.if-w-self.branch [ then-w-self w ↦ omega arith | else-w-self w ↦ omega arith ] in
-    sums self.s start.args.g self.each self.more (order t) t.row_before-row.result (over t) c.if-w-self.least start.requires.0 (omega arith) (ap (λ (w : Sweeps). w.each) e) (ap (λ (w : Sweeps). w.more) e) (row_is t).0 (row_is t).2 least
+    let t = c.before.before in
+    let self = c.args.self in
+    let e = c.requires.2 in
+    sums self.s c.args.g self.each self.more (order t) t.row_before-row.result (over t) c.min-least.result c.requires.0 (omega arith) (ap (λ (w : Sweeps). w.each) e) (ap (λ (w : Sweeps). w.more) e) (row_is t).0 (row_is t).2 c.min-least.ensures
 
 pub overflow_mul-result : goal.overflow_mul-result
 overflow_mul-result c = omega (arith, result_is c.before)
 
 pub returns : goal.returns
-returns c = let all = result_is c.before.before in record { value = all.0; within = all.1 }
-
-pub overflow_mul-w : goal.overflow_mul-w
-overflow_mul-w c = omega (arith, row_is c.before)
+returns c = let all = result_is c.before in record { value = all.0; within = all.1 }
 
 pub overflow_sub-w : goal.overflow_sub-w
 overflow_sub-w c = omega (arith, row_is c.before)
@@ -68,7 +60,7 @@ pub overflow_sub-w-2 : goal.overflow_sub-w-2
 overflow_sub-w-2 c = omega (arith, row_is c.before)
 
 pub overflow_add-result : goal.overflow_add-result
-overflow_add-result c = omega (arith, result_is c.before.before)
+overflow_add-result c = omega (arith, result_is c.before)
 
 pub overflow_add-result-2 : goal.overflow_add-result-2
-overflow_add-result-2 c = omega (arith, result_is c.before.before)
+overflow_add-result-2 c = omega (arith, result_is c.before)

@@ -1,2 +1,3 @@
 pub mod Seeking
 pub mod Moving
+pub mod Shifting

@@ -11,7 +11,6 @@ use lib.Seq.{take-nil, take_all, take_at, drop_at, drop-drop, drop-cons, take-ap
 use Rattle.numbers.specs.Little.{Bytes, bytes_of, written}
 use Rattle.numbers.specs.Fields.{Field, encode}
 use Rattle.numbers.proofs.Laws.{length_part, length_bytes, written-written, written_before}
-use Rattle.std.specs.List.{copy_within}
 use Rattle.numbers.proofs.Records.{length-encode, width-append, encode-append}
 use Rattle.layouts.specs.Layout.{Layout, kind_of, slots_of, width_of, slot_at}
 use Rattle.layouts.proofs.Lying.{slot_first, slot_next, slot_end, slot_fits}
@@ -38,13 +37,6 @@ written_mid : (s u t v : List ℕ) (at : ℕ) → length s ≡ at → length v �
 unfolding written
 written_mid s u t v at n m =
     rw (take_at s (u ++ t) at n, ← drop-drop (length v) at (s ++ (u ++ t)), drop_at s (u ++ t) at n, drop_at u t (length v) (sym m))
-
--- bytes moved within a list are one write of them
-pub copied : (l : List ℕ) (start end to : ℕ) → start ≤ end → end ≤ length l → copy_within l start end to ≡ written l to (take (end - start) (drop start l))
-unfolding written
-copied l start end to h fits =
-    let n : ℕ = end - start in
-    append_assoc (take to l) (take n (drop start l)) (drop (to + n) l) ∙ rw (length_part n l start (omega arith))
 
 -- behind as many records as there are slots a record finds none
 pub opened_past : {R : Type 0} (b at : ℕ) (x : R) (rs : List R) → length rs ≡ b → at ≡ b → (x ≡ get_or (opened at x rs) b x) × (rs ≡ take b (opened at x rs))

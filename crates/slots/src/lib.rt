@@ -80,27 +80,52 @@ fn place_back<L: Layout>(part: &[u8], shape: Shape, home: u64, key: u64) -> usiz
     0
 }
 
+// Bytes moved so far up, the last of them first. By hand, as the next: of `copy_within` the compiler makes
+// a memmove, which a program in C need not bring (c/reefcushion.h).
+fn shift_up(part: &mut [u8], start: usize, end: usize, by: usize)
+    requires { (start ≤ end) × (end + by ≤ length part.old) }
+    ensures { let l = part.old in part.new ≡ written l (start + by) (take (end - start) (drop start l)) }
+{
+    let mut i = end;
+    while start < i {
+        i -= 1;
+        part[i + by] = part[i];
+    }
+}
+
+// Bytes moved so far down, the first of them first.
+fn shift_down(part: &mut [u8], start: usize, end: usize, by: usize)
+    requires { (by ≤ start) × (start ≤ end) × (end ≤ length part.old) }
+    ensures { let l = part.old in part.new ≡ written l (start - by) (take (end - start) (drop start l)) }
+{
+    let mut i = start;
+    while i < end {
+        part[i - by] = part[i];
+        i += 1;
+    }
+}
+
 // A record to a slot. What stood there and after it goes one slot on, and the last drops out.
-#[tactic(auto, using(crate::proofs::Moving::copied, crate::proofs::Moving::opened_twice, layouts::proofs::Lying::slot_fits))]
+#[tactic(auto, using(crate::proofs::Moving::opened_twice, layouts::proofs::Lying::slot_fits))]
 fn open_slot<L: Layout>(part: &mut [u8], at: usize, x: Record)
     requires { (length part.old ≡ 256) × (at < slots_of L.layout) }
     ensures { let l = part.old in part.new ≡ written l (slot_at L.layout at) (encode (record_slot L.layout x) ++ take (256 - slot_at L.layout (suc at)) (drop (slot_at L.layout at) l)) }
 {
     let width = L::WIDTH;
     let start = layouts::slot_at::<L>(at);
-    part.copy_within(start..256 - width, start + width);
+    shift_up(part, start, 256 - width, width);
     pages::slot::put::<L>(part, start, Some(x));
 }
 
 // The slots closed up over one of them, with a record at the end or an empty slot.
-#[tactic(auto, using(crate::proofs::Moving::copied, crate::proofs::Moving::closed_twice, layouts::proofs::Lying::slot_next, layouts::proofs::Lying::slot_fits))]
+#[tactic(auto, using(crate::proofs::Moving::closed_twice, layouts::proofs::Lying::slot_next, layouts::proofs::Lying::slot_fits))]
 fn close_slot<L: Layout>(part: &mut [u8], at: usize, x: Option<Record>)
     requires { (length part.old ≡ 256) × (at < slots_of L.layout) }
     ensures { let l = part.old in part.new ≡ written l (slot_at L.layout at) (drop (slot_at L.layout (suc at)) l ++ encode (slot_of L.layout x)) }
 {
     let width = L::WIDTH;
     let start = layouts::slot_at::<L>(at + 1);
-    part.copy_within(start.., start - width);
+    shift_down(part, start, 256, width);
     pages::slot::put::<L>(part, 256 - width, x);
 }
 

@@ -4,10 +4,9 @@
 #![tactic(auto)]
 
 ghost use Rattle.std.specs.Io.KnownBytes.{Consumes};
-ghost use Rattle.std.specs.Prelude.{◌≡◌, ◌≤◌, length, take, IfOk, IfSome, vec_len};
+ghost use Rattle.std.specs.Prelude.{◌≡◌, ◌≤◌, length, take, drop, IfOk, IfSome};
 
 use reefcushion::reefcushion_compare;
-use std::alloc::AllocError;
 use std::env::FillError;
 use std::fs::File;
 use std::io::{Read, Write};
@@ -47,21 +46,19 @@ fn no_name(rt: &impl Eprint, error: FillError) {
     let _ = eprintln!(rt; "compare_files FIRST SECOND: {words}");
 }
 
-// What a file holds, as far as a register file goes. A read that fails ends it: what came before is
-// judged like any other bytes.
-fn read_file<R: Files + AllocGlobal>(rt: &R, name: &str) -> io::Result<Vec<u8>>
-    ensures { IfOk result (λ bytes. vec_len bytes ≤ 1048593) }
+// How many bytes of a file stand at the front of a buffer, as far as it goes. A read that fails ends
+// the file: what came before is judged like any other bytes.
+fn read_file<R: Files>(rt: &R, name: &str, buffer: &mut [u8]) -> io::Result<usize>
+    ensures { IfOk result (λ count. count ≤ length buffer.old) }
 {
     let mut file = File::open(rt, name)?;
-    let mut bytes = vec![in rt.alloc(); 0u8; MOST]?;
-    let count = read_full(&mut file, &mut bytes[..]);
-    bytes.truncate(count);
-    Ok(bytes)
+    Ok(read_full(&mut file, buffer))
 }
 
-// The file that an argument names. What can't be read is told on standard error.
-fn load<R: Files + Env + Eprint + AllocGlobal>(rt: &R, argument: usize) -> Option<Vec<u8>>
-    ensures { IfSome result (λ bytes. vec_len bytes ≤ 1048593) }
+// The file that an argument names, to the front of a buffer: how many bytes it has there. What can't
+// be read is told on standard error.
+fn load<R: Files + Env + Eprint>(rt: &R, argument: usize, buffer: &mut [u8]) -> Option<usize>
+    ensures { IfSome result (λ count. count ≤ length buffer.old) }
 {
     let mut path = [0u8; 4096];
     let n = match rt.arg(argument, &mut path[..]) {
@@ -75,8 +72,8 @@ fn load<R: Files + Env + Eprint + AllocGlobal>(rt: &R, argument: usize) -> Optio
         let _ = eprintln!(rt; "compare_files FIRST SECOND: a name is not UTF-8");
         return None;
     };
-    match read_file(rt, name) {
-        Ok(bytes) => Some(bytes),
+    match read_file(rt, name, buffer) {
+        Ok(count) => Some(count),
         Err(error) => {
             let _ = eprintln!(rt; "{name}: {error}");
             None
@@ -86,7 +83,10 @@ fn load<R: Files + Env + Eprint + AllocGlobal>(rt: &R, argument: usize) -> Optio
 
 // The slip of a file, which is its state and zeros where an answer stands, and its pages. A file that
 // is shorter than a state has no pages, and is refused.
-fn split_file(file: &[u8]) -> ([u8; 40], &[u8]) {
+fn split_file(file: &[u8]) -> ([u8; 40], &[u8])
+    ensures slip { 40 ≡ length result.0 }
+    ensures pages { result.1.now ≡ drop 16 file.now }
+{
     let (state, pages) = file.split_at(file.len().min(16));
     let mut slip = [0u8; 40];
     slip[..state.len()].copy_from_slice(state);
@@ -140,18 +140,40 @@ fn tell(rt: &(impl Print + Eprint), first: &[u8], second: &[u8], room: &mut [u8]
 }
 
 // Both files, and what differs.
-fn run<R: Files + Env + Print + Eprint + AllocGlobal>(rt: &R) -> Result<(), AllocError> {
-    let Some(first) = load(rt, 1) else {
-        return Ok(());
+fn run<R: Files + Env + Print + Eprint>(
+    rt: &R,
+    first: &mut [u8],
+    second: &mut [u8],
+    room: &mut [u8],
+)
+    requires { (length first.old ≡ 1048593) × (length second.old ≡ 1048593) × (length room.old ≡ 1966096) }
+{
+    let Some(here) = load(rt, 1, first) else {
+        return;
     };
-    let Some(second) = load(rt, 2) else {
-        return Ok(());
+    let Some(there) = load(rt, 2, second) else {
+        return;
     };
-    let mut room = vec![in rt.alloc(); 0u8; ROOM]?;
-    tell(rt, &first[..], &second[..], &mut room[..]);
-    Ok(())
+    tell(rt, &first[..here], &second[..there], room);
 }
 
-fn main(rt: HostRuntime) -> Result<(), AllocError> {
-    run(&rt)
+// Zeros for a file, and for the list. Fixed memory, by a rule of the project: a Vec in their place is one
+// more thing that can run out.
+fn file_space() -> [u8; MOST]
+    ensures { 1048593 ≡ length result }
+{
+    [0; MOST]
+}
+
+fn list_space() -> [u8; ROOM]
+    ensures { 1966096 ≡ length result }
+{
+    [0; ROOM]
+}
+
+fn main(rt: HostRuntime) {
+    let mut first = file_space();
+    let mut second = file_space();
+    let mut room = list_space();
+    run(&rt, &mut first[..], &mut second[..], &mut room[..]);
 }

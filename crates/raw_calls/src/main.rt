@@ -4,18 +4,17 @@
 
 mod raw_records;
 
+ghost use Rattle.std.specs.Prelude.{◌≡◌, ◌+◌, ◌*◌, ◌≤◌, length};
+ghost use Rattle.raw_calls.specs.Records.{Lying};
+
 use comparisons::ComparedNumbers;
 use homes::Params;
 use merges::MergedNumbers;
 use pages::Record;
 use raw_records::{Answered, Asked, Call};
 use state::{Answer, Done, Numbers, State};
-use std::alloc::Global;
 use std::convert::TryFrom;
 use std::io::{Read, Write};
-
-// The most bytes of a record: its numbers, and four strings of the greatest length.
-const LONGEST_RECORD: usize = 65662;
 
 // A format whose four numbers stand in one, the first lowest, and its edition in another. A number
 // that is too large for an edition is none, and so is 0.
@@ -59,7 +58,13 @@ fn merge(state: State, area: &mut [u8], there: State, other: &[u8], row: &mut [u
 }
 
 // The call that a record asks for: none where it is on two files and the second has no state.
-fn call(asked: Asked<'_>, area: &mut [u8], row: &mut [u32], room: &mut [u8]) -> Option<Answered> {
+fn call(
+    asked: Asked,
+    area: &mut [u8],
+    second: &[u8],
+    row: &mut [u32],
+    room: &mut [u8],
+) -> Option<Answered> {
     let state = asked.state;
     let key = asked.a;
     let told = match asked.call {
@@ -74,54 +79,78 @@ fn call(asked: Asked<'_>, area: &mut [u8], row: &mut [u32], room: &mut [u8]) -> 
         Call::Grow => records::tell(register::grow(state, area, row)),
         Call::Check => records::tell(register::check(state, &area[..])),
         Call::Shrink => records::tell(register::shrink(state, area)),
-        Call::PutRun => pay_runs::put_run(state, area, asked.second, room),
+        Call::PutRun => pay_runs::put_run(state, area, second, room),
         Call::Compare => {
-            let (there, other) = asked.second_file()?;
+            let (there, other) = raw_records::second_file(second)?;
             return Some(compare(state, &area[..], there, other, room));
         }
         Call::Merge => {
-            let (there, other) = asked.second_file()?;
+            let (there, other) = raw_records::second_file(second)?;
             return Some(merge(state, area, there, other, row));
         }
     };
     Some(Answered::from(told))
 }
 
-// A record answered. The call works on copies of what it may write, and the reply gives those back.
-fn answer<W: Write>(alloc: Global, to: &mut W, record: &[u8]) -> Option<()> {
-    let asked = Asked::read(record)?;
-    let mut area = asked.area.to_vec(alloc).ok()?;
-    let mut row = asked.counts(alloc).ok()?;
-    let mut room = asked.room.to_vec(alloc).ok()?;
-    let answered = call(asked, &mut area[..], &mut row[..], &mut room[..])?;
-    let strings = raw_records::reply_strings(alloc, &area[..], &row[..], &room[..])?;
-    let end = u32::try_from(strings.len()).ok()?.checked_add(54)?;
-    let head = raw_records::reply_head(answered, end);
+// The call of a record on its strings where they lie, which are lent side by side. A row is lent as
+// numbers, and its bytes are written anew from them.
+fn call_on(asked: Asked, record: &mut [u8], row: &mut [u32]) -> Option<Answered>
+    requires { Lying asked × (asked.room ≡ length record.old) × (asked.second + 4 + 4 * length row.old ≤ asked.row) }
+    ensures { length record.new ≡ length record.old }
+{
+    let (front, back) = record.split_at_mut(asked.second + 4);
+    let (area, second) = front[50..].split_at_mut(asked.area - 50);
+    let (counts, room) = back.split_at_mut(asked.row - asked.second - 4);
+    raw_records::read_row(&counts[..], row);
+    let second = &second[4..asked.second - asked.area];
+    let answered = call(asked, area, second, row, &mut room[4..])?;
+    raw_records::write_row(counts, row);
+    Some(answered)
+}
+
+// A record answered: its numbers, then area, row and room as they lie in the record, with their lengths.
+fn answer<W: Write>(to: &mut W, record: &mut [u8], row: &mut [u32]) -> Option<()>
+    requires { (46 ≤ length record.old) × (length record.old ≤ 65662) × (length row.old ≡ 4100) }
+{
+    let asked = Asked::read(&record[..])?;
+    let counts = (asked.row - asked.second) / 4 - 1;
+    let answered = call_on(asked, record, &mut row[..counts])?;
+    let end = 8 + asked.area + (record.len() - asked.second);
+    let head = raw_records::reply_head(answered, end as u32);
     to.write_all(&head[..]).ok()?;
-    to.write_all(&strings[..]).ok()
+    to.write_all(&record[46..asked.area]).ok()?;
+    to.write_all(&record[asked.second..]).ok()
 }
 
 // The next record answered, or none: input that is no whole record ends the run, and so does a reply
 // that can't be written.
-fn answer_next<R: Read, W: Write>(alloc: Global, from: &mut R, to: &mut W) -> Option<()> {
-    let mut length = [0; 4];
-    from.read_exact(&mut length[..]).ok()?;
-    let end = u32::from_le_bytes(length) as usize;
-    if end < 46 || LONGEST_RECORD < end {
+fn answer_next<R: Read, W: Write>(
+    from: &mut R,
+    to: &mut W,
+    bytes: &mut [u8],
+    row: &mut [u32],
+) -> Option<()>
+    requires { (length bytes.old ≡ 65662) × (length row.old ≡ 4100) }
+{
+    from.read_exact(&mut bytes[..4]).ok()?;
+    let end = numbers::get::<u32>(&bytes[..], 0) as usize;
+    if end < 46 || bytes.len() < end {
         return None;
     }
-    let mut record = vec![in alloc; 0; end - 4].ok()?;
-    from.read_exact(&mut record[..]).ok()?;
-    answer(alloc, to, &record[..])
+    from.read_exact(&mut bytes[4..end]).ok()?;
+    answer(to, &mut bytes[..end], row)
 }
 
 // A proved loop has to end, and nothing says that an input does: it has more turns than any run uses
-// up.
+// up. The longest record has its numbers, and four strings of the greatest length.
 fn main(rt: HostRuntime) {
     let mut from = rt.stdin();
     let mut to = rt.stdout();
+    // Fixed memory, by a rule of the project: a Vec here would be one more thing that can run out.
+    let mut bytes = [0u8; 65662];
+    let mut row = [0u32; 4100];
     for _ in 0..u64::MAX {
-        if answer_next(rt.alloc(), &mut from, &mut to).is_none() {
+        if answer_next(&mut from, &mut to, &mut bytes[..], &mut row[..]).is_none() {
             return;
         }
     }

@@ -1,8 +1,10 @@
 // The records of raw calls: 46 bytes of numbers, then four byte strings, each with its length in
 // front: area, second, row and room. A reply has 54 bytes of numbers before area, row and room.
+ghost use Rattle.std.specs.Prelude.{◌≡◌, ◌+◌, ◌*◌, ◌≤◌, length, IfSome};
+ghost use Rattle.raw_calls.specs.Records.{Lying};
+
 use layouts::{InUse, Layout};
 use state::{Done, Numbers, State};
-use std::alloc::{AllocError, Global};
 use std::convert::TryFrom;
 
 // The most bytes of a string.
@@ -49,66 +51,83 @@ impl TryFrom<u16> for Call {
     }
 }
 
-// A call with the state, two numbers and the four strings.
+// A call with the state and two numbers, and where area, second, row and room end in its record.
 #[derive(Clone, Copy)]
-pub struct Asked<'a> {
+pub struct Asked {
     pub call: Call,
     pub state: State,
     pub a: u64,
     pub b: u64,
-    pub area: &'a [u8],
-    pub second: &'a [u8],
-    pub row: &'a [u8],
-    pub room: &'a [u8],
+    pub area: usize,
+    pub second: usize,
+    pub row: usize,
+    pub room: usize,
 }
 
-impl<'a> Asked<'a> {
-    // What a record asks, from behind its own length: none where the kind is no call's, a string is
-    // too long, the row is no whole counts, or the record doesn't end where the strings do.
-    pub(crate) fn read(record: &'a [u8]) -> Option<Self> {
-        let (head, strings) = record.split_at_checked(42)?;
-        let (area, rest) = split_string(strings)?;
-        let (second, rest) = split_string(rest)?;
-        let (row, rest) = split_string(rest)?;
-        let (room, rest) = split_string(rest)?;
-        if row.len() % 4 != 0 || !rest.is_empty() {
+impl Asked {
+    // What a record asks: none where the kind is no call's, a string is too long, the row is no whole
+    // counts, or the record doesn't end where the strings do.
+    pub(crate) fn read(record: &[u8]) -> Option<Self>
+        requires { (46 ≤ length record.now) × (length record.now ≤ 65662) }
+        ensures { IfSome result (λ asked. Lying asked × (asked.room ≡ length record.now)) }
+    {
+        let area = end_of(record, 46)?;
+        let second = end_of(record, area)?;
+        let row = end_of(record, second)?;
+        let room = end_of(record, row)?;
+        if (row - second) % 4 != 0 || room != record.len() {
             return None;
         }
-        let call = Call::try_from(numbers::get::<u16>(head, 0)).ok()?;
+        let call = Call::try_from(numbers::get::<u16>(record, 4)).ok()?;
         Some(Self {
             call,
-            state: slips::get_state(head, 2),
-            a: numbers::get::<u64>(head, 18),
-            b: numbers::get::<u64>(head, 26),
+            state: slips::get_state(record, 6),
+            a: numbers::get::<u64>(record, 22),
+            b: numbers::get::<u64>(record, 30),
             area,
             second,
             row,
             room,
         })
     }
+}
 
-    // The file that the second string is: a state, then an area.
-    pub(crate) fn second_file(self) -> Option<(State, &'a [u8])> {
-        let (state, area) = self.second.split_at_checked(16)?;
-        Some((slips::get_state(state, 0), area))
+// Where the string ends whose length stands at an offset: none where there is no length, one too long,
+// or too few bytes behind it.
+fn end_of(record: &[u8], at: usize) -> Option<usize>
+    requires { (length record.now ≤ 65662) × (at ≤ length record.now) }
+    ensures { IfSome result (λ end. (at + 4 ≤ end) × (end ≤ at + 16404) × (end ≤ length record.now)) }
+{
+    let (length, rest) = record[at..].split_at_checked(4)?;
+    let length = numbers::get::<u32>(length, 0) as usize;
+    if LONGEST < length || rest.len() < length {
+        return None;
     }
+    Some(at + 4 + length)
+}
 
-    pub(crate) fn counts(self, alloc: Global) -> Result<Vec<u32>, AllocError> {
-        self.row
-            .chunks_exact(4)
-            .map(|count| numbers::get::<u32>(count, 0))
-            .collect(alloc)
+// The file that a second string is: a state, then an area.
+pub(crate) fn second_file(second: &[u8]) -> Option<(State, &[u8])> {
+    let (state, area) = second.split_at_checked(16)?;
+    Some((slips::get_state(state, 0), area))
+}
+
+pub(crate) fn read_row(string: &[u8], row: &mut [u32])
+    requires { 4 * length row.old ≤ length string.now }
+    ensures { length row.new ≡ length row.old }
+{
+    for (count, bytes) in row.iter_mut().zip(string.chunks_exact(4)) {
+        *count = numbers::get::<u32>(bytes, 0);
     }
 }
 
-// The string whose length stands in front, and what lies behind it.
-fn split_string(bytes: &[u8]) -> Option<(&[u8], &[u8])> {
-    let (length, rest) = bytes.split_at_checked(4)?;
-    let length = numbers::get::<u32>(length, 0) as usize;
-    if LONGEST < length {
-        return None;
+pub(crate) fn write_row(string: &mut [u8], row: &[u32])
+    requires { 4 * length row.now ≤ length string.old }
+    ensures { length string.new ≡ length string.old }
+{
+    for (bytes, count) in string.chunks_exact_mut(4).zip(row) {
+        numbers::put(bytes, 0, *count);
     }
-    rest.split_at_checked(length)
 }
 
 // What is told of a call: its own numbers, the file of two that a refusal is about, and how many bytes
@@ -143,28 +162,4 @@ pub(crate) fn reply_head(answered: Answered, end: u32) -> [u8; 54] {
     slips::put_state(&mut head[..], 36, state);
     numbers::put(&mut head[..], 52, u16::from(state.due(InUse::NUMBER)));
     head
-}
-
-// The strings of a reply. None where memory runs out.
-pub(crate) fn reply_strings(
-    alloc: Global,
-    area: &[u8],
-    row: &[u32],
-    room: &[u8],
-) -> Option<Vec<u8>> {
-    let mut counts = Vec::new(alloc);
-    for count in row {
-        counts.extend_from_slice(&count.to_le_bytes()).ok()?;
-    }
-    let mut strings = Vec::new(alloc);
-    push_string(&mut strings, area)?;
-    push_string(&mut strings, &counts[..])?;
-    push_string(&mut strings, room)?;
-    Some(strings)
-}
-
-fn push_string(strings: &mut Vec<u8>, string: &[u8]) -> Option<()> {
-    let length = u32::try_from(string.len()).ok()?;
-    strings.extend_from_slice(&length.to_le_bytes()).ok()?;
-    strings.extend_from_slice(string).ok()
 }

@@ -1,7 +1,7 @@
 // The log program: commands on standard input, replies on standard output, at most 128 pages.
 #![tactic(auto)]
 
-ghost use Rattle.std.specs.Prelude.{◌≡◌, ◌≤◌, IfOk, OnOk, length, take, not};
+ghost use Rattle.std.specs.Prelude.{◌≡◌, ◌-◌, ◌≤◌, IfOk, OnOk, length, take, drop, not};
 ghost use Rattle.std.specs.Io.KnownBytes.{Appends, ReadConsumes};
 
 use commands::Ran;
@@ -9,6 +9,16 @@ use homes::Params;
 use state::State;
 use std::io;
 use std::io::{Read, Write};
+
+// What was not taken goes to the front; answered is how many bytes that is.
+fn keep(input: &mut [u8], taken: usize, have: usize) -> usize
+    requires { (taken ≤ have) × (have ≤ length input.old) }
+    ensures value { result ≡ have - taken }
+    ensures input_after { take result input.new ≡ take result (drop taken input.old) }
+{
+    input.copy_within(taken..have, 0);
+    have - taken
+}
 
 // One read into the free end of the input: how many bytes came, none where the input ends. A read
 // that fails takes nothing from it.
@@ -38,9 +48,9 @@ fn main(rt: HostRuntime) -> io::Result<()> {
     let mut to = rt.stdout();
     let mut space = [0u8; 32768];
     let mut row = [0u32; 128];
+    // Fixed memory, by a rule of the project: a Vec here would be one more thing that can run out.
+    let mut input = [0u8; 65536];
     let mut replies = [0u8; 65536];
-    let mut free = [0u8; 65536];
-    let mut input = Vec::new(rt.alloc());
     let zeros = Params {
         n0: 0,
         n: 0,
@@ -48,18 +58,19 @@ fn main(rt: HostRuntime) -> io::Result<()> {
         edition: 0,
     };
     let mut state = State::new(zeros, 0);
+    let mut have = 0;
     let mut ended = None;
     for _ in 0..u64::MAX {
         let ran = commands::log(
             state,
             &mut space[..],
             &mut row[..],
-            &input[..],
+            &input[..have],
             ended.is_some(),
             &mut replies[..],
         );
         state = ran.state;
-        input.drain(..ran.taken);
+        have = keep(&mut input[..], ran.taken, have);
         if ran.given > 0 {
             if !send(&mut to, &replies[..], ran)? {
                 break;
@@ -67,10 +78,9 @@ fn main(rt: HostRuntime) -> io::Result<()> {
         } else if ended.is_some() {
             break;
         } else {
-            let room = 65536 - input.len();
-            match read_more(&mut from, &mut free[..room]) {
+            match read_more(&mut from, &mut input[have..]) {
                 Ok(0) => ended = Some(Ok(())),
-                Ok(came) => input.extend_from_slice(&free[..came])?,
+                Ok(came) => have += came,
                 Err(error) => ended = Some(Err(error)),
             }
         }

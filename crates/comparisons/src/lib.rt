@@ -140,7 +140,7 @@ fn refuse(which: Which, why: Refusal, before: u32) -> CompareRefusal
     CompareRefusal::File {
         which,
         why,
-        read: sites::read_over(before, why),
+        read: sites::read_over(before, Err(why)),
     }
 }
 

@@ -95,6 +95,14 @@ impl Shape {
         Self { params, p }
     }
 
+    // The parameters of the file.
+    pub fn params(self) -> Params
+        ensures { result ≡ self.params }
+    {
+        let Self { params, .. } = self;
+        params
+    }
+
     // How many pages the file has.
     pub fn pages(self) -> u64
         ensures value { result ≡ self.p }

@@ -81,7 +81,7 @@ fn refuse(which: Which, why: Refusal, before: u32) -> MergeRefusal
     MergeRefusal::File {
         which,
         why,
-        read: sites::read_over(before, why),
+        read: sites::read_over(before, Err(why)),
     }
 }
 

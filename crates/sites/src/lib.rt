@@ -18,7 +18,7 @@ use homes::Shape;
 use layouts::InUse;
 use pages::view::Pages;
 use pages::{Page, Record};
-use state::{Numbers, Refusal, State};
+use state::{Answer, Numbers, State};
 use std::marker::Model;
 
 // What a search needs of a file beside its pages.
@@ -41,6 +41,13 @@ impl Model for Site {
 }
 
 impl Site {
+    // A file of any shape, as a search takes it.
+    pub fn new(cap: usize, shape: Shape) -> Self
+        ensures { (result.cap ≡ cap) × (result.shape ≡ shape) }
+    {
+        Self { cap, shape }
+    }
+
     pub fn cap(self) -> usize
         ensures { result ≡ self.cap }
     {
@@ -81,11 +88,7 @@ pub fn site_of(state: State) -> Site
     requires { in_range in_use state ≡ true }
     ensures { result ≡ site_of state }
 {
-    let shape = state.shape();
-    Site {
-        cap: state.cap as usize,
-        shape,
-    }
+    Site::new(state.cap as usize, state.shape())
 }
 
 // What a file holds at a key, which lives at `home` there.
@@ -111,11 +114,11 @@ pub fn homes_under(area: &[u8], a: usize, page: Page, own: Shape, shape: Shape) 
     pages::homes_of(count, keys, shape)
 }
 
-// The pages read up to a file's refusal, after so many pages of another. A refusal that looks at no page
+// The pages read up to a file's answer, after so many pages of another. A refusal that looks at no page
 // counts none.
-pub fn read_over(before: u32, why: Refusal) -> u32
-    requires { (before ≤ 65535) × ((answers.refused why).read ≤ 4096) }
-    ensures { result ≡ read_over before (answers.refused why).read }
+pub fn read_over(before: u32, why: Answer) -> u32
+    requires { (before ≤ 65535) × ((answers.numbers why).read ≤ 4096) }
+    ensures { result ≡ read_over before (answers.numbers why).read }
 {
     let own = Numbers::from(why).read;
     if own == 0 { 0 } else { before + own }

@@ -5,7 +5,7 @@ use Rattle.layouts.specs.Layout.{Layout}
 use Rattle.pages.specs.Page.{key}
 use Rattle.state.specs.declared.State.{State}
 use Rattle.state.specs.declared.Refusal.{Refusal}
-use Rattle.state.specs.Answer.{told, refused}
+use Rattle.state.specs.Answer.{Answer, told, numbers, refused}
 use Rattle.gates.specs.Gates.{on_gate, check_gate}
 use Rattle.sites.specs.declared.Which.{Which}
 use Rattle.sites.specs.declared.Which.TheVariants.{First, Second}
@@ -52,6 +52,10 @@ compared f s area t other room =
     on_gate (check_gate f s area) (refused_file First 0 room)
     (on_gate (check_gate f t other) (refused_file Second s.cap room)
     (contrasted f s area t other room))
+
+-- a file that is refused, in numbers, whatever number tells the file and whatever answer the refusal
+abbrev pub refused_numbers : (file : ℕ) → Answer → (read : ℕ) → ComparedNumbers
+refused_numbers file why read = record { numbers = told (numbers why).refusal (numbers why).page 0 read 0; file = file; taken = 0; wanted = 0 }
 
 -- an answer in 01's numbers and 02's, with the file that a refusal is about, the bytes of the list that was
 -- written ("the length is 0" after any refusal), and those that the whole list takes, where it is known

@@ -14,7 +14,7 @@ ghost use Rattle.sites.specs.Steps.Sites.{Walkable, look};
 ghost use Rattle.two_sets.specs.Differences.{differences};
 ghost use Rattle.differences.specs.Steps.Unpacked.{unpacked};
 ghost use Rattle.comparisons.specs.declared.CompareRefusal.TheVariants.{File};
-ghost use Rattle.comparisons.specs.Compare.{contrasted, compared};
+ghost use Rattle.comparisons.specs.Compare.{contrasted, compared, refused_numbers};
 ghost use Rattle.comparisons.specs.Steps.Past.{entries_of_both, Sortable, counts_of};
 
 use differences::unpacking;
@@ -22,7 +22,7 @@ use differences::unpacking::MORE;
 use entries::Disorder;
 use layouts::{InUse, Layout};
 use sites::{Site, Which};
-use state::{Numbers, Refusal, State};
+use state::{Answer, Numbers, Refusal, State};
 
 // A comparison that wrote its list, of so many bytes. `read` counts the pages of both files.
 #[derive(Clone, Copy, Debug, PartialEq, Eq)]
@@ -158,6 +158,25 @@ pub fn compare(first: State, area: &[u8], second: State, other: &[u8], room: &mu
     contrast(first, area, second, other, room)
 }
 
+impl ComparedNumbers {
+    // What is told of a file that is refused, by any number for the file and any answer.
+    pub fn refused(file: u16, why: Answer, read: u32) -> Self
+        ensures { result ≡ refused_numbers file why read }
+    {
+        let own = Numbers::from(why);
+        Self {
+            numbers: Numbers {
+                refusal: own.refusal,
+                page: own.page,
+                read,
+                ..Numbers::default()
+            },
+            file,
+            ..Self::default()
+        }
+    }
+}
+
 impl From<Compared> for ComparedNumbers {
     ghost use Rattle.std.specs.Prelude.{◌≡◌};
     ghost use Rattle.comparisons.specs.Compare.{compared_numbers};
@@ -176,17 +195,7 @@ impl From<Compared> for ComparedNumbers {
                 wanted: length,
             },
             Err(CompareRefusal::File { which, why, read }) => {
-                let own = Numbers::from(why);
-                ComparedNumbers {
-                    numbers: Numbers {
-                        refusal: own.refusal,
-                        page: own.page,
-                        read,
-                        ..Numbers::default()
-                    },
-                    file: u16::from(which),
-                    ..ComparedNumbers::default()
-                }
+                ComparedNumbers::refused(u16::from(which), Err(why), read)
             }
             Err(CompareRefusal::Short { wanted, read }) => ComparedNumbers {
                 numbers: Numbers {

@@ -85,6 +85,10 @@ merged f s area row t other =
     (on_gate (check_gate f t other) (refused_file s area row Second s.cap)
     (settled f s area row t other))
 
+-- a file that is refused, in numbers, whatever number tells the file and whatever answer the refusal
+abbrev pub refused_numbers : (file : ℕ) → answers.Answer → (read : ℕ) → MergedNumbers
+refused_numbers file why read = record { numbers = told (answers.numbers why).refusal (answers.numbers why).page 0 read 0; file = file }
+
 -- an answer in 01's numbers and 02's, with the file that a refusal is about
 abbrev pub merged_numbers : Merged → MergedNumbers
 merged_numbers (Ok j) = record { numbers = told 0 0 0 j.read 0; file = 0 }

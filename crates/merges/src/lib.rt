@@ -13,11 +13,11 @@ ghost use Rattle.gates.specs.Steps.Past.{OpenImage};
 ghost use Rattle.sites.specs.Held.{held_in, same, read_over};
 ghost use Rattle.two_sets.specs.Union.{union, lowest_clash};
 ghost use Rattle.merges.specs.declared.MergeRefusal.TheVariants.{File};
-ghost use Rattle.merges.specs.Merge.{done_of, joined, settled, merged};
+ghost use Rattle.merges.specs.Merge.{done_of, joined, settled, merged, refused_numbers};
 
 use layouts::InUse;
 use sites::Which;
-use state::{Done, Numbers, Refusal, State};
+use state::{Answer, Done, Numbers, Refusal, State};
 use unions::laying;
 
 // An accepted merge. `read` counts the pages of both files.
@@ -177,6 +177,24 @@ pub fn merge(
     done_of(state, try_merge(state, area, second, other, row))
 }
 
+impl MergedNumbers {
+    // What is told of a file that is refused, by any number for the file and any answer.
+    pub fn refused(file: u16, why: Answer, read: u32) -> Self
+        ensures { result ≡ refused_numbers file why read }
+    {
+        let own = Numbers::from(why);
+        Self {
+            numbers: Numbers {
+                refusal: own.refusal,
+                page: own.page,
+                read,
+                ..Numbers::default()
+            },
+            file,
+        }
+    }
+}
+
 impl From<Merged> for MergedNumbers {
     ghost use Rattle.std.specs.Prelude.{◌≡◌};
     ghost use Rattle.merges.specs.Merge.{merged_numbers};
@@ -193,16 +211,7 @@ impl From<Merged> for MergedNumbers {
                 file: 0,
             },
             Err(MergeRefusal::File { which, why, read }) => {
-                let own = Numbers::from(why);
-                MergedNumbers {
-                    numbers: Numbers {
-                        refusal: own.refusal,
-                        page: own.page,
-                        read,
-                        ..Numbers::default()
-                    },
-                    file: u16::from(which),
-                }
+                MergedNumbers::refused(u16::from(which), Err(why), read)
             }
             Err(MergeRefusal::Clash { lowest, read }) => MergedNumbers {
                 numbers: Numbers::from(Refusal::Clash {

@@ -163,13 +163,12 @@ impl ComparedNumbers {
     pub fn refused(file: u16, why: Answer, read: u32) -> Self
         ensures { result ≡ refused_numbers file why read }
     {
-        let own = Numbers::from(why);
         Self {
             numbers: Numbers {
-                refusal: own.refusal,
-                page: own.page,
+                value: 0,
                 read,
-                ..Numbers::default()
+                moved: 0,
+                ..Numbers::from(why)
             },
             file,
             ..Self::default()

@@ -182,13 +182,12 @@ impl MergedNumbers {
     pub fn refused(file: u16, why: Answer, read: u32) -> Self
         ensures { result ≡ refused_numbers file why read }
     {
-        let own = Numbers::from(why);
         Self {
             numbers: Numbers {
-                refusal: own.refusal,
-                page: own.page,
+                value: 0,
                 read,
-                ..Numbers::default()
+                moved: 0,
+                ..Numbers::from(why)
             },
             file,
         }

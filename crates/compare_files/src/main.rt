@@ -4,7 +4,7 @@
 #![tactic(auto)]
 
 ghost use Rattle.std.specs.Io.KnownBytes.{Consumes};
-ghost use Rattle.std.specs.Prelude.{◌≡◌, ◌≤◌, length, take, drop, IfOk, IfSome};
+ghost use Rattle.std.specs.Prelude.{◌≡◌, ◌-◌, ◌≤◌, ◌++◌, length, take, drop, replicate, IfOk, IfSome};
 
 use reefcushion::reefcushion_compare;
 use std::env::FillError;
@@ -84,7 +84,7 @@ fn load<R: Files + Env + Eprint>(rt: &R, argument: usize, buffer: &mut [u8]) -> 
 // The slip of a file, which is its state and zeros where an answer stands, and its pages. A file that
 // is shorter than a state has no pages, and is refused.
 fn split_file(file: &[u8]) -> ([u8; 40], &[u8])
-    ensures slip { 40 ≡ length result.0 }
+    ensures slip { result.0 ≡ take 16 file.now ++ replicate (40 - length (take 16 file.now)) 0 }
     ensures pages { result.1.now ≡ drop 16 file.now }
 {
     let (state, pages) = file.split_at(file.len().min(16));
